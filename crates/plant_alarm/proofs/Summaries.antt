@@ -43,7 +43,8 @@ suppressed-push : (es : List Event) (e : Event) → is_suppressed (es ++ e ∷ [
 suppressed-push es e = grind (arith, last_that-push (λ x. is_sup x || is_unsup x) es e)
 
 -- since the last ACT, with an event that is none
-since-no : (p : Event → Bool) (es : List Event) (e : Event) → is_act e ≡ false → list_any p (since_act (es ++ e ∷ [])) ≡ (list_any p (since_act es) || p e)
+since-no : (p : Event → Bool) (es : List Event) (e : Event) → is_act e ≡ false
+    → list_any p (since_act (es ++ e ∷ [])) ≡ (list_any p (since_act es) || p e)
 since-no p es e n = ap (list_any p) (after_last-no is_act es e n) ∙ list_any-push p (since_act es) e
 
 since-yes : (p : Event → Bool) (es : List Event) (e : Event) → is_act e ≡ true → list_any p (since_act (es ++ e ∷ [])) ≡ false
@@ -52,7 +53,8 @@ since-yes p es e y = ap (list_any p) (after_last-yes is_act es e y)
 reset-yes : (es : List Event) (e : Event) → is_act e ≡ true → had_reset (es ++ e ∷ []) ≡ false
 reset-yes es e y = ap (λ l. list_any is_reset (after_first is_rtn l)) (after_last-yes is_act es e y)
 
-reset_by : (xs : List Event) (e : Event) (b : Bool) → list_any is_rtn xs ≡ b → list_any is_reset (after_first is_rtn (xs ++ e ∷ [])) ≡ cond b (list_any is_reset (after_first is_rtn xs) || is_reset e) false
+reset_by : (xs : List Event) (e : Event) (b : Bool) → list_any is_rtn xs ≡ b
+    → list_any is_reset (after_first is_rtn (xs ++ e ∷ [])) ≡ cond b (list_any is_reset (after_first is_rtn xs) || is_reset e) false
 reset_by xs e b is = grind (arith, after_first-some is_rtn xs e, after_first-none is_rtn xs e, list_any-push is_reset (after_first is_rtn xs) e)
 
 reset-no : (es : List Event) (e : Event) → is_act e ≡ false → had_reset (es ++ e ∷ []) ≡ cond (had_rtn es) (had_reset es || is_reset e) false
@@ -106,13 +108,19 @@ abbrev ev : ℕ → ℕ → List ℕ → EventKind → Event
 ev n t tag kind = record { seq = n; moment = t; tag = tag; kind = kind }
 
 fits_more : (n t : ℕ) (tag : List ℕ) (kind : EventKind) (es : List Event) → Fits es → Fits (es ++ ev n t tag kind ∷ [])
-fits_more n t tag Act es f = let e = ev n t tag Act in fit_along (active-push es e) (list_any-push is_act es e) (since-yes is_rtn es e refl) (reset-yes es e refl) (fit_act (had_act es))
-fits_more n t tag Rtn es f = let e = ev n t tag Rtn in fit_along (active-push es e) (list_any-push is_act es e) (since-no is_rtn es e refl) (reset-no es e refl) (fit_rtn (had_act es) (had_rtn es) _)
-fits_more n t tag Reset es f = let e = ev n t tag Reset in fit_along (active-push es e) (list_any-push is_act es e) (since-no is_rtn es e refl) (reset-no es e refl) (fit_other true _ _ _ _ f)
-fits_more n t tag kind es f = let e = ev n t tag kind in fit_along (active-push es e) (list_any-push is_act es e) (since-no is_rtn es e refl) (reset-no es e refl) (fit_other false _ _ _ _ f)
+fits_more n t tag Act es f = let e = ev n t tag Act in
+    fit_along (active-push es e) (list_any-push is_act es e) (since-yes is_rtn es e refl) (reset-yes es e refl) (fit_act (had_act es))
+fits_more n t tag Rtn es f = let e = ev n t tag Rtn in
+    fit_along (active-push es e) (list_any-push is_act es e) (since-no is_rtn es e refl) (reset-no es e refl) (fit_rtn (had_act es) (had_rtn es) _)
+fits_more n t tag Reset es f = let e = ev n t tag Reset in
+    fit_along (active-push es e) (list_any-push is_act es e) (since-no is_rtn es e refl) (reset-no es e refl) (fit_other true _ _ _ _ f)
+fits_more n t tag kind es f = let e = ev n t tag kind in
+    fit_along (active-push es e) (list_any-push is_act es e) (since-no is_rtn es e refl) (reset-no es e refl) (fit_other false _ _ _ _ f)
 
 all_fit : (es : List Event) → Fits es
-all_fit es = by_last Fits (record { had = λ y. y; returned = λ y. absurd (false≢true y); first = λ _. refl }) (λ es e f. fits_more e.seq e.moment e.tag e.kind es f) es
+all_fit es =
+    by_last Fits (record { had = λ y. y; returned = λ y. absurd (false≢true y); first = λ _. refl })
+    (λ es e f. fits_more e.seq e.moment e.tag e.kind es f) es
 
 -- the moments
 active_state : (a l u : Bool) → is_active_state (state_named a l u) ≡ a
@@ -129,43 +137,56 @@ same_last_return : (es : List Event) (e : Event) → is_rtn e ≡ false → last
 same_last_return es e m = grind (arith, passing-push is_return [] es e, append-nil (returns es))
 
 -- the state with one more event
-state-push : (l : Bool) (es : List Event) (e : Event) {a h k s : Bool} → is_active (es ++ e ∷ []) ≡ a → had_act (es ++ e ∷ []) ≡ h → had_ack (es ++ e ∷ []) ≡ k → had_reset (es ++ e ∷ []) ≡ s → state_of l (es ++ e ∷ []) ≡ state_by l a h k s
+state-push : (l : Bool) (es : List Event) (e : Event) {a h k s : Bool} → is_active (es ++ e ∷ []) ≡ a → had_act (es ++ e ∷ []) ≡ h
+    → had_ack (es ++ e ∷ []) ≡ k → had_reset (es ++ e ∷ []) ≡ s → state_of l (es ++ e ∷ []) ≡ state_by l a h k s
 state-push l es e p q r t = rw (p, q, r, t) refl
 
 -- while active, since the last activation
-act_since : (l : Bool) (es : List Event) (e : Event) → is_act e ≡ true → active_since (es ++ e ∷ []) ≡ cond (is_active_state (state_of l es)) (active_since es) (Some e.moment)
+act_since : (l : Bool) (es : List Event) (e : Event) → is_act e ≡ true
+    → active_since (es ++ e ∷ []) ≡ cond (is_active_state (state_of l es)) (active_since es) (Some e.moment)
 act_since l es e y =
-    grind (arith, active-push es e, passing-push is_activation [] es e, append-nil (activations es), last_moment-push (activations es) e, active_state (is_active es) (is_latched l es) (is_unacknowledged es))
+    grind (arith, active-push es e, passing-push is_activation [] es e, append-nil (activations es), last_moment-push (activations es) e, active_state
+        (is_active es) (is_latched l es) (is_unacknowledged es))
 
-rtn_return : (l : Bool) (es : List Event) (e : Event) → is_rtn e ≡ true → last_return (es ++ e ∷ []) ≡ cond (is_active_state (state_of l es)) (Some e.moment) (last_return es)
+rtn_return : (l : Bool) (es : List Event) (e : Event) → is_rtn e ≡ true
+    → last_return (es ++ e ∷ []) ≡ cond (is_active_state (state_of l es)) (Some e.moment) (last_return es)
 rtn_return l es e y =
-    grind (arith, passing-push is_return [] es e, append-nil (returns es), last_moment-push (returns es) e, active_state (is_active es) (is_latched l es) (is_unacknowledged es))
+    grind (arith, passing-push is_return [] es e, append-nil (returns es), last_moment-push (returns es) e, active_state (is_active es)
+        (is_latched l es) (is_unacknowledged es))
 
 -- an event that is neither: the moments stay
-quiet : (l : Bool) (es : List Event) (e : Event) (state : AlarmState) (suppressed : Bool) → (is_act e || is_rtn e) ≡ false → is_act e ≡ false → is_rtn e ≡ false → state_of l (es ++ e ∷ []) ≡ state → is_suppressed (es ++ e ∷ []) ≡ suppressed
+quiet : (l : Bool) (es : List Event) (e : Event) (state : AlarmState) (suppressed : Bool) → (is_act e || is_rtn e) ≡ false → is_act e ≡ false
+    → is_rtn e ≡ false → state_of l (es ++ e ∷ []) ≡ state → is_suppressed (es ++ e ∷ []) ≡ suppressed
     → summary l (es ++ e ∷ []) ≡ the_summary state suppressed (active_since es) (last_return es)
 unfolding summary
 quiet l es e state suppressed neither act rtn s p = λ i. the_summary (s i) (p i) (same_active_since es e neither act i) (same_last_return es e rtn i)
 
-the_next : (l : Bool) (n t : ℕ) (tag : List ℕ) (kind : EventKind) (es : List Event) → summary l (es ++ ev n t tag kind ∷ []) ≡ next_at kind l t (summary l es)
+the_next : (l : Bool) (n t : ℕ) (tag : List ℕ) (kind : EventKind) (es : List Event)
+    → summary l (es ++ ev n t tag kind ∷ []) ≡ next_at kind l t (summary l es)
 unfolding summary
 the_next l n t tag Act es =
     let e = ev n t tag Act in
-    let state = state-push l es e (active-push es e) (list_any-push is_act es e) (since-yes is_ack es e refl) (reset-yes es e refl) ∙ acts l (had_act es) in
+    let state = state-push l es e (active-push es e) (list_any-push is_act es e) (since-yes is_ack es e refl) (reset-yes es e refl)
+        ∙ acts l (had_act es) in
     λ i. the_summary (state i) (suppressed-push es e i) (act_since l es e refl i) (same_last_return es e refl i)
 the_next l n t tag Rtn es =
     let e = ev n t tag Rtn in
-    let state = state-push l es e (active-push es e) (list_any-push is_act es e) (since-no is_ack es e refl) (reset-no es e refl) ∙ returns_state l _ _ _ _ _ (all_fit es) in
-    λ i. the_summary (state i) (suppressed-push es e i) (cond (active-push es e i) (last_moment (activations (es ++ e ∷ []))) None) (rtn_return l es e refl i)
+    let state = state-push l es e (active-push es e) (list_any-push is_act es e) (since-no is_ack es e refl) (reset-no es e refl)
+        ∙ returns_state l _ _ _ _ _ (all_fit es) in
+    λ i. the_summary (state i) (suppressed-push es e i) (cond (active-push es e i) (last_moment (activations (es ++ e ∷ []))) None)
+        (rtn_return l es e refl i)
 the_next l n t tag Ack es =
     let e = ev n t tag Ack in
-    quiet l es e _ _ refl refl refl (state-push l es e (active-push es e) (list_any-push is_act es e) (since-no is_ack es e refl) (reset-no es e refl) ∙ acknowledges_state l _ _ _ _ _ (all_fit es)) (suppressed-push es e)
+    quiet l es e _ _ refl refl refl (state-push l es e (active-push es e) (list_any-push is_act es e) (since-no is_ack es e refl) (reset-no es e refl)
+        ∙ acknowledges_state l _ _ _ _ _ (all_fit es)) (suppressed-push es e)
 the_next l n t tag Reset es =
     let e = ev n t tag Reset in
-    quiet l es e _ _ refl refl refl (state-push l es e (active-push es e) (list_any-push is_act es e) (since-no is_ack es e refl) (reset-no es e refl) ∙ resets_state l _ _ _ _ _ (all_fit es)) (suppressed-push es e)
+    quiet l es e _ _ refl refl refl (state-push l es e (active-push es e) (list_any-push is_act es e) (since-no is_ack es e refl) (reset-no es e refl)
+        ∙ resets_state l _ _ _ _ _ (all_fit es)) (suppressed-push es e)
 the_next l n t tag kind es =
     let e = ev n t tag kind in
-    quiet l es e _ _ refl refl refl (state-push l es e (active-push es e) (list_any-push is_act es e) (since-no is_ack es e refl) (reset-no es e refl) ∙ keeps_state l _ _ _ _ _ (all_fit es)) (suppressed-push es e)
+    quiet l es e _ _ refl refl refl (state-push l es e (active-push es e) (list_any-push is_act es e) (since-no is_ack es e refl) (reset-no es e refl)
+        ∙ keeps_state l _ _ _ _ _ (all_fit es)) (suppressed-push es e)
 
 pub summary-push : (l : Bool) (es : List Event) (e : Event) → summary l (es ++ e ∷ []) ≡ next l (summary l es) e
 summary-push l es e = the_next l e.seq e.moment e.tag e.kind es

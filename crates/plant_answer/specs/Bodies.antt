@@ -18,7 +18,8 @@ done_body = codes "{\"done\":true}"
 
 -- how many rows of a file are new, and how many are repeated
 unfoldable pub imported_body : ℕ → ℕ → List ℕ
-imported_body fresh repeated = codes "{\"new\":" ++ decimal fresh ++ codes ",\"repeated\":" ++ decimal repeated ++ codes "}"
+imported_body fresh repeated =
+    codes "{\"new\":" ++ decimal fresh ++ codes ",\"repeated\":" ++ decimal repeated ++ codes "}"
 
 -- the number of the change that was proposed
 unfoldable pub number_body : ℕ → List ℕ
@@ -49,7 +50,8 @@ units_body lines = codes "{\"units\":" ++ listed (map unit_object lines) ++ code
 
 -- a file's first fault
 abbrev pub bad_file_object : BadFile → List ℕ
-bad_file_object fault = codes "{\"cause\":" ++ quoted (file_cause_name fault.cause) ++ codes ",\"line\":" ++ decimal fault.line ++ codes "}"
+bad_file_object fault =
+    codes "{\"cause\":" ++ quoted (file_cause_name fault.cause) ++ codes ",\"line\":" ++ decimal fault.line ++ codes "}"
 
 -- the value that shows why a call is refused, where the refusal carries one
 abbrev pub refusal_value : Refused → Option (List ℕ)

@@ -26,7 +26,8 @@ next : {A : Type 0} (reads : Data → Option A) (items : List Value) (i : ℕ) (
     → all_of reads (items_view (drop i items)) ≡ before (reads (view (get_or items i d))) (all_of reads (items_view (drop (i + 1) items)))
 next reads items i d lt = rw (drop-cons items i d, add-one) refl
 
-pub read_one : {A : Type 0} (reads : Data → Option A) (items : List Value) (i : ℕ) (d : Value) (out out' : List A) (x : A) → IsReadTo reads items i out
+pub read_one : {A : Type 0} (reads : Data → Option A) (items : List Value) (i : ℕ) (d : Value) (out out' : List A) (x : A)
+    → IsReadTo reads items i out
     → i < length items → reads (view (get_or items i d)) ≡ Some x → out' ≡ out ++ x ∷ [] → IsReadTo reads items (i + 1) out'
 read_one reads items i d out out' x so_far lt e grown =
     record { is = so_far.is ∙ rw (next reads items i d lt, e, grown) (one_more out x (all_of reads (items_view (drop (i + 1) items)))) }
@@ -49,7 +50,8 @@ told_none None u e = (refl, cc)
 told_none (Some y) u e = cc
 
 -- an item that can't be read is not a list either
-pub fails_with : {A : Type 0} (reads : Data → Option A) (items : List Value) (i : ℕ) (d : Value) (out : List A) (e : BodyError) → IsReadTo reads items i out
+pub fails_with : {A : Type 0} (reads : Data → Option A) (items : List Value) (i : ℕ) (d : Value) (out : List A) (e : BodyError)
+    → IsReadTo reads items i out
     → i < length items → Fails e (or_body (reads (view (get_or items i d)))) → Fails e (or_body (all_of reads (items_view items)))
 fails_with reads items i d out Memory so_far lt h = tt
 fails_with reads items i d out (Because u) so_far lt h =

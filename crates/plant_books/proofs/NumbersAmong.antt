@@ -43,7 +43,8 @@ any_passing p q (x ∷ xs) = elim (p x) as (λ b. list_any q (cond b (x ∷ filt
 ]
 
 -- those of the records that it takes in, or none
-pub taken : (rows : UnitRows) (records : List RecordEntry) (tags looked : Name → Bool) (numbers : BTreeSet ℕ) (b : Bool) (n : ℕ) → filter (λ r. looked r.tag) rows.records ≡ filter (λ r. looked r.tag) records → AreSources numbers tags records → tags ≡ looked → b ≡ true
+pub taken : (rows : UnitRows) (records : List RecordEntry) (tags looked : Name → Bool) (numbers : BTreeSet ℕ) (b : Bool) (n : ℕ)
+    → filter (λ r. looked r.tag) rows.records ≡ filter (λ r. looked r.tag) records → AreSources numbers tags records → tags ≡ looked → b ≡ true
     → contains nat_cmp numbers n ≡ (b && is_source rows looked n)
 taken rows records tags looked numbers b n same are is wants =
     are n ∙ (λ i. list_any (λ r. is i r.tag && same_number n r.change_no) records)
@@ -52,7 +53,8 @@ taken rows records tags looked numbers b n same are is wants =
     ∙ any_passing (λ r. looked r.tag) (λ r. same_number n r.change_no) rows.records
     ∙ ap (λ c. c && is_source rows looked n) (sym wants)
 
-pub left_out : (rows : UnitRows) (looked : Name → Bool) (numbers : BTreeSet ℕ) (b : Bool) (n : ℕ) → numbers.keys ≡ [] → b ≡ false → contains nat_cmp numbers n ≡ (b && is_source rows looked n)
+pub left_out : (rows : UnitRows) (looked : Name → Bool) (numbers : BTreeSet ℕ) (b : Bool) (n : ℕ) → numbers.keys ≡ [] → b ≡ false
+    → contains nat_cmp numbers n ≡ (b && is_source rows looked n)
 left_out rows looked numbers b n none leaves = ap (list_any (λ k. same_number n k)) none ∙ ap (λ c. c && is_source rows looked n) (sym leaves)
 
 or_swap : (a b : Bool) → cond a true b ≡ (b || a)
@@ -60,17 +62,21 @@ or_swap true b = sym (or_right b true refl)
 or_swap false b = sym (or_none b)
 
 -- the first of a set, or none
-pub with_first : (old new : BTreeSet ℕ) (m n : ℕ) (b one : Bool) → UpdatesBy nat_cmp (nat_cmp m) old new true → old.keys ≡ [] → same_number m n ≡ one → b ≡ true → contains nat_cmp new n ≡ (b && one)
+pub with_first : (old new : BTreeSet ℕ) (m n : ℕ) (b one : Bool) → UpdatesBy nat_cmp (nat_cmp m) old new true → old.keys ≡ [] → same_number m n ≡ one
+    → b ≡ true → contains nat_cmp new n ≡ (b && one)
 with_first old new m n b one put none is wants =
-    put.0 n ∙ ap (λ ks. cond (same_number m n) true (list_any (λ k. same_number n k) ks)) none ∙ or_swap (same_number m n) false ∙ is ∙ ap (λ c. c && one) (sym wants)
+    put.0 n ∙ ap (λ ks. cond (same_number m n) true (list_any (λ k. same_number n k) ks)) none ∙ or_swap (same_number m n) false ∙ is
+        ∙ ap (λ c. c && one) (sym wants)
 
 pub without_first : (old : BTreeSet ℕ) (n : ℕ) (b one : Bool) → old.keys ≡ [] → b ≡ false → contains nat_cmp old n ≡ (b && one)
 without_first old n b one none leaves = ap (list_any (λ k. same_number n k)) none ∙ ap (λ c. c && one) (sym leaves)
 
 -- and the one that it names, if any
-pub with_named : (old new : BTreeSet ℕ) (m n : ℕ) (b : Bool) (named : Option ℕ) → UpdatesBy nat_cmp (nat_cmp m) old new true → named ≡ Some m → contains nat_cmp old n ≡ b → contains nat_cmp new n ≡ (b || is_number named n)
+pub with_named : (old new : BTreeSet ℕ) (m n : ℕ) (b : Bool) (named : Option ℕ) → UpdatesBy nat_cmp (nat_cmp m) old new true → named ≡ Some m
+    → contains nat_cmp old n ≡ b → contains nat_cmp new n ≡ (b || is_number named n)
 with_named old new m n b named put is was =
     put.0 n ∙ ap (cond (same_number m n) true) was ∙ or_swap (same_number m n) b ∙ ap (λ o. b || is_number o n) (sym is)
 
-pub without_named : (old : BTreeSet ℕ) (n : ℕ) (b : Bool) (named : Option ℕ) → named ≡ None → contains nat_cmp old n ≡ b → contains nat_cmp old n ≡ (b || is_number named n)
+pub without_named : (old : BTreeSet ℕ) (n : ℕ) (b : Bool) (named : Option ℕ) → named ≡ None → contains nat_cmp old n ≡ b
+    → contains nat_cmp old n ≡ (b || is_number named n)
 without_named old n b named is was = was ∙ sym (or_none b) ∙ ap (λ o. b || is_number o n) (sym is)

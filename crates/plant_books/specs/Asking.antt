@@ -28,7 +28,8 @@ changes_by rows scope = filter (λ r. (selection_by rows scope).change r.number)
 
 -- a unit with this row of its own and so many shelves is crowded, or not
 abbrev pub IsCrowdedWith : List UnitRow → ℕ → Bool → Type 0
-IsCrowdedWith units shelves crowded = (rows : UnitRows) → rows.units ≡ units → length rows.shelves ≡ shelves → is_crowded rows ≡ crowded
+IsCrowdedWith units shelves crowded = (rows : UnitRows) → rows.units ≡ units → length rows.shelves ≡ shelves
+    → is_crowded rows ≡ crowded
 
 -- the change that the request approves is this, if it is there
 abbrev pub IsApprovedBy : UnitRows → Request → Option ChangeEntry → Type 0
@@ -67,7 +68,8 @@ is_alarm_wanted shelves Shelved a = has_shelf shelves a
 
 -- the alarms that a scope takes in are those that are wanted
 abbrev pub AreAlarmsWanted : Scope → WantedAlarms → Type 0
-AreAlarmsWanted scope wanted = (rows : UnitRows) (a : Name) → (selection_by rows scope).alarm a ≡ is_alarm_wanted rows.shelves wanted a
+AreAlarmsWanted scope wanted = (rows : UnitRows) (a : Name)
+    → (selection_by rows scope).alarm a ≡ is_alarm_wanted rows.shelves wanted a
 
 -- where shelves decide which alarms are wanted, all shelves are selected too
 abbrev pub HasTheirShelves : Selection → WantedAlarms → Type 0
@@ -86,7 +88,8 @@ events_wanted EveryEvent es = es
 
 -- the events that a scope takes in are those that are wanted
 abbrev pub AreEventsWanted : Scope → WantedEvents → Type 0
-AreEventsWanted scope wanted = (rows : UnitRows) (es : List Event) → (selection_by rows scope).events es ≡ events_wanted wanted es
+AreEventsWanted scope wanted = (rows : UnitRows) (es : List Event)
+    → (selection_by rows scope).events es ≡ events_wanted wanted es
 
 -- the number is the one, if there is one
 abbrev pub is_number : Option ℕ → ℕ → Bool
@@ -95,19 +98,24 @@ is_number (Some m) n = same_number m n
 
 -- a scope takes in the matrix of its number, and if asked the one in force
 abbrev pub TakesMatrix : Scope → Bool → Type 0
-TakesMatrix scope asked = (rows : UnitRows) (n : ℕ) → (selection_by rows scope).matrix n ≡ ((asked && is_in_force rows n) || is_number (number_named scope) n)
+TakesMatrix scope asked = (rows : UnitRows) (n : ℕ)
+    → (selection_by rows scope).matrix n ≡ ((asked && is_in_force rows n) || is_number (number_named scope) n)
 
 -- of the rows of any unit these are the changes that the records came from, or none if not asked
 abbrev pub TakesSources : (UnitRows → Selection) → Bool → Type 0
-TakesSources these asked = (rows : UnitRows) (n : ℕ) → (these rows).change n ≡ (asked && is_source rows (these rows).rationale n)
+TakesSources these asked = (rows : UnitRows) (n : ℕ)
+    → (these rows).change n ≡ (asked && is_source rows (these rows).rationale n)
 
 -- a scope takes in the change of its number, and if asked those that its records came from
 abbrev pub TakesChanges : Scope → Bool → Type 0
-TakesChanges scope asked = (rows : UnitRows) (n : ℕ) → (selection_by rows scope).change n ≡ ((asked && is_source rows (selection_by rows scope).rationale n) || is_number (number_named scope) n)
+TakesChanges scope asked = (rows : UnitRows) (n : ℕ)
+    → (selection_by rows scope).change n
+    ≡ ((asked && is_source rows (selection_by rows scope).rationale n) || is_number (number_named scope) n)
 
 -- the set has the numbers of the changes that records of these tags came from
 abbrev pub AreSources : BTreeSet ℕ → (Name → Bool) → List RecordEntry → Type 0
-AreSources numbers tags records = (n : ℕ) → contains nat_cmp numbers n ≡ list_any (λ r. tags r.tag && same_number n r.change_no) records
+AreSources numbers tags records = (n : ℕ)
+    → contains nat_cmp numbers n ≡ list_any (λ r. tags r.tag && same_number n r.change_no) records
 
 -- the set has the numbers that pass, and no others
 abbrev pub HasNumbers : BTreeSet ℕ → (ℕ → Bool) → Type 0
@@ -119,7 +127,8 @@ records_by rows scope records = filter (λ r. (selection_by rows scope).rational
 
 -- the numbers of the matrices that a scope takes in of a unit with this row of its own
 abbrev pub GivesMatrices : {E : Type 0} → Scope → List UnitRow → Result (BTreeSet ℕ) E → Type 0
-GivesMatrices scope units said = (rows : UnitRows) → rows.units ≡ units → IfOk said (λ numbers. HasNumbers numbers (selection_by rows scope).matrix)
+GivesMatrices scope units said = (rows : UnitRows) → rows.units ≡ units
+    → IfOk said (λ numbers. HasNumbers numbers (selection_by rows scope).matrix)
 
 -- the numbers of the changes that a scope takes in, of any unit of whose records it takes in the same ones as of these
 abbrev pub GivesChanges : {E : Type 0} → Scope → List RecordEntry → Result (BTreeSet ℕ) E → Type 0

@@ -9,12 +9,16 @@ abbrev pub WasHonest : {B : Type 0} → (B → Type 0) → B → B → Type 0
 WasHonest is_honest before after = is_honest after → is_honest before
 
 -- if the call succeeds, and the keeper's premise holds as it ends, it gives this of what the books hold
-abbrev pub Finds : {B A E : Type 0} → (B → Content → Type 0) → (B → Type 0) → B → B → Result A E → (Content → A) → Type 0
-Finds represents is_honest before after said what = (m : Content) → represents before m → is_honest after → IfOk said (λ x. x ≡ what m)
+abbrev pub Finds : {B A E : Type 0} → (B → Content → Type 0) → (B → Type 0) → B → B → Result A E → (Content → A)
+    → Type 0
+Finds represents is_honest before after said what = (m : Content) → represents before m → is_honest after
+    → IfOk said (λ x. x ≡ what m)
 
 -- the same of the part of the rows that a call looks at, if it names a unit
-abbrev pub FindsPart : {B E : Type 0} → (B → Content → Type 0) → (B → Type 0) → B → B → Call → Result (Option UnitPart) E → Type 0
-FindsPart represents is_honest before after c said = (m : Content) → represents before m → is_honest after → (u : Name) → unit_named c.request ≡ Some u → IfOk said (λ part. part ≡ part_in m c u)
+abbrev pub FindsPart : {B E : Type 0} → (B → Content → Type 0) → (B → Type 0) → B → B → Call
+    → Result (Option UnitPart) E → Type 0
+FindsPart represents is_honest before after c said = (m : Content) → represents before m → is_honest after → (u : Name)
+    → unit_named c.request ≡ Some u → IfOk said (λ part. part ≡ part_in m c u)
 
 -- the books hold what they held
 abbrev pub Keeps : {B : Type 0} → (B → Content → Type 0) → B → B → Type 0
@@ -26,7 +30,8 @@ KeepsOnErr represents before after said = (m : Content) → represents before m 
 
 -- if the call succeeds, the books hold what they held with these changes of a unit that they know
 abbrev pub Makes : {B A E : Type 0} → (B → Content → Type 0) → B → B → Name → List RowEdit → Result A E → Type 0
-Makes represents before after u cs said = (m : Content) → represents before m → IsKnownTo m u cs → OnOk said (represents after (after_changes m u cs))
+Makes represents before after u cs said = (m : Content) → represents before m → IsKnownTo m u cs
+    → OnOk said (represents after (after_changes m u cs))
 
 -- the call adds one to the number of answers `Store` if it answers `Store`, else nothing
 abbrev pub CountsBy : {B A : Type 0} → (B → ℕ) → B → B → Result A Fault → Type 0

@@ -9,7 +9,8 @@ pub record Alike (x m : Content) : Type 0 where
   pub admin : x.admin ≡ m.admin
   pub units : (u : Name) → get x.units u ≡ get m.units u
 
-module _ {B : Type 0} (represents : B → Content → Type 0) (is_honest is_clean leaves_books : B → Type 0) (may_leave : B → Content → Type 0) where
+module _ {B : Type 0} (represents : B → Content → Type 0) (is_honest is_clean leaves_books : B → Type 0)
+    (may_leave : B → Content → Type 0) where
   -- while the store is open a crash leaves books that are alike to what these hold
   pub record IsSettled (books : B) : Type 0 where
     pub sound : is_honest books → (m : Content) → represents books m → leaves_books books
@@ -25,5 +26,7 @@ module _ {B : Type 0} (represents : B → Content → Type 0) (is_honest is_clea
   pub record LosesNoPart (u : Name) (cs : List RowEdit) (before after : B) : Type 0 where
     pub clean : is_clean after → is_clean before
     pub fewer : is_clean after → (x : Content) → may_leave after x
-        → may_leave before x ⊎ (is_honest before × ((m : Content) → represents before m → IsKnownTo m u cs → Alike x (after_changes m u cs)))
-    pub sound : is_clean after → (m : Content) → represents before m → (is_honest before → IsKnownTo m u cs) → leaves_books before → leaves_books after
+        → may_leave before x
+        ⊎ (is_honest before × ((m : Content) → represents before m → IsKnownTo m u cs → Alike x (after_changes m u cs)))
+    pub sound : is_clean after → (m : Content) → represents before m → (is_honest before → IsKnownTo m u cs)
+        → leaves_books before → leaves_books after

@@ -8,7 +8,9 @@ Puts order row before after = after ≡ put_row order (λ r. r) row before
 
 -- the place of the row that has the key of this one, else the place where this one belongs
 abbrev pub IsPlaceFor : {X : Type 0} → (X → X → Ordering) → X → List X → Result ℕ ℕ → Type 0
-IsPlaceFor order row rows found = MatchResult found (λ place. slice_set rows place row ≡ put_row order (λ r. r) row rows) (λ place. insert rows place row ≡ put_row order (λ r. r) row rows)
+IsPlaceFor order row rows found =
+    MatchResult found (λ place. slice_set rows place row ≡ put_row order (λ r. r) row rows)
+    (λ place. insert rows place row ≡ put_row order (λ r. r) row rows)
 
 -- the fact holds if the order is total and the rows rise by it
 abbrev pub IfSorted : {X : Type 0} → (X → X → Ordering) → List X → Type 0 → Type 0

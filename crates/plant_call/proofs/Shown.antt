@@ -28,7 +28,8 @@ pub length_read : (front : List ℕ) (headers : List HeaderSpan) (spans : Reques
     → IsRequestAt front headers spans head → r ≡ body_length_in (map (header_bytes front) (take spans.headers headers)) → body_length head ≡ r
 length_read front headers spans head r at e = ap body_length_in (fields_are front headers spans head at) ∙ sym e
 
-pub item_read : (front : List ℕ) (headers : List HeaderSpan) (spans : RequestSpans) (head : RequestHead) (m t body : List ℕ) (r : Result model.Call Cause)
+pub item_read : (front : List ℕ) (headers : List HeaderSpan) (spans : RequestSpans) (head : RequestHead) (m t body : List ℕ)
+    (r : Result model.Call Cause)
     → IsRequestAt front headers spans head → m ≡ span_bytes front spans.method → t ≡ span_bytes front spans.path
     → call_in m t (map (header_bytes front) (take spans.headers headers)) body ≡ r → item_of head body ≡ item_from r
 item_read front headers spans head m t body r at em et e =
@@ -36,7 +37,8 @@ item_read front headers spans head m t body r at em et e =
     rw (fields_are front headers spans head at, ← at.method, ← at.path, ← em, ← et) e in
     ap item_from parts
 
-pub whole_read : (front : List ℕ) (headers : List HeaderSpan) (spans : RequestSpans) (head : RequestHead) (m t after : List ℕ) (n : ℕ) (r : Result model.Call Cause)
+pub whole_read : (front : List ℕ) (headers : List HeaderSpan) (spans : RequestSpans) (head : RequestHead) (m t after : List ℕ) (n : ℕ)
+    (r : Result model.Call Cause)
     → IsRequestAt front headers spans head → m ≡ span_bytes front spans.method → t ≡ span_bytes front spans.path
     → Ok n ≡ body_length_in (map (header_bytes front) (take spans.headers headers)) → n ≤ length after
     → call_in m t (map (header_bytes front) (take spans.headers headers)) (take n after) ≡ r

@@ -25,4 +25,5 @@ unless_chunked (coding ∷ codings) n = Err Chunked
 
 abbrev pub body_length_in : List NameValue → Result ℕ Cause
 body_length_in fields =
-    length_said (values_named (codes "content-length") fields) >>= unless_chunked (values_named (codes "transfer-encoding") fields)
+    length_said (values_named (codes "content-length") fields) >>= unless_chunked
+        (values_named (codes "transfer-encoding") fields)

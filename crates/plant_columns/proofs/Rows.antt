@@ -23,7 +23,9 @@ filter_on p q (r ∷ rows) same = ap₂ (λ b l. cond b (r ∷ l) l) (same r (in
 
 filter_both : (p q : Row → Bool) (rows : List Row) → filter (λ r. not (q r)) (filter (λ r. not (p r)) rows) ≡ filter (λ r. not (p r || q r)) rows
 filter_both p q [] = refl
-filter_both p q (r ∷ rows) = elim (p r) as (λ b. filter (λ r. not (q r)) (cond (not b) (r ∷ filter (λ r. not (p r)) rows) (filter (λ r. not (p r)) rows)) ≡ cond (not (b || q r)) (r ∷ filter (λ r. not (p r || q r)) rows) (filter (λ r. not (p r || q r)) rows))
+filter_both p q (r ∷ rows) =
+    elim (p r) as (λ b. filter (λ r. not (q r)) (cond (not b) (r ∷ filter (λ r. not (p r)) rows) (filter (λ r. not (p r)) rows))
+    ≡ cond (not (b || q r)) (r ∷ filter (λ r. not (p r || q r)) rows) (filter (λ r. not (p r || q r)) rows))
     [ true ↦ filter_both p q rows | false ↦ ap (λ l. cond (not (q r)) (r ∷ l) l) (filter_both p q rows) ]
 
 has_any : List ℤ → Row → Bool
@@ -35,9 +37,11 @@ without_all_is [] rows = sym (filter-true rows)
 without_all_is (id ∷ ids) rows = without_all_is ids (without_rowid id rows) ∙ filter_both (has_rowid id) (has_any ids) rows
 
 -- taking out the rowids that were found leaves the rows that do not pass
-pub without_found : (p : Row → Bool) (rows found : List Row) → AreRows rows → AreFound p rows found → without_all rows (ids_of found) ≡ filter (λ r. not (p r)) rows
+pub without_found : (p : Row → Bool) (rows found : List Row) → AreRows rows → AreFound p rows found
+    → without_all rows (ids_of found) ≡ filter (λ r. not (p r)) rows
 unfolding has_any
-without_found p rows found are it = without_all_is (ids_of found) rows ∙ filter_on (λ r. not (has_any (ids_of found) r)) (λ r. not (p r)) rows (λ r h. ap not (same r h))
+without_found p rows found are it = without_all_is (ids_of found) rows
+    ∙ filter_on (λ r. not (has_any (ids_of found) r)) (λ r. not (p r)) rows (λ r h. ap not (same r h))
   where
     int_at : (r : Row) → Has rows r → rowid r ≡ Int (id_in (rowid r))
     int_at r h = int_is (rowid r) (all_has _ rows r are.ints h)
@@ -52,7 +56,8 @@ without_found p rows found are it = without_all_is (ids_of found) rows ∙ filte
         let from = has_mapped (λ r. id_in (rowid r)) found one.0 one.1 in
         let other = it.sound from.0 from.1 in
         let id : one.0 ≡ id_in (rowid other.0) = from.2 ∙ ap (λ x. id_in (rowid x)) other.3 in
-        let tie : value_cmp (rowid r) (rowid other.0) ≡ Equal = tied _ _ (subst (λ v. is_eq (value_cmp (rowid r) v) ≡ true) (ap Int id ∙ sym (int_at other.0 other.1)) one.2) refl in
+        let tie : value_cmp (rowid r) (rowid other.0) ≡ Equal =
+            tied _ _ (subst (λ v. is_eq (value_cmp (rowid r) v) ≡ true) (ap Int id ∙ sym (int_at other.0 other.1)) one.2) refl in
         ap p (tied_same rows r other.0 are.rise h other.1 tie) ∙ other.2
 
     same : (r : Row) → Has rows r → has_any (ids_of found) r ≡ p r
@@ -68,7 +73,9 @@ keyed_from : (rows : List Row) → AreRows rows → IsKeyedBy (λ r. id_in (rowi
 keyed_from [] are = tt
 keyed_from (r ∷ rows) are = (
   all_from _ rows (λ s h.
-      let less : value_cmp (Int (id_in (rowid r))) (Int (id_in (rowid s))) ≡ Less = ap₂ value_cmp (sym (int_is (rowid r) are.ints.0)) (sym (int_is (rowid s) (all_has _ rows s are.ints.1 h))) ∙ all_has _ rows s are.rise.0 h in
+      let less : value_cmp (Int (id_in (rowid r))) (Int (id_in (rowid s))) ≡ Less =
+          ap₂ value_cmp (sym (int_is (rowid r) are.ints.0)) (sym (int_is (rowid s) (all_has _ rows s are.ints.1 h)))
+          ∙ all_has _ rows s are.rise.0 h in
       lt_from_Less _ _ (sym (value_cmp-Int _ _) ∙ less)),
   keyed_from rows (record { rise = are.rise.1; ints = are.ints.1 }),
 )

@@ -10,4 +10,5 @@ IsNoMemory e = e ≢ SqliteFailure OutOfMemory
 
 -- memory runs out only for a text of the column's set
 abbrev pub MemoryIsOfText : (ℕ → Bool) → ℕ → Value → Error → Type 0
-MemoryIsOfText admits longest v e = e ≡ SqliteFailure OutOfMemory → (t : List ℕ) × (v ≡ Text t) × IsTrue (is_text admits longest t)
+MemoryIsOfText admits longest v e = e ≡ SqliteFailure OutOfMemory
+    → (t : List ℕ) × (v ≡ Text t) × IsTrue (is_text admits longest t)

@@ -5,11 +5,13 @@ use Rattle.sqlite_value.specs.{Keys.{plain}, declared.value.Value.TheVariants.{N
 use Rattle.sqlite_schema.specs.declared.schema.{Column.{Column}, Index.{Index}}
 
 abbrev pub column_of : List ℕ → Kind → Column
-column_of name kind = record { name = name; kind = kind; is_strict = true; not_null = true; default = Null; collation = Binary }
+column_of name kind =
+    record { name = name; kind = kind; is_strict = true; not_null = true; default = Null; collation = Binary }
 
 -- a column that may hold NULL
 abbrev pub open_column : List ℕ → Kind → Column
-open_column name kind = record { name = name; kind = kind; is_strict = true; not_null = false; default = Null; collation = Binary }
+open_column name kind =
+    record { name = name; kind = kind; is_strict = true; not_null = false; default = Null; collation = Binary }
 
 -- a strict table with this key, in this tree
 abbrev pub table_of : List ℕ → ℕ → List Column → List ℕ → Table
@@ -29,4 +31,5 @@ table_of name tree columns key = record {
 }
 
 abbrev pub index_of : List ℕ → ℕ → ℕ → List ℕ → Bool → Index
-index_of name tree table columns is_unique = record { name = name; tree = tree; table = table; columns = columns; order = plain; is_unique = is_unique }
+index_of name tree table columns is_unique =
+    record { name = name; tree = tree; table = table; columns = columns; order = plain; is_unique = is_unique }

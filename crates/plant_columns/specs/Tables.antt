@@ -57,12 +57,15 @@ unit_shape = record {
   name = codes "units";
   place = 1;
   tree = 1;
-  columns = text_column (codes "unit") ∷ number_column (codes "last_s") ∷ number_column (codes "matrix_no") ∷ number_column (codes "matrix_rev") ∷ number_column (codes "quota") ∷ [];
+  columns =
+      text_column (codes "unit") ∷ number_column (codes "last_s") ∷ number_column (codes "matrix_no")
+      ∷ number_column (codes "matrix_rev") ∷ number_column (codes "quota") ∷ [];
   keys = [];
   order = nat_cmp;
   key = own_key;
   cells = λ r. number r.last_s ∷ number r.matrix_no ∷ number r.matrix_rev ∷ number r.quota ∷ [];
-  read = λ r. record { last_s = number_in (column r 2); matrix_no = number_in (column r 3); matrix_rev = number_in (column r 4); quota = number_in (column r 5) };
+  read = λ r. record { last_s = number_in (column r 2); matrix_no = number_in (column r 3);
+      matrix_rev = number_in (column r 4); quota = number_in (column r 5) };
 }
 
 abbrev pub grant_shape : Shape GrantRow Pair
@@ -70,12 +73,15 @@ grant_shape = record {
   name = codes "grants";
   place = 2;
   tree = 3;
-  columns = text_column (codes "unit") ∷ text_column (codes "person") ∷ number_column (codes "role_no") ∷ open_number_column (codes "end_s") ∷ [];
+  columns =
+      text_column (codes "unit") ∷ text_column (codes "person") ∷ number_column (codes "role_no")
+      ∷ open_number_column (codes "end_s") ∷ [];
   keys = 2 ∷ 3 ∷ [];
   order = pair_cmp;
   key = pair_of;
   cells = λ r. Text r.person ∷ role r.role_no ∷ open_number r.end_s ∷ [];
-  read = λ r. record { person = bytes (column r 2); role_no = role_in (column r 3); end_s = open_number_in (column r 4) };
+  read = λ r. record { person = bytes (column r 2); role_no = role_in (column r 3);
+      end_s = open_number_in (column r 4) };
 }
 
 abbrev pub alarm_shape : Shape AlarmRow Name
@@ -83,12 +89,19 @@ alarm_shape = record {
   name = codes "alarms";
   place = 3;
   tree = 5;
-  columns = text_column (codes "unit") ∷ text_column (codes "tag") ∷ number_column (codes "latching") ∷ number_column (codes "max_s") ∷ number_column (codes "max_rev") ∷ number_column (codes "state_no") ∷ number_column (codes "suppressed")
-      ∷ open_number_column (codes "active_s") ∷ open_number_column (codes "return_s") ∷ open_number_column (codes "out_s") ∷ open_text_column (codes "out_by") ∷ open_text_column (codes "out_words") ∷ [];
+  columns =
+      text_column (codes "unit") ∷ text_column (codes "tag") ∷ number_column (codes "latching")
+      ∷ number_column (codes "max_s") ∷ number_column (codes "max_rev") ∷ number_column (codes "state_no")
+      ∷ number_column (codes "suppressed")
+      ∷ open_number_column (codes "active_s") ∷ open_number_column (codes "return_s")
+      ∷ open_number_column (codes "out_s") ∷ open_text_column (codes "out_by") ∷ open_text_column (codes "out_words")
+      ∷ [];
   keys = 2 ∷ [];
   order = name_cmp;
   key = alarm_tag;
-  cells = λ r. Text r.tag ∷ flag r.latching ∷ number r.max_s ∷ number r.max_rev ∷ alarm_state r.state_no ∷ flag r.suppressed ∷ open_number r.active_s ∷ open_number r.return_s ∷ open_number r.out_s ∷ open_text r.out_by ∷ open_text r.out_words ∷ [];
+  cells = λ r. Text r.tag ∷ flag r.latching ∷ number r.max_s ∷ number r.max_rev ∷ alarm_state r.state_no
+      ∷ flag r.suppressed ∷ open_number r.active_s ∷ open_number r.return_s ∷ open_number r.out_s ∷ open_text r.out_by
+      ∷ open_text r.out_words ∷ [];
   read = λ r. record {
     tag = bytes (column r 2);
     latching = flag_in (column r 3);
@@ -109,12 +122,16 @@ shelf_shape = record {
   name = codes "shelves";
   place = 4;
   tree = 7;
-  columns = text_column (codes "unit") ∷ text_column (codes "tag") ∷ number_column (codes "one_shot") ∷ number_column (codes "start_s") ∷ number_column (codes "until_s") ∷ text_column (codes "person") ∷ text_column (codes "words") ∷ [];
+  columns =
+      text_column (codes "unit") ∷ text_column (codes "tag") ∷ number_column (codes "one_shot")
+      ∷ number_column (codes "start_s") ∷ number_column (codes "until_s") ∷ text_column (codes "person")
+      ∷ text_column (codes "words") ∷ [];
   keys = 2 ∷ [];
   order = name_cmp;
   key = shelf_tag;
   cells = λ r. Text r.tag ∷ flag r.one_shot ∷ number r.start_s ∷ number r.until_s ∷ Text r.person ∷ Text r.words ∷ [];
-  read = λ r. record { tag = bytes (column r 2); one_shot = flag_in (column r 3); start_s = number_in (column r 4); until_s = number_in (column r 5); person = bytes (column r 6); words = bytes (column r 7) };
+  read = λ r. record { tag = bytes (column r 2); one_shot = flag_in (column r 3); start_s = number_in (column r 4);
+      until_s = number_in (column r 5); person = bytes (column r 6); words = bytes (column r 7) };
 }
 
 abbrev pub band_shape : Shape BandRow BandKey
@@ -122,12 +139,15 @@ band_shape = record {
   name = codes "bands";
   place = 5;
   tree = 9;
-  columns = text_column (codes "unit") ∷ number_column (codes "matrix_no") ∷ number_column (codes "band_no") ∷ number_column (codes "limit_s") ∷ [];
+  columns =
+      text_column (codes "unit") ∷ number_column (codes "matrix_no") ∷ number_column (codes "band_no")
+      ∷ number_column (codes "limit_s") ∷ [];
   keys = 2 ∷ 3 ∷ [];
   order = band_cmp;
   key = band_key;
   cells = λ r. number r.matrix_no ∷ number r.band_no ∷ number r.limit_s ∷ [];
-  read = λ r. record { matrix_no = number_in (column r 2); band_no = number_in (column r 3); limit_s = number_in (column r 4) };
+  read = λ r. record { matrix_no = number_in (column r 2); band_no = number_in (column r 3);
+      limit_s = number_in (column r 4) };
 }
 
 abbrev pub cell_shape : Shape CellRow CellKey
@@ -135,12 +155,15 @@ cell_shape = record {
   name = codes "cells";
   place = 6;
   tree = 11;
-  columns = text_column (codes "unit") ∷ number_column (codes "matrix_no") ∷ number_column (codes "severity") ∷ number_column (codes "band_no") ∷ number_column (codes "cell_no") ∷ [];
+  columns =
+      text_column (codes "unit") ∷ number_column (codes "matrix_no") ∷ number_column (codes "severity")
+      ∷ number_column (codes "band_no") ∷ number_column (codes "cell_no") ∷ [];
   keys = 2 ∷ 3 ∷ 4 ∷ [];
   order = cell_cmp;
   key = cell_key;
   cells = λ r. number r.matrix_no ∷ number r.severity ∷ number r.band_no ∷ cell r.cell_no ∷ [];
-  read = λ r. record { matrix_no = number_in (column r 2); severity = number_in (column r 3); band_no = number_in (column r 4); cell_no = cell_in (column r 5) };
+  read = λ r. record { matrix_no = number_in (column r 2); severity = number_in (column r 3);
+      band_no = number_in (column r 4); cell_no = cell_in (column r 5) };
 }
 
 abbrev pub event_shape : Shape Event ℕ
@@ -148,12 +171,15 @@ event_shape = record {
   name = codes "events";
   place = 7;
   tree = 13;
-  columns = text_column (codes "unit") ∷ number_column (codes "seq") ∷ number_column (codes "moment_s") ∷ text_column (codes "tag") ∷ number_column (codes "kind_no") ∷ [];
+  columns =
+      text_column (codes "unit") ∷ number_column (codes "seq") ∷ number_column (codes "moment_s")
+      ∷ text_column (codes "tag") ∷ number_column (codes "kind_no") ∷ [];
   keys = 2 ∷ [];
   order = nat_cmp;
   key = event_number;
   cells = λ e. number e.seq ∷ number e.moment ∷ Text e.tag ∷ kind e.kind ∷ [];
-  read = λ r. record { seq = number_in (column r 2); moment = number_in (column r 3); tag = bytes (column r 4); kind = kind_in (column r 5) };
+  read = λ r. record { seq = number_in (column r 2); moment = number_in (column r 3); tag = bytes (column r 4);
+      kind = kind_in (column r 5) };
 }
 
 abbrev pub record_shape : Shape RecordEntry Name
@@ -161,12 +187,15 @@ record_shape = record {
   name = codes "records";
   place = 8;
   tree = 15;
-  columns = text_column (codes "unit") ∷ text_column (codes "tag") ∷ number_column (codes "change_no") ∷ number_column (codes "rev") ∷ number_column (codes "cell_no") ∷ [];
+  columns =
+      text_column (codes "unit") ∷ text_column (codes "tag") ∷ number_column (codes "change_no")
+      ∷ number_column (codes "rev") ∷ number_column (codes "cell_no") ∷ [];
   keys = 2 ∷ [];
   order = name_cmp;
   key = record_tag;
   cells = λ r. Text r.tag ∷ number r.change_no ∷ number r.rev ∷ cell r.cell_no ∷ [];
-  read = λ r. record { tag = bytes (column r 2); change_no = number_in (column r 3); rev = number_in (column r 4); cell_no = cell_in (column r 5) };
+  read = λ r. record { tag = bytes (column r 2); change_no = number_in (column r 3); rev = number_in (column r 4);
+      cell_no = cell_in (column r 5) };
 }
 
 abbrev pub change_shape : Shape ChangeEntry ℕ
@@ -174,13 +203,22 @@ change_shape = record {
   name = codes "changes";
   place = 9;
   tree = 17;
-  columns = text_column (codes "unit") ∷ number_column (codes "number") ∷ text_column (codes "proposer") ∷ number_column (codes "proposed_s") ∷ number_column (codes "kind_no") ∷ open_text_column (codes "tag") ∷ number_column (codes "base")
-      ∷ open_text_column (codes "cause") ∷ open_text_column (codes "consequence") ∷ open_text_column (codes "remedy") ∷ open_number_column (codes "severity") ∷ open_number_column (codes "response_s") ∷ open_number_column (codes "max_s")
-      ∷ number_column (codes "state_no") ∷ open_text_column (codes "decider") ∷ open_number_column (codes "decided_s") ∷ [];
+  columns =
+      text_column (codes "unit") ∷ number_column (codes "number") ∷ text_column (codes "proposer")
+      ∷ number_column (codes "proposed_s") ∷ number_column (codes "kind_no") ∷ open_text_column (codes "tag")
+      ∷ number_column (codes "base")
+      ∷ open_text_column (codes "cause") ∷ open_text_column (codes "consequence") ∷ open_text_column (codes "remedy")
+      ∷ open_number_column (codes "severity") ∷ open_number_column (codes "response_s")
+      ∷ open_number_column (codes "max_s")
+      ∷ number_column (codes "state_no") ∷ open_text_column (codes "decider") ∷ open_number_column (codes "decided_s")
+      ∷ [];
   keys = 2 ∷ [];
   order = nat_cmp;
   key = change_number;
-  cells = λ c. number c.number ∷ Text c.proposer ∷ number c.proposed_s ∷ topic c.kind_no ∷ open_text c.tag ∷ number c.base ∷ open_text c.cause ∷ open_text c.consequence ∷ open_text c.remedy ∷ open_number c.severity ∷ open_number c.response_s ∷ open_number c.max_s ∷ change_state c.state_no ∷ open_text c.decider ∷ open_number c.decided_s ∷ [];
+  cells = λ c. number c.number ∷ Text c.proposer ∷ number c.proposed_s ∷ topic c.kind_no ∷ open_text c.tag
+      ∷ number c.base ∷ open_text c.cause ∷ open_text c.consequence ∷ open_text c.remedy ∷ open_number c.severity
+      ∷ open_number c.response_s ∷ open_number c.max_s ∷ change_state c.state_no ∷ open_text c.decider
+      ∷ open_number c.decided_s ∷ [];
   read = λ r. record {
     number = number_in (column r 2);
     proposer = bytes (column r 3);
@@ -268,11 +306,14 @@ table_count = length all_tables
 
 -- once the office's table and the first n of these are made
 abbrev pub schema_with : ℕ → Schema
-schema_with n = record { tables = office_table ∷ map (λ i. table_in (shape i)) (take n all_tables); indexes = map (λ i. key_index (shape i)) (take n all_tables); views = [] }
+schema_with n =
+    record { tables = office_table ∷ map (λ i. table_in (shape i)) (take n all_tables);
+    indexes = map (λ i. key_index (shape i)) (take n all_tables); views = [] }
 
 -- once all are made, and the index by person
 abbrev pub books_schema : Schema
-books_schema = record (schema_with table_count) { indexes = map (λ i. key_index (shape i)) all_tables ++ by_person ∷ [] }
+books_schema =
+    record (schema_with table_count) { indexes = map (λ i. key_index (shape i)) all_tables ++ by_person ∷ [] }
 
 -- a database with this schema that only these statements have written
 abbrev pub AreBooks : Database → Type 0

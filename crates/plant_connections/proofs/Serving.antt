@@ -17,24 +17,32 @@ module _ {o o' : Option (List ℕ)} {ran : List Call → List Answer → Type 0}
   broken : {bytes : List ℕ} → (s : ServesBroken bytes o o' ran) → ServesBroken bytes (Some []) (Some (out_of s.marks ++ cause_text s.cause)) ran
   broken s = record { marks = s.marks; rest = s.rest; cause = s.cause; parses = s.parses; front = s.front; writes = refl; served = s.served }
 
-  abbrev partial : {bytes : List ℕ} → (s : ServesPart bytes o o' ran) → ServesPart bytes (Some []) (Some (out_of s.marks ++ take s.part (last_text s.last))) ran
-  partial s = record { marks = s.marks; rest = s.rest; last = s.last; part = s.part; parses = s.parses; stands = s.stands; writes = refl; served = s.served }
+  abbrev partial : {bytes : List ℕ} → (s : ServesPart bytes o o' ran)
+      → ServesPart bytes (Some []) (Some (out_of s.marks ++ take s.part (last_text s.last))) ran
+  partial s =
+      record { marks = s.marks; rest = s.rest; last = s.last; part = s.part; parses = s.parses; stands = s.stands; writes = refl; served = s.served }
 
   cut : {bytes : List ℕ} {r : Option (List ℕ)} {ended : Bool} → (s : IsCutShort bytes r ended o o' ran)
       → IsCutShort bytes None true (Some []) (Some (out_of s.serves.marks)) ran
   cut s = record { seen = refl; nothing_left = tt; rest = s.rest; some = s.some; waiting = s.waiting; serves = whole s.serves }
 
 -- a session is one over a connection
-pub connects : (r r' : Option (List ℕ)) (ended : Bool) (o o' : Option (List ℕ)) (ran : List Call → List Answer → Type 0) (end : End) → IsSession r r' ended o o' ran end → IsConnection ran end
+pub connects : (r r' : Option (List ℕ)) (ended : Bool) (o o' : Option (List ℕ)) (ran : List Call → List Answer → Type 0) (end : End)
+    → IsSession r r' ended o o' ran end → IsConnection ran end
 connects r r' ended o o' ran Closed (bytes, consumes, (seen, left, s)) = record { came = bytes; went = out_of s.marks; ends = (refl, tt, whole s) }
-connects r r' ended o o' ran BrokenInput (bytes, consumes, inl s) = record { came = bytes; went = out_of s.marks ++ cause_text s.cause; ends = inl (broken s) }
+connects r r' ended o o' ran BrokenInput (bytes, consumes, inl s) =
+    record { came = bytes; went = out_of s.marks ++ cause_text s.cause; ends = inl (broken s) }
 connects r r' ended o o' ran BrokenInput (bytes, consumes, inr s) = record { came = bytes; went = out_of s.serves.marks; ends = inr (cut s) }
-connects r r' ended o o' ran ReadFailed (bytes, consumes, (rest, idle, s)) = record { came = bytes; went = out_of s.marks; ends = (rest, idle, whole s) }
-connects r r' ended o o' ran WriteFailed (bytes, consumes, s) = record { came = bytes; went = out_of s.marks ++ take s.part (last_text s.last); ends = partial s }
-connects r r' ended o o' ran Fault (bytes, consumes, (s, why)) = record { came = bytes; went = out_of s.marks ++ take s.part (last_text s.last); ends = (partial s, why) }
+connects r r' ended o o' ran ReadFailed (bytes, consumes, (rest, idle, s)) =
+    record { came = bytes; went = out_of s.marks; ends = (rest, idle, whole s) }
+connects r r' ended o o' ran WriteFailed (bytes, consumes, s) =
+    record { came = bytes; went = out_of s.marks ++ take s.part (last_text s.last); ends = partial s }
+connects r r' ended o o' ran Fault (bytes, consumes, (s, why)) =
+    record { came = bytes; went = out_of s.marks ++ take s.part (last_text s.last); ends = (partial s, why) }
 
 -- the calls that were made over a connection, and their answers
-pub made : {ran : List Call → List Answer → Type 0} (end : End) → IsConnection ran end → (calls : List Call) × (answers : List Answer) × ran calls answers
+pub made : {ran : List Call → List Answer → Type 0} (end : End) → IsConnection ran end
+    → (calls : List Call) × (answers : List Answer) × ran calls answers
 made Closed c = let s = c.ends.2 in (calls_of s.marks, answers_of s.marks, s.served)
 made BrokenInput c = elim c.ends [
   | inl s ↦ (calls_of s.marks, answers_of s.marks, s.served)

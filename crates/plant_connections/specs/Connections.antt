@@ -43,7 +43,8 @@ GoesThrough {B} b before (end ∷ earlier) after = (books : B) × GoesThrough b 
 -- the front
 abbrev pub AreLines : List End → List ℕ → Type 0
 AreLines [] text = text ≡ []
-AreLines (end ∷ earlier) text = (before : List ℕ) × (part : ℕ) × AreLines earlier before × (text ≡ before ++ take part (line_of (length earlier + 1) end))
+AreLines (end ∷ earlier) text = (before : List ℕ) × (part : ℕ) × AreLines earlier before
+    × (text ≡ before ++ take part (line_of (length earlier + 1) end))
 
 abbrev pub Tells : Option (List ℕ) → List End → Option (List ℕ) → Type 0
 Tells written ends written_after = (text : List ℕ) × AreLines ends text × Appends written written_after text

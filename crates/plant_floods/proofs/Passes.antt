@@ -55,12 +55,15 @@ passed_all xs runs current h =
 abbrev the_run : ℕ → ℕ → ℕ → ℕ → Option Run
 the_run first last total peak = Some (record { first = first; last = last; total = total; peak = peak })
 
-run_is : (first : ℕ) {last total peak last' total' peak' : ℕ} → last ≡ last' → total ≡ total' → peak ≡ peak' → the_run first last total peak ≡ the_run first last' total' peak'
+run_is : (first : ℕ) {last total peak last' total' peak' : ℕ} → last ≡ last' → total ≡ total' → peak ≡ peak'
+    → the_run first last total peak ≡ the_run first last' total' peak'
 run_is first p q r = cc
 
 -- no run is open
-begin : (xs : List ℕ) (c : ℕ) (done : List (List Period)) → slice_split out (periods xs) ≡ done ++ [] ∷ [] → (b : Bool) → ends_in_flood (xs ++ c ∷ []) ≡ b
-    → Passed (xs ++ c ∷ []) (next_runs (filter_map run_of done) None (cond b (the_run (length xs) (length xs) c c) None)) (cond b (the_run (length xs) (length xs) c c) None)
+begin : (xs : List ℕ) (c : ℕ) (done : List (List Period)) → slice_split out (periods xs) ≡ done ++ [] ∷ [] → (b : Bool)
+    → ends_in_flood (xs ++ c ∷ []) ≡ b
+    → Passed (xs ++ c ∷ []) (next_runs (filter_map run_of done) None (cond b (the_run (length xs) (length xs) c c) None))
+    (cond b (the_run (length xs) (length xs) c c) None)
 begin xs c done e true t =
     record {
       done = done;
@@ -83,9 +86,12 @@ begin xs c done e false t =
     }
 
 -- one is
-go_on : (xs : List ℕ) (c : ℕ) (done : List (List Period)) (p : Period) (ps : List Period) → slice_split out (periods xs) ≡ done ++ (p ∷ ps) ∷ [] → p.number + length ps + 1 ≡ length xs
+go_on : (xs : List ℕ) (c : ℕ) (done : List (List Period)) (p : Period) (ps : List Period) → slice_split out (periods xs) ≡ done ++ (p ∷ ps) ∷ []
+    → p.number + length ps + 1 ≡ length xs
     → (b : Bool) → ends_in_flood (xs ++ c ∷ []) ≡ b
-    → Passed (xs ++ c ∷ []) (next_runs (filter_map run_of done) (run_of (p ∷ ps)) (cond b (the_run p.number (length xs) (sum (map (λ q. q.count) (p ∷ ps)) + c) (max (fold max 0 (map (λ q. q.count) (p ∷ ps))) c)) None))
+    → Passed (xs ++ c ∷ [])
+    (next_runs (filter_map run_of done) (run_of (p
+    ∷ ps)) (cond b (the_run p.number (length xs) (sum (map (λ q. q.count) (p ∷ ps)) + c) (max (fold max 0 (map (λ q. q.count) (p ∷ ps))) c)) None))
     (cond b (the_run p.number (length xs) (sum (map (λ q. q.count) (p ∷ ps)) + c) (max (fold max 0 (map (λ q. q.count) (p ∷ ps))) c)) None)
 go_on xs c done p ps e r true t =
     let counts = map-append (λ (q : Period). q.count) (p ∷ ps) (period xs c ∷ []) in
@@ -96,7 +102,8 @@ go_on xs c done p ps e r true t =
       runs_are = refl;
       current_is =
           run_is p.number (omega (arith, r, length-append ps (period xs c ∷ [])))
-          (sym (ap sum counts ∙ sum_by-append (λ x. x) (map (λ q. q.count) (p ∷ ps)) (c ∷ []) ∙ ap (λ n. sum (map (λ q. q.count) (p ∷ ps)) + n) (zero-add c)))
+          (sym (ap sum counts ∙ sum_by-append (λ x. x) (map (λ q. q.count) (p ∷ ps)) (c ∷ [])
+          ∙ ap (λ n. sum (map (λ q. q.count) (p ∷ ps)) + n) (zero-add c)))
           (sym (ap (fold max 0) counts ∙ fold-append max 0 (map (λ q. q.count) (p ∷ ps)) (c ∷ [])));
       flag = t;
       reaches = omega (arith, r, length-append xs (c ∷ []), length-append ps (period xs c ∷ []));
@@ -115,15 +122,21 @@ go_on xs c done p ps e r false t =
 or_below : (f t : Bool) → (t ≡ true → f ≡ true) → (f || t) ≡ f
 or_below f t h = grind arith
 
-more_by : (xs : List ℕ) (c : ℕ) (done : List (List Period)) (cur : List Period) → slice_split out (periods xs) ≡ done ++ cur ∷ [] → ends_in_flood xs ≡ is_some_list cur → Reaches (length xs) cur
+more_by : (xs : List ℕ) (c : ℕ) (done : List (List Period)) (cur : List Period) → slice_split out (periods xs) ≡ done ++ cur ∷ []
+    → ends_in_flood xs ≡ is_some_list cur → Reaches (length xs) cur
     → Passed (xs ++ c ∷ []) (next_runs (filter_map run_of done) (run_of cur) (grown (run_of cur) (length xs) c)) (grown (run_of cur) (length xs) c)
 more_by xs c done [] e f r = begin xs c done e (nat_lt 10 c) (ends-push xs c ∙ ap (λ b. (b && nat_le 5 c) || nat_lt 10 c) f)
-more_by xs c done (p ∷ ps) e f r = go_on xs c done p ps e r (nat_le 5 c) (ends-push xs c ∙ ap (λ b. (b && nat_le 5 c) || nat_lt 10 c) f ∙ or_below (nat_le 5 c) (nat_lt 10 c) (λ h. le-leb 5 c (omega (arith, ltb-true 10 c h))))
+more_by xs c done (p ∷ ps) e f r =
+    go_on xs c done p ps e r (nat_le 5 c)
+    (ends-push xs c ∙ ap (λ b. (b && nat_le 5 c) || nat_lt 10 c) f
+    ∙ or_below (nat_le 5 c) (nat_lt 10 c) (λ h. le-leb 5 c (omega (arith, ltb-true 10 c h))))
 
-pub passed_more : (xs : List ℕ) (c : ℕ) (runs : List Run) (current : Option Run) → Passed xs runs current → Passed (xs ++ c ∷ []) (next_runs runs current (grown current (length xs) c)) (grown current (length xs) c)
+pub passed_more : (xs : List ℕ) (c : ℕ) (runs : List Run) (current : Option Run) → Passed xs runs current
+    → Passed (xs ++ c ∷ []) (next_runs runs current (grown current (length xs) c)) (grown current (length xs) c)
 passed_more xs c runs current h =
     subst (λ (r : List Run). Passed (xs ++ c ∷ []) (next_runs r current (grown current (length xs) c)) (grown current (length xs) c)) (sym h.runs_are)
-    (subst (λ (o : Option Run). Passed (xs ++ c ∷ []) (next_runs (filter_map run_of h.done) o (grown o (length xs) c)) (grown o (length xs) c)) (sym h.current_is)
+    (subst (λ (o : Option Run). Passed (xs ++ c
+    ∷ []) (next_runs (filter_map run_of h.done) o (grown o (length xs) c)) (grown o (length xs) c)) (sym h.current_is)
     (more_by xs c h.done h.cur h.parts h.flag h.reaches))
 
 pub passed_next : (counts : List ℕ) (i : ℕ) (runs : List Run) (current : Option Run) → i < length counts → Passed (take i counts) runs current
@@ -131,7 +144,10 @@ pub passed_next : (counts : List ℕ) (i : ℕ) (runs : List Run) (current : Opt
 passed_next counts i runs current lt h =
     let e : length (take i counts) ≡ i = length-take-le i counts (omega arith) in
     let c = get_or counts i 0 in
-    rw (take_more counts i 0 lt) (subst (λ (n : ℕ). Passed (take i counts ++ c ∷ []) (next_runs runs current (grown current n c)) (grown current n c)) e (passed_more (take i counts) c runs current h))
+    rw (take_more counts i 0 lt)
+        (subst (λ (n : ℕ). Passed (take i counts ++ c
+        ∷ []) (next_runs runs current (grown current n c)) (grown current n c)) e (passed_more (take i counts) c runs current h))
 
-pub passed_whole : (counts : List ℕ) (i : ℕ) (runs : List Run) (current : Option Run) → length counts ≤ i → Passed (take i counts) runs current → runs ++ option_to_list current ≡ floods counts
+pub passed_whole : (counts : List ℕ) (i : ℕ) (runs : List Run) (current : Option Run) → length counts ≤ i → Passed (take i counts) runs current
+    → runs ++ option_to_list current ≡ floods counts
 passed_whole counts i runs current le h = sym (passed_all (take i counts) runs current h) ∙ ap floods (take_all i counts le)

@@ -25,7 +25,8 @@ activations_from es t = count_by (λ e. is_in_period t e.moment) (activations_of
 
 -- the counts of the whole periods of a range, one after another
 abbrev pub period_counts : List Event → ℕ → ℕ → List ℕ
-period_counts es begin until = map (λ i. activations_from es (begin + 600 * i)) (range_with_len 0 ((until - begin) / 600))
+period_counts es begin until =
+    map (λ i. activations_from es (begin + 600 * i)) (range_with_len 0 ((until - begin) / 600))
 
 -- the tags are those of the alarms that are active after these events
 abbrev pub AreActive : BTreeSet Name → List Event → Type 0

@@ -5,7 +5,8 @@ use Rattle.plant_floods.specs.declared.run.Run.{Run}
 -- the open run after one more period, where it goes on or one begins
 abbrev pub grown : Option Run → ℕ → ℕ → Option Run
 grown None i c = if nat_lt 10 c then Some (record { first = i; last = i; total = c; peak = c }) else None
-grown (Some r) i c = if nat_le 5 c then Some (record { first = r.first; last = i; total = r.total + c; peak = max r.peak c }) else None
+grown (Some r) i c = if nat_le 5 c then
+    Some (record { first = r.first; last = i; total = r.total + c; peak = max r.peak c }) else None
 
 -- the closed runs after it: where none goes on, the open one is closed
 abbrev pub next_runs : List Run → Option Run → Option Run → List Run

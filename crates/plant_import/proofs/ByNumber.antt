@@ -28,33 +28,45 @@ values_are (x ∷ xs) = ap (λ l. x ∷ l) (values_are xs)
 
 -- the entries on both sides of a number
 pub entries_below : (n : ℕ) (es : List Event) → entries_between nat_cmp Unbounded (Excluded n) (numbered es) ≡ numbered (below n es)
-entries_below n es = filter-of_map (λ e. (e.seq, e)) (λ e. range_contains nat_cmp Unbounded (Excluded n) e.0) (λ e. nat_lt e.seq n) (λ e. grind (arith, nat_tests)) es
+entries_below n es =
+    filter-of_map (λ e. (e.seq, e)) (λ e. range_contains nat_cmp Unbounded (Excluded n) e.0) (λ e. nat_lt e.seq n) (λ e. grind (arith, nat_tests)) es
 
 pub entries_from : (n : ℕ) (es : List Event) → entries_between nat_cmp (Included n) Unbounded (numbered es) ≡ numbered (from n es)
-entries_from n es = filter-of_map (λ e. (e.seq, e)) (λ e. range_contains nat_cmp (Included n) Unbounded e.0) (λ e. not (nat_lt e.seq n)) (λ e. grind (arith, nat_tests)) es
+entries_from n es =
+    filter-of_map (λ e. (e.seq, e)) (λ e. range_contains nat_cmp (Included n) Unbounded e.0) (λ e. not (nat_lt e.seq n))
+    (λ e. grind (arith, nat_tests)) es
 
 -- rising events are those below a number and then the others
 pub halves : (n : ℕ) (es : List Event) → IsRising es → AreParts es n (below n es) (from n es)
 halves n es h =
-    let whole = split_by (λ e. nat_lt e.seq n) es (pairs_weaker Before (λ x y. nat_lt y.seq n ≡ true → nat_lt x.seq n ≡ true) (λ x y b t. lt-ltb x.seq n (omega (arith, b.0, ltb-true y.seq n t))) es (rising_of es h)) in
+    let whole =
+        split_by (λ e. nat_lt e.seq n) es (pairs_weaker Before (λ x y. nat_lt y.seq n ≡ true
+        → nat_lt x.seq n ≡ true) (λ x y b t. lt-ltb x.seq n (omega (arith, b.0, ltb-true y.seq n t))) es (rising_of es h)) in
     record {
       whole = whole;
       rising = subst (λ (l : List Event). Rising l) whole (rising_of es h);
       low = each_weaker (λ x. nat_lt x.seq n ≡ true) (λ x. x.seq < n) (λ x. ltb-true x.seq n) (below n es) (each_filter (λ x. nat_lt x.seq n) es);
-      high = each_weaker (λ x. not (nat_lt x.seq n) ≡ true) (λ x. n ≤ x.seq) (λ x t. ltb-false x.seq n (not-true (nat_lt x.seq n) t)) (from n es) (each_filter (λ x. not (nat_lt x.seq n)) es);
+      high = each_weaker (λ x. not (nat_lt x.seq n) ≡ true) (λ x. n ≤ x.seq) (λ x t. ltb-false x.seq n (not-true (nat_lt x.seq n) t)) (from n es)
+          (each_filter (λ x. not (nat_lt x.seq n)) es);
     }
 
 -- two parts of events at a number are those below it and the others
 pub below_is : (n : ℕ) (es xs ys : List Event) → AreParts es n xs ys → xs ≡ below n es
-below_is n es xs ys p = sym (ap (below n) p.whole ∙ filter_parts (λ x. nat_lt x.seq n) xs ys (each_weaker (λ x. x.seq < n) (λ x. nat_lt x.seq n ≡ true) (λ x. lt-ltb x.seq n) xs p.low) (each_weaker (λ x. n ≤ x.seq) (λ x. nat_lt x.seq n ≡ false) (λ x. le-ltb x.seq n) ys p.high))
+below_is n es xs ys p =
+    sym (ap (below n) p.whole
+    ∙ filter_parts (λ x. nat_lt x.seq n) xs ys (each_weaker (λ x. x.seq < n) (λ x. nat_lt x.seq n ≡ true) (λ x. lt-ltb x.seq n) xs p.low)
+    (each_weaker (λ x. n ≤ x.seq) (λ x. nat_lt x.seq n ≡ false) (λ x. le-ltb x.seq n) ys p.high))
 
 pub from_is : (n : ℕ) (es xs ys : List Event) → AreParts es n xs ys → ys ≡ from n es
 from_is n es xs ys p = sym (ap (from n) p.whole ∙ filter-append (λ x. not (nat_lt x.seq n)) xs ys
-    ∙ (λ i. filter_none (λ x. not (nat_lt x.seq n)) xs (each_weaker (λ x. x.seq < n) (λ x. not (nat_lt x.seq n) ≡ false) (λ x lt. ap not (lt-ltb x.seq n lt)) xs p.low) i
-    ++ filter_all (λ x. not (nat_lt x.seq n)) ys (each_weaker (λ x. n ≤ x.seq) (λ x. not (nat_lt x.seq n) ≡ true) (λ x le. ap not (le-ltb x.seq n le)) ys p.high) i))
+    ∙ (λ i. filter_none (λ x. not (nat_lt x.seq n)) xs (each_weaker (λ x. x.seq < n) (λ x. not (nat_lt x.seq n)
+    ≡ false) (λ x lt. ap not (lt-ltb x.seq n lt)) xs p.low) i
+    ++ filter_all (λ x. not (nat_lt x.seq n)) ys (each_weaker (λ x. n ≤ x.seq) (λ x. not (nat_lt x.seq n)
+    ≡ true) (λ x le. ap not (le-ltb x.seq n le)) ys p.high) i))
 
 -- an event put among those of other numbers
-pub any_put : (p : Event → Bool) (e : Event) (xs : List Event) → list_any (has_number e.seq) xs ≡ false → list_any p (put_in e xs) ≡ (p e || list_any p xs)
+pub any_put : (p : Event → Bool) (e : Event) (xs : List Event) → list_any (has_number e.seq) xs ≡ false
+    → list_any p (put_in e xs) ≡ (p e || list_any p xs)
 any_put p e [] h = refl
 any_put p e (x ∷ xs) h = grind (arith, nat_tests, any_put p e xs)
 
@@ -68,7 +80,8 @@ each_put P e (x ∷ xs) h k =
     ]
 
 -- one that none of them is out of order with
-rising_put : (e : Event) (xs : List Event) → list_any (has_number e.seq) xs ≡ false → list_any (out_of_order e) xs ≡ false → Rising xs → Rising (put_in e xs)
+rising_put : (e : Event) (xs : List Event) → list_any (has_number e.seq) xs ≡ false → list_any (out_of_order e) xs ≡ false → Rising xs
+    → Rising (put_in e xs)
 rising_put e [] other order h = (tt, tt)
 rising_put e (x ∷ xs) other order h =
     let numbers = or_parts (has_number e.seq x) (list_any (has_number e.seq) xs) other in
@@ -77,7 +90,8 @@ rising_put e (x ∷ xs) other order h =
       | Less ↦ λ is _.
           let lt : e.seq < x.seq = ranked e.seq x.seq Less is in
           let le : e.moment ≤ x.moment = ltb-false x.moment e.moment (sym (order_above e x lt) ∙ orders.0) in
-          ((let first : Before e x = (lt, le) in first, each_weaker (Before x) (Before e) (λ y b. (omega (arith, lt, b.0), omega (arith, le, b.1))) xs h.0), h)
+          ((let first : Before e x = (lt, le) in
+          first, each_weaker (Before x) (Before e) (λ y b. (omega (arith, lt, b.0), omega (arith, le, b.1))) xs h.0), h)
       | Equal ↦ λ _ f. absurd (false≢true (sym f))
       | Greater ↦ λ is _.
           let lt : x.seq < e.seq = ranked e.seq x.seq Greater is in
@@ -85,7 +99,8 @@ rising_put e (x ∷ xs) other order h =
           (each_put (Before x) e xs (lt, le) h.0, rising_put e xs numbers.1 orders.1 h.1)
     ] refl numbers.0
 
-pub rises_put : (e : Event) (xs : List Event) → list_any (has_number e.seq) xs ≡ false → list_any (out_of_order e) xs ≡ false → IsRising xs → IsRising (put_in e xs)
+pub rises_put : (e : Event) (xs : List Event) → list_any (has_number e.seq) xs ≡ false → list_any (out_of_order e) xs ≡ false → IsRising xs
+    → IsRising (put_in e xs)
 rises_put e xs other order h = is_rising (put_in e xs) (rising_put e xs other order (rising_of xs h))
 
 -- the entry at an end of a part of the map

@@ -11,25 +11,32 @@ use Rattle.plant_import.proofs.public.{Counted.{no_first, row_fits, same_by_numb
 use Rattle.plant_import.specs.Merging.{IsRising, same_event, clashes, out_of_order, merge_fault, first_fault, is_new, fresh, merged_or, merge}
 
 -- where the first rows have no fault, the first fault is that of the others
-no_fault_then : (tags : List Name) (now line : ℕ) (others xs ys : List Event) → first_fault tags now line others xs ≡ None → first_fault tags now line others (xs ++ ys) ≡ first_fault tags now (line + length xs) (others ++ xs) ys
-no_fault_then tags now line others [] ys none = let e : line ≡ line + 0 = omega arith in λ i. first_fault tags now (e i) (sym (append-nil others) i) ys
+no_fault_then : (tags : List Name) (now line : ℕ) (others xs ys : List Event) → first_fault tags now line others xs ≡ None
+    → first_fault tags now line others (xs ++ ys) ≡ first_fault tags now (line + length xs) (others ++ xs) ys
+no_fault_then tags now line others [] ys none = let e : line ≡ line + 0 = omega arith in
+    λ i. first_fault tags now (e i) (sym (append-nil others) i) ys
 no_fault_then tags now line others (x ∷ xs) ys none =
     let parts = no_first line (merge_fault tags now others x) _ none in
     let e : line + 1 + length xs ≡ line + length (x ∷ xs) = omega arith in
     (λ i. or_else (option_map (bad line) (parts.0 i)) (no_fault_then tags now (line + 1) (others ++ x ∷ []) xs ys parts.1 i))
     ∙ (λ i. first_fault tags now (e i) (append_assoc others (x ∷ []) xs i) ys)
 
-no_fault_more : (tags : List Name) (now : ℕ) (kept rows : List Event) (e : Event) → first_fault tags now 2 kept rows ≡ None → merge_fault tags now (kept ++ rows) e ≡ None → first_fault tags now 2 kept (rows ++ e ∷ []) ≡ None
-no_fault_more tags now kept rows e none here = no_fault_then tags now 2 kept rows (e ∷ []) none ∙ (λ i. or_else (option_map (bad (2 + length rows)) (here i)) None)
+no_fault_more : (tags : List Name) (now : ℕ) (kept rows : List Event) (e : Event) → first_fault tags now 2 kept rows ≡ None
+    → merge_fault tags now (kept ++ rows) e ≡ None → first_fault tags now 2 kept (rows ++ e ∷ []) ≡ None
+no_fault_more tags now kept rows e none here = no_fault_then tags now 2 kept rows (e ∷ []) none
+    ∙ (λ i. or_else (option_map (bad (2 + length rows)) (here i)) None)
 
-new_more : (kept rows : List Event) (e : Event) (b : Bool) → is_new (kept ++ rows) e ≡ b → fresh kept (rows ++ e ∷ []) ≡ fresh kept rows ++ cond b (e ∷ []) []
+new_more : (kept rows : List Event) (e : Event) (b : Bool) → is_new (kept ++ rows) e ≡ b
+    → fresh kept (rows ++ e ∷ []) ≡ fresh kept rows ++ cond b (e ∷ []) []
 new_more kept rows e b is = passing-push is_new kept rows e ∙ ap (λ b. fresh kept rows ++ cond b (e ∷ []) []) is
 
 module _ (tags : List Name) (now : ℕ) (kept fresh : List Event) (e : Event) (tag : list_any (same_name e.tag) tags ≡ true) (le : e.moment ≤ now) where
   abbrev others : List Event
   others = kept ++ fresh
 
-  told : merge_fault tags now others e ≡ (if list_any (clashes e) kept || list_any (clashes e) fresh then Some SequenceClash else (if list_any (out_of_order e) kept || list_any (out_of_order e) fresh then Some MomentOutOfOrder else None))
+  told : merge_fault tags now others e
+      ≡ (if list_any (clashes e) kept || list_any (clashes e) fresh then
+      Some SequenceClash else (if list_any (out_of_order e) kept || list_any (out_of_order e) fresh then Some MomentOutOfOrder else None))
   unfolding merge_fault
   told = rw (tag, le-ltb now e.moment le, list_any-append (clashes e) kept fresh, list_any-append (out_of_order e) kept fresh) refl
 
@@ -58,17 +65,20 @@ pub record MergedSo (tags : List Name) (now : ℕ) (kept rows new rising : List 
 pub so_none : (tags : List Name) (now : ℕ) (kept : List Event) → MergedSo tags now kept [] [] [] 0
 so_none tags now kept = record { none = refl; new_are = refl; count = refl; rises = λ i j d lt le. absurd (omega arith); alike = λ p. refl }
 
-fault_alike : (tags : List Name) (now : ℕ) (kept rising rows : List Event) (e : Event) → Alike kept rising rows → merge_fault tags now (kept ++ rising) e ≡ merge_fault tags now (kept ++ rows) e
+fault_alike : (tags : List Name) (now : ℕ) (kept rising rows : List Event) (e : Event) → Alike kept rising rows
+    → merge_fault tags now (kept ++ rising) e ≡ merge_fault tags now (kept ++ rows) e
 fault_alike tags now kept rising rows e alike = same_fault tags now (kept ++ rising) (kept ++ rows) e (alike (clashes e)) (alike (out_of_order e))
 
 one_more : (p : Event → Bool) (kept rows : List Event) (e : Event) → list_any p (kept ++ (rows ++ e ∷ [])) ≡ (list_any p (kept ++ rows) || p e)
 one_more p kept rows e = grind (arith, list_any-append p kept (rows ++ e ∷ []), list_any-append p rows (e ∷ []), list_any-append p kept rows)
 
-alike_new : (kept rising rows : List Event) (e : Event) → list_any (has_number e.seq) rising ≡ false → Alike kept rising rows → Alike kept (put_in e rising) (rows ++ e ∷ [])
+alike_new : (kept rising rows : List Event) (e : Event) → list_any (has_number e.seq) rising ≡ false → Alike kept rising rows
+    → Alike kept (put_in e rising) (rows ++ e ∷ [])
 alike_new kept rising rows e other alike p =
     grind (arith, one_more p kept rows e, list_any-append p kept (put_in e rising), any_put p e rising other, list_any-append p kept rising, alike p)
 
-alike_known : (kept rising rows : List Event) (e : Event) → list_any (same_event e) (kept ++ rising) ≡ true → Alike kept rising rows → Alike kept rising (rows ++ e ∷ [])
+alike_known : (kept rising rows : List Event) (e : Event) → list_any (same_event e) (kept ++ rising) ≡ true → Alike kept rising rows
+    → Alike kept rising (rows ++ e ∷ [])
 alike_known kept rising rows e known alike p = grind (arith, one_more p kept rows e, same_any p e (kept ++ rising) known, alike p)
 
 -- one more row
@@ -79,12 +89,15 @@ among p kept rising h = (or_parts (list_any p kept) (list_any p rising) (sym (li
 at_place : (file : List Event) (i : ℕ) (e d : Event) → i < length file → e ≡ get_or file i d → take (i + 1) file ≡ take i file ++ e ∷ []
 at_place file i e d lt is = take_more file i d lt ∙ ap (λ x. take i file ++ x ∷ []) (sym is)
 
-pub so_new_at : (tags : List Name) (now : ℕ) (kept file new rising : List Event) (repeated i : ℕ) (e : Event) → i < length file → e ≡ get_or file i e → MergedSo tags now kept (take i file) new rising repeated
+pub so_new_at : (tags : List Name) (now : ℕ) (kept file new rising : List Event) (repeated i : ℕ) (e : Event) → i < length file → e ≡ get_or file i e
+    → MergedSo tags now kept (take i file) new rising repeated
     → JudgesRow tags now kept rising e (Ok true) → MergedSo tags now kept (take (i + 1) file) (new ++ e ∷ []) (put_in e rising) repeated
 so_new_at tags now kept file new rising repeated i e lt is h j =
     let rows = take i file in
     let fits = row_fits tags now (kept ++ rising) e j.0 in
-    let other = among (has_number e.seq) kept rising (sym (same_by_number e (kept ++ rising) fits.0) ∙ not-true (list_any (same_event e) (kept ++ rising)) j.1) in
+    let other =
+        among (has_number e.seq) kept rising (sym (same_by_number e (kept ++ rising) fits.0)
+        ∙ not-true (list_any (same_event e) (kept ++ rising)) j.1) in
     subst (λ (l : List Event). MergedSo tags now kept l (new ++ e ∷ []) (put_in e rising) repeated) (sym (at_place file i e e lt is)) (record {
       none = no_fault_more tags now kept rows e h.none (sym (fault_alike tags now kept rising rows e h.alike) ∙ j.0);
       new_are = ap (λ l. l ++ e ∷ []) h.new_are ∙ sym (new_more kept rows e true (sym (ap not (h.alike (same_event e))) ∙ j.1));
@@ -93,7 +106,8 @@ so_new_at tags now kept file new rising repeated i e lt is h j =
       alike = alike_new kept rising rows e other h.alike;
     })
 
-pub so_known_at : (tags : List Name) (now : ℕ) (kept file new rising : List Event) (repeated i : ℕ) (e : Event) → i < length file → e ≡ get_or file i e → MergedSo tags now kept (take i file) new rising repeated
+pub so_known_at : (tags : List Name) (now : ℕ) (kept file new rising : List Event) (repeated i : ℕ) (e : Event) → i < length file
+    → e ≡ get_or file i e → MergedSo tags now kept (take i file) new rising repeated
     → JudgesRow tags now kept rising e (Ok false) → MergedSo tags now kept (take (i + 1) file) new rising (repeated + 1)
 so_known_at tags now kept file new rising repeated i e lt is h j =
     let rows = take i file in
@@ -105,23 +119,28 @@ so_known_at tags now kept file new rising repeated i e lt is h j =
       alike = alike_known kept rising rows e (not-false (list_any (same_event e) (kept ++ rising)) j.1) h.alike;
     })
 
-pub so_fault_at : (tags : List Name) (now : ℕ) (kept file new rising : List Event) (repeated i : ℕ) (e : Event) (cause : Cause) → i < length file → e ≡ get_or file i e → MergedSo tags now kept (take i file) new rising repeated
+pub so_fault_at : (tags : List Name) (now : ℕ) (kept file new rising : List Event) (repeated i : ℕ) (e : Event) (cause : Cause) → i < length file
+    → e ≡ get_or file i e → MergedSo tags now kept (take i file) new rising repeated
     → JudgesRow tags now kept rising e (Err cause) → merge kept file tags now ≡ Err (bad (i + 2) cause)
 unfolding merge
 so_fault_at tags now kept file new rising repeated i e cause lt is h j =
     let rows = take i file in
     let rest = drop (i + 1) file in
     let fault : merge_fault tags now (kept ++ rows) e ≡ Some cause = sym (fault_alike tags now kept rising rows e h.alike) ∙ j in
-    let cut : file ≡ rows ++ e ∷ rest = sym (take-append-drop (i + 1) file) ∙ ap (λ l. l ++ rest) (at_place file i e e lt is) ∙ append_assoc rows (e ∷ []) rest in
+    let cut : file ≡ rows ++ e ∷ rest = sym (take-append-drop (i + 1) file) ∙ ap (λ l. l ++ rest) (at_place file i e e lt is)
+        ∙ append_assoc rows (e ∷ []) rest in
     let line : 2 + length rows ≡ i + 2 = omega (arith, length-take-le i file (omega arith)) in
-    let first : first_fault tags now 2 kept file ≡ Some (bad (i + 2) cause) = ap (first_fault tags now 2 kept) cut ∙ no_fault_then tags now 2 kept rows (e ∷ rest) h.none
+    let first : first_fault tags now 2 kept file ≡ Some (bad (i + 2) cause) = ap (first_fault tags now 2 kept) cut
+        ∙ no_fault_then tags now 2 kept rows (e ∷ rest) h.none
     ∙ (λ k. or_else (option_map (bad (line k)) (fault k)) (first_fault tags now (line k + 1) ((kept ++ rows) ++ e ∷ []) rest)) in
     ap (λ o. merged_or o kept file) first
 
-pub so_all : (tags : List Name) (now : ℕ) (kept file new rising : List Event) (repeated i : ℕ) → length file ≤ i → MergedSo tags now kept (take i file) new rising repeated → merge kept file tags now ≡ Ok (record { fresh = new; repeated = repeated })
+pub so_all : (tags : List Name) (now : ℕ) (kept file new rising : List Event) (repeated i : ℕ) → length file ≤ i
+    → MergedSo tags now kept (take i file) new rising repeated → merge kept file tags now ≡ Ok (record { fresh = new; repeated = repeated })
 unfolding merge
 so_all tags now kept file new rising repeated i le h =
     let all = take_all i file le in
     let none : first_fault tags now 2 kept file ≡ None = sym (ap (first_fault tags now 2 kept) all) ∙ h.none in
-    let count : length file - length (fresh kept file) ≡ repeated = omega (arith, h.count, ap length h.new_are, ap length all, ap (λ l. length (fresh kept l)) all) in
+    let count : length file - length (fresh kept file) ≡ repeated =
+        omega (arith, h.count, ap length h.new_are, ap length all, ap (λ l. length (fresh kept l)) all) in
     ap (λ o. merged_or o kept file) none ∙ (λ j. Ok (record { fresh = (sym (h.new_are ∙ ap (fresh kept) all)) j; repeated = count j }))

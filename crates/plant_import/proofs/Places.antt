@@ -14,12 +14,14 @@ field-get_or : (fields : List (List ℕ)) (i : ℕ) → field fields i ≡ get_o
 field-get_or fields i = unwrap_or-slice_get fields i []
 
 -- the fields before a place are text, and so is the one there
-pub text_more : (fields : List (List ℕ)) (i : ℕ) (b : Bool) (f : List ℕ) → i < length fields → list_all is_utf8 (take i fields) ≡ true → f ≡ field fields i → b ≡ is_utf8 f → b ≡ true
+pub text_more : (fields : List (List ℕ)) (i : ℕ) (b : Bool) (f : List ℕ) → i < length fields → list_all is_utf8 (take i fields) ≡ true
+    → f ≡ field fields i → b ≡ is_utf8 f → b ≡ true
     → list_all is_utf8 (take (i + 1) fields) ≡ true
 text_more fields i b f lt h ef eb t =
     let here : is_utf8 (get_or fields i []) ≡ true = ap is_utf8 (sym (ef ∙ field-get_or fields i)) ∙ sym eb ∙ t in
     list_all_more is_utf8 fields i [] lt ∙ ap (λ x. x && is_utf8 (get_or fields i [])) h ∙ here
 
 -- the field at a place isn't text
-pub text_at : (fields : List (List ℕ)) (i : ℕ) (b : Bool) (f : List ℕ) → i < length fields → f ≡ field fields i → b ≡ is_utf8 f → b ≡ false → list_all is_utf8 fields ≡ false
+pub text_at : (fields : List (List ℕ)) (i : ℕ) (b : Bool) (f : List ℕ) → i < length fields → f ≡ field fields i → b ≡ is_utf8 f → b ≡ false
+    → list_all is_utf8 fields ≡ false
 text_at fields i b f lt ef eb t = list_all_at is_utf8 fields i [] lt (ap is_utf8 (sym (ef ∙ field-get_or fields i)) ∙ sym eb ∙ t)

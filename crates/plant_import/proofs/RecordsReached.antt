@@ -12,10 +12,12 @@ at_end : (b : Bool) (fields : List (List ℕ)) (p : Read) → cond b (Some (fiel
 at_end b fields p e = (grind arith, grind arith)
 
 -- a record takes a byte, or it is the last
-takes : (cfg : Config) (s : State) (fields : List (List ℕ)) (field xs : List ℕ) (p : Read) → next_record cfg s fields field xs ≡ Some p → (length p.2 < length xs) ⊎ IsOver p.1 p.2
+takes : (cfg : Config) (s : State) (fields : List (List ℕ)) (field xs : List ℕ) (p : Read) → next_record cfg s fields field xs ≡ Some p
+    → (length p.2 < length xs) ⊎ IsOver p.1 p.2
 unfolding next_record
 takes cfg s fields field [] p e = inr (at_end (ends_at_end s) (fields ++ (field ∷ [])) p e)
-takes cfg s fields field (c ∷ rest) p e = grind (arith, takes cfg (step cfg s c).0 (fields_after (step cfg s c).1 fields field) (field_after (step cfg s c).1 c field) rest p)
+takes cfg s fields field (c ∷ rest) p e =
+    grind (arith, takes cfg (step cfg s c).0 (fields_after (step cfg s c).1 fields field) (field_after (step cfg s c).1 c field) rest p)
 
 -- the records reached, and then those that are left
 record Continues (cfg : Config) (n : ℕ) (s : State) (xs : List ℕ) (rows : List (List (List ℕ))) (s2 : State) (ys : List ℕ) : Type 0 where
@@ -30,14 +32,17 @@ continue : (cfg : Config) (n : ℕ) (s : State) (xs : List ℕ) (r : List (List 
     → next_record cfg s [] [] xs ≡ Some p → r ≡ p.0 → Continues cfg n p.1 p.2 rows s2 ys → Continues cfg (suc n) s xs (r ∷ rows) s2 ys
 unfolding records_from
 continue cfg n s xs r rows s2 ys p e er h =
-    record { fuel = h.fuel; are = ap (records_next (records_from cfg n)) e ∙ ap (λ l. p.0 ∷ l) h.are ∙ ap (λ f. f ∷ (rows ++ records_from cfg h.fuel s2 ys)) (sym er) }
+    record { fuel = h.fuel;
+        are = ap (records_next (records_from cfg n)) e ∙ ap (λ l. p.0 ∷ l) h.are ∙ ap (λ f. f ∷ (rows ++ records_from cfg h.fuel s2 ys)) (sym er) }
 
-over : (cfg : Config) (n : ℕ) (s : State) (xs : List ℕ) (rows : List (List (List ℕ))) (s2 : State) (ys : List ℕ) → IsOver s xs → Reached cfg s xs rows s2 ys → Continues cfg n s xs rows s2 ys
+over : (cfg : Config) (n : ℕ) (s : State) (xs : List ℕ) (rows : List (List (List ℕ))) (s2 : State) (ys : List ℕ) → IsOver s xs
+    → Reached cfg s xs rows s2 ys → Continues cfg n s xs rows s2 ys
 unfolding Reached next_record
 over cfg n s xs [] s2 ys is h = here cfg n s xs s2 ys h
 over cfg n s xs (r ∷ rows) s2 ys is h = absurd (let none : None ≡ Some h.0 = sym (λ i. next_record cfg (is.0 i) [] [] (is.1 i)) ∙ h.1 in cc)
 
-reached : (cfg : Config) (n : ℕ) (s : State) (xs : List ℕ) (rows : List (List (List ℕ))) (s2 : State) (ys : List ℕ) → Reached cfg s xs rows s2 ys → length xs < n → Continues cfg n s xs rows s2 ys
+reached : (cfg : Config) (n : ℕ) (s : State) (xs : List ℕ) (rows : List (List (List ℕ))) (s2 : State) (ys : List ℕ) → Reached cfg s xs rows s2 ys
+    → length xs < n → Continues cfg n s xs rows s2 ys
 unfolding Reached
 reached cfg n s xs [] s2 ys h lt = here cfg n s xs s2 ys h
 reached cfg zero s xs (r ∷ rows) s2 ys h lt = absurd (omega (arith, lt))
@@ -54,7 +59,8 @@ none_left cfg zero s ys e = refl
 none_left cfg (suc n) s ys e = ap (records_next (records_from cfg n)) e
 
 -- the records of a text begin with those that were reached
-pub begins_with : (cfg : Config) (xs : List ℕ) (rows : List (List (List ℕ))) (s2 : State) (ys : List ℕ) → Reached cfg st.StartRecord xs rows s2 ys → (rest : List (List (List ℕ))) × (records cfg xs ≡ rows ++ rest)
+pub begins_with : (cfg : Config) (xs : List ℕ) (rows : List (List (List ℕ))) (s2 : State) (ys : List ℕ) → Reached cfg st.StartRecord xs rows s2 ys
+    → (rest : List (List (List ℕ))) × (records cfg xs ≡ rows ++ rest)
 begins_with cfg xs rows s2 ys h =
     let c = reached cfg (length xs + 1) st.StartRecord xs rows s2 ys h (omega arith) in
     (records_from cfg c.fuel s2 ys, c.are)

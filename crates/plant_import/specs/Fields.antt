@@ -12,7 +12,8 @@ same_bytes = pointwise nat_eq
 -- one to twelve digits, the first not 0
 abbrev pub number_of : List ℕ → Option ℕ
 number_of field =
-    if is_between 1 12 (length field) && list_all is_digit field && not (slice_index field 0 == 48) then Some (decimal_value field) else None
+    if is_between 1 12 (length field) && list_all is_digit field && not (slice_index field 0 == 48) then
+        Some (decimal_value field) else None
 
 -- the name of a kind
 abbrev pub kind_of : List ℕ → Option EventKind

@@ -27,7 +27,8 @@ kept_after kept (b ∷ files) = kept_after (kept ++ fresh kept b.1) files
 -- no file has a fault, each merged into what is kept after those before it
 abbrev pub are_taken : List Name → List Event → List Brought → Bool
 are_taken tags kept [] = true
-are_taken tags kept (b ∷ files) = is_none (first_fault tags b.0 2 kept b.1) && are_taken tags (kept ++ fresh kept b.1) files
+are_taken tags kept (b ∷ files) =
+    is_none (first_fault tags b.0 2 kept b.1) && are_taken tags (kept ++ fresh kept b.1) files
 
 -- how many rows are new, counted file by file
 abbrev pub new_rows : List Event → List Brought → ℕ
@@ -62,4 +63,5 @@ FilesAgree =
 
 -- files that are taken leave events that fit, where those that were kept fit
 abbrev pub TakenFilesFit : Type 0
-TakenFilesFit = (tags : List Name) (kept : List Event) (files : List Brought) → is_fit kept ≡ true → are_taken tags kept files ≡ true → is_fit (kept_after kept files) ≡ true
+TakenFilesFit = (tags : List Name) (kept : List Event) (files : List Brought) → is_fit kept ≡ true
+    → are_taken tags kept files ≡ true → is_fit (kept_after kept files) ≡ true

@@ -20,7 +20,8 @@ kind_no Sup = 5
 kind_no Unsup = 6
 
 abbrev pub same_event : Event → Event → Bool
-same_event a b = (a.seq == b.seq) && (a.moment == b.moment) && same_name a.tag b.tag && (kind_no a.kind == kind_no b.kind)
+same_event a b =
+    (a.seq == b.seq) && (a.moment == b.moment) && same_name a.tag b.tag && (kind_no a.kind == kind_no b.kind)
 
 -- the same number, and other content
 abbrev pub clashes : Event → Event → Bool
@@ -43,7 +44,8 @@ merge_fault tags now others e =
 abbrev pub first_fault : List Name → ℕ → ℕ → List Event → List Event → Option BadFile
 first_fault tags now line others [] = None
 first_fault tags now line others (e ∷ rows) =
-    or_else (option_map (bad line) (merge_fault tags now others e)) (first_fault tags now (line + 1) (others ++ e ∷ []) rows)
+    or_else (option_map (bad line) (merge_fault tags now others e))
+        (first_fault tags now (line + 1) (others ++ e ∷ []) rows)
 
 -- a row that is none of these
 abbrev pub is_new : List Event → Event → Bool

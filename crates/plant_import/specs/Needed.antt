@@ -31,7 +31,8 @@ needed kept rows = if has_late kept rows then kept else from_last_before kept ro
 
 -- with the events that it needs, a file has the same first fault and adds the same rows as with all events
 abbrev pub NeededSuffice : Type 0
-NeededSuffice = (kept rows : List Event) (tags : List Name) (now : ℕ) → IsRising kept → merge (needed kept rows) rows tags now ≡ merge kept rows tags now
+NeededSuffice = (kept rows : List Event) (tags : List Name) (now : ℕ) → IsRising kept
+    → merge (needed kept rows) rows tags now ≡ merge kept rows tags now
 
 -- if a file has no fault and no late row, an alarm's events after it are its kept events followed by its new ones
 abbrev pub NewOnesFollow : Type 0
@@ -40,4 +41,5 @@ NewOnesFollow =
     → IsRising kept
     → first_fault tags now 2 kept rows ≡ None
     → has_late kept rows ≡ false
-    → filter (λ e. same_name a e.tag) (with_events kept (fresh kept rows)) ≡ filter (λ e. same_name a e.tag) kept ++ filter (λ e. same_name a e.tag) (with_events [] (fresh kept rows))
+    → filter (λ e. same_name a e.tag) (with_events kept (fresh kept rows)) ≡ filter (λ e. same_name a e.tag) kept
+    ++ filter (λ e. same_name a e.tag) (with_events [] (fresh kept rows))

@@ -15,7 +15,8 @@ numbers_of es = map (λ e. e.seq) es
 
 -- the numbers of a file that no kept event has, each once
 abbrev pub new_numbers : List Event → List Event → List ℕ
-new_numbers kept rows = unique_keys (eq_by_cmp nat_cmp) (numbers_of (filter (λ e. not (list_any (has_number e.seq) kept)) rows))
+new_numbers kept rows =
+    unique_keys (eq_by_cmp nat_cmp) (numbers_of (filter (λ e. not (list_any (has_number e.seq) kept)) rows))
 
 -- events with more of them, each put where its number belongs
 abbrev pub with_events : List Event → List Event → List Event

@@ -44,7 +44,8 @@ AreKnown known tags = (a : Name) → contains name_cmp known a ≡ list_any (sam
 -- the row's fault, or whether it is new
 abbrev pub JudgesRow : List Name → ℕ → List Event → List Event → Event → Result Bool Cause → Type 0
 JudgesRow tags now kept seen e (Err cause) = merge_fault tags now (kept ++ seen) e ≡ Some cause
-JudgesRow tags now kept seen e (Ok new) = (merge_fault tags now (kept ++ seen) e ≡ None) × (is_new (kept ++ seen) e ≡ new)
+JudgesRow tags now kept seen e (Ok new) = (merge_fault tags now (kept ++ seen) e ≡ None)
+    × (is_new (kept ++ seen) e ≡ new)
 
 -- what the relation to the kept events and to the earlier new rows comes to
 abbrev pub joined : Relation → Relation → Result Bool Cause

@@ -12,10 +12,12 @@ use Rattle.plant_line.specs.declared.words.{Line.{Line}, Service.{Service}, Task
 abbrev pub service_from : Option ℕ → Option ℕ → Option ℕ → Bool → Option ℕ → Option Service
 service_from None connections clients forever idle = None
 service_from (Some port) connections clients false idle =
-    Some (record { port = port; connections = unwrap_or connections 1; clients = unwrap_or clients 1; idle = idle; while_open = false })
+    Some (record { port = port; connections = unwrap_or connections 1; clients = unwrap_or clients 1; idle = idle;
+        while_open = false })
 service_from (Some port) connections clients true idle =
     let all = 2 ^ 64 - 1 in
-    Some (record { port = port; connections = all; clients = unwrap_or clients 256; idle = Some (unwrap_or idle 30); while_open = true })
+    Some (record { port = port; connections = all; clients = unwrap_or clients 256; idle = Some (unwrap_or idle 30);
+        while_open = true })
 
 -- The task for an older file, a file of the tables and a port, each if named: the older file is migrated to the file of
 -- the tables; or, if no older file is named, the office is served over that file, or in memory, and over the port, or
@@ -29,7 +31,8 @@ abbrev pub said : ArgMatches → List ℕ → Option (List ℕ)
 said options name = first_value (found_of options) name
 
 -- the value of the option with this name, as `gives` reads its text: none where it was not given
-pub record IsValueOf {A E : Type 0} (gives : List ℕ → Result A E → Type 0) (options : ArgMatches) (name : List ℕ) (value : Option A) : Type 0 where
+pub record IsValueOf {A E : Type 0} (gives : List ℕ → Result A E → Type 0) (options : ArgMatches) (name : List ℕ)
+    (value : Option A) : Type 0 where
   pub missing : one_text (found_of options) name ≡ None → value ≡ None
   pub given : (text : List ℕ) → one_text (found_of options) name ≡ Some text → ReadsOne gives text value
 
@@ -41,7 +44,8 @@ pub record IsFlagOf (options : ArgMatches) (name : List ℕ) (is_set : Bool) : T
 
 -- how a port is served, by the options `--port`, `--connections`, `--clients`, `--forever` and `--idle`; `gives_port`
 -- and `gives` read their numbers
-pub record IsServiceOf {E : Type 0} (gives_port gives : List ℕ → Result ℕ E → Type 0) (options : ArgMatches) (service : Option Service) : Type 0 where
+pub record IsServiceOf {E : Type 0} (gives_port gives : List ℕ → Result ℕ E → Type 0) (options : ArgMatches)
+    (service : Option Service) : Type 0 where
   pub port : Option ℕ
   pub connections : Option ℕ
   pub clients : Option ℕ
@@ -56,7 +60,8 @@ pub record IsServiceOf {E : Type 0} (gives_port gives : List ℕ → Result ℕ 
 
 -- the line that the options ask for: `--admin` names the administrator, `--migrate` the older file, `--db` the file of
 -- the tables
-pub record IsLineOf {E : Type 0} (gives_port gives : List ℕ → Result ℕ E → Type 0) (options : ArgMatches) (line : Line) : Type 0 where
+pub record IsLineOf {E : Type 0} (gives_port gives : List ℕ → Result ℕ E → Type 0) (options : ArgMatches)
+    (line : Line) : Type 0 where
   pub admin : person_of (unwrap_or (said options (codes "admin")) []) ≡ Some line.admin
   pub service : Option Service
   pub service_is : IsServiceOf gives_port gives options service

@@ -12,7 +12,8 @@ use Rattle.plant_types.{specs.{Names.{Name, same_name}, declared.fault.Fault.{Fa
 
 -- ---- what is found is there
 
-pub found_there : (u : Name) (there : There) (es : List Copy) (copy : AtHand) → AreCopies there es → lookup (same_name u) es ≡ Some copy → IsCopy there (u, copy)
+pub found_there : (u : Name) (there : There) (es : List Copy) (copy : AtHand) → AreCopies there es → lookup (same_name u) es ≡ Some copy
+    → IsCopy there (u, copy)
 found_there u there [] copy h e = absurd (cc e)
 found_there u there (c ∷ es) copy h e =
     elim (same_name u c.0) as (λ b. same_name u c.0 ≡ b → cond b (Some c.1) (lookup (same_name u) es) ≡ Some copy → IsCopy there (u, copy)) [
@@ -20,16 +21,19 @@ found_there u there (c ∷ es) copy h e =
       | false ↦ λ p q. found_there u there es copy h.1 q
     ] refl e
 
-entry_there : (u : Name) (there : There) (es : List Copy) (c : Copy) → AreCopies there es → lookup_entry (same_name u) es ≡ Some c → IsCopy there c × (same_name u c.0 ≡ true)
+entry_there : (u : Name) (there : There) (es : List Copy) (c : Copy) → AreCopies there es → lookup_entry (same_name u) es ≡ Some c
+    → IsCopy there c × (same_name u c.0 ≡ true)
 entry_there u there [] c h e = absurd (cc e)
 entry_there u there (d ∷ es) c h e =
-    elim (same_name u d.0) as (λ b. same_name u d.0 ≡ b → cond b (Some d) (lookup_entry (same_name u) es) ≡ Some c → IsCopy there c × (same_name u c.0 ≡ true)) [
+    elim (same_name u d.0) as (λ b. same_name u d.0 ≡ b → cond b (Some d) (lookup_entry (same_name u) es) ≡ Some c
+        → IsCopy there c × (same_name u c.0 ≡ true)) [
       | true ↦ λ p q. let same : d ≡ c = cc q in (subst (IsCopy there) same h.0, subst (λ (x : Copy). same_name u x.0 ≡ true) same p)
       | false ↦ λ p q. entry_there u there es c h.1 q
     ] refl e
 
 -- a copy that was taken out is one of its unit
-pub taken_there : (u : Name) (there : There) (es : List Copy) (c : Copy) → AreCopies there es → Some c ≡ lookup_entry (same_name u) es → (u ≡ c.0) × IsCopy there (u, c.1)
+pub taken_there : (u : Name) (there : There) (es : List Copy) (c : Copy) → AreCopies there es → Some c ≡ lookup_entry (same_name u) es
+    → (u ≡ c.0) × IsCopy there (u, c.1)
 taken_there u there es c h e =
     let it = entry_there u there es c h (sym e) in
     let same : u ≡ c.0 = same_of u c.0 it.1 in
@@ -57,23 +61,30 @@ true_promoted u there es h = by (lookup_entry (same_name u) es) refl
     by None e = h
     by (Some c) e = ((entry_there u there es c h e).0, true_removed u there es h)
 
-pub true_put : (there : There) (c : LruCache Name AtHand) (u : Name) (copy : AtHand) → AreCopies there c.entries → IsCopy there (u, copy) → AreCopies there (put_entries same_name c u copy)
+pub true_put : (there : There) (c : LruCache Name AtHand) (u : Name) (copy : AtHand) → AreCopies there c.entries → IsCopy there (u, copy)
+    → AreCopies there (put_entries same_name c u copy)
 true_put there c u copy h is = by (lookup_entry (same_name u) c.entries) refl
   where
-    by : (o : Option Copy) → lookup_entry (same_name u) c.entries ≡ o → AreCopies there (option_map_or (λ (e : Copy). (e.0, copy) ∷ remove_entry (same_name u) c.entries) o ((u, copy) ∷ take (c.cap - 1) c.entries))
+    by : (o : Option Copy) → lookup_entry (same_name u) c.entries ≡ o
+        → AreCopies there (option_map_or (λ (e : Copy). (e.0, copy) ∷ remove_entry (same_name u) c.entries) o ((u, copy)
+        ∷ take (c.cap - 1) c.entries))
     by None e = (is, true_taken (c.cap - 1) there c.entries h)
-    by (Some d) e = (subst (λ (v : Name). IsCopy there (v, copy)) (same_of u d.0 (entry_there u there c.entries d h e).1) is, true_removed u there c.entries h)
+    by (Some d) e =
+        (subst (λ (v : Name). IsCopy there (v, copy)) (same_of u d.0 (entry_there u there c.entries d h e).1) is, true_removed u there c.entries h)
 
 -- ---- without a unit's copy the others stay true where its rows change
 
 still_true : (there after : There) (c : Copy) → after c.0 ≡ there c.0 → IsCopy there c → IsCopy after c
 still_true there after c same h = record { same = ap (option_map (seen c.1.has_events)) same ∙ h.same; ordered = h.ordered }
 
-others_true : (u v : Name) (there after : There) (es : List Copy) → u ≡ v → AllByRecursion (λ w. same_name v w ≡ false) (keys_of es) → ((w : Name) → same_name u w ≡ false → after w ≡ there w) → AreCopies there es → AreCopies after es
+others_true : (u v : Name) (there after : There) (es : List Copy) → u ≡ v → AllByRecursion (λ w. same_name v w ≡ false) (keys_of es)
+    → ((w : Name) → same_name u w ≡ false → after w ≡ there w) → AreCopies there es → AreCopies after es
 others_true u v there after [] e apart same h = tt
-others_true u v there after (c ∷ es) e apart same h = (still_true there after c (same c.0 (ap (λ x. same_name x c.0) e ∙ apart.0)) h.0, others_true u v there after es e apart.1 same h.1)
+others_true u v there after (c ∷ es) e apart same h =
+    (still_true there after c (same c.0 (ap (λ x. same_name x c.0) e ∙ apart.0)) h.0, others_true u v there after es e apart.1 same h.1)
 
-pub true_without : (u : Name) (there after : There) (es : List Copy) → IsDistinct same_name (keys_of es) → ((w : Name) → same_name u w ≡ false → after w ≡ there w) → AreCopies there es → AreCopies after (remove_entry (same_name u) es)
+pub true_without : (u : Name) (there after : There) (es : List Copy) → IsDistinct same_name (keys_of es)
+    → ((w : Name) → same_name u w ≡ false → after w ≡ there w) → AreCopies there es → AreCopies after (remove_entry (same_name u) es)
 unfolding IsDistinct
 true_without u there after [] apart same h = tt
 true_without u there after (c ∷ es) apart same h =
@@ -84,10 +95,12 @@ true_without u there after (c ∷ es) apart same h =
 
 -- ---- how many rows there are
 
-pub count_removed : (u : Name) (es : List Copy) (c : Copy) → lookup_entry (same_name u) es ≡ Some c → rows_of_all es ≡ row_count c.1.rows + rows_of_all (remove_entry (same_name u) es)
+pub count_removed : (u : Name) (es : List Copy) (c : Copy) → lookup_entry (same_name u) es ≡ Some c
+    → rows_of_all es ≡ row_count c.1.rows + rows_of_all (remove_entry (same_name u) es)
 count_removed u [] c e = absurd (cc e)
 count_removed u (d ∷ es) c e =
-    let here : ◌≡◌ {A = Option Copy} (Some d) (Some c) → row_count d.1.rows ≡ row_count c.1.rows = λ q. let same : d ≡ c = cc q in ap (λ (x : Copy). row_count x.1.rows) same in
+    let here : ◌≡◌ {A = Option Copy} (Some d) (Some c)
+        → row_count d.1.rows ≡ row_count c.1.rows = λ q. let same : d ≡ c = cc q in ap (λ (x : Copy). row_count x.1.rows) same in
     grind (arith, here, count_removed u es c)
 
 pub count_promoted : (u : Name) (es : List Copy) → rows_of_all (promoted (same_name u) es) ≡ rows_of_all es
@@ -98,7 +111,8 @@ count_taken zero es = omega arith
 count_taken (suc n) [] = omega arith
 count_taken (suc n) (c ∷ es) = let rest = count_taken n es in omega (arith, rest)
 
-at_last : (n : ℕ) (es : List Copy) (c : Copy) → length es ≡ suc n → Some c ≡ slice_get es n → rows_of_all es ≡ rows_of_all (take n es) + row_count c.1.rows
+at_last : (n : ℕ) (es : List Copy) (c : Copy) → length es ≡ suc n → Some c ≡ slice_get es n
+    → rows_of_all es ≡ rows_of_all (take n es) + row_count c.1.rows
 at_last n [] c l e = absurd (omega (arith, l))
 at_last zero (d ∷ []) c l e = let same : c ≡ d = cc e in let many = ap (λ (x : Copy). row_count x.1.rows) same in omega (arith, many)
 at_last zero (d ∷ f ∷ es) c l e = absurd (omega (arith, l))
@@ -115,10 +129,13 @@ pub count_rest : (u : Name) (es : List Copy) → rows_of_all (remove_entry (same
 count_rest u [] = omega arith
 count_rest u (d ∷ es) = grind (arith, count_rest u es)
 
-pub count_put : (c : LruCache Name AtHand) (u : Name) (copy : AtHand) → rows_of_all (put_entries same_name c u copy) ≤ row_count copy.rows + rows_of_all c.entries
+pub count_put : (c : LruCache Name AtHand) (u : Name) (copy : AtHand)
+    → rows_of_all (put_entries same_name c u copy) ≤ row_count copy.rows + rows_of_all c.entries
 count_put c u copy = by (lookup_entry (same_name u) c.entries) refl
   where
-    by : (o : Option Copy) → lookup_entry (same_name u) c.entries ≡ o → rows_of_all (option_map_or (λ (e : Copy). (e.0, copy) ∷ remove_entry (same_name u) c.entries) o ((u, copy) ∷ take (c.cap - 1) c.entries)) ≤ row_count copy.rows + rows_of_all c.entries
+    by : (o : Option Copy) → lookup_entry (same_name u) c.entries ≡ o
+        → rows_of_all (option_map_or (λ (e : Copy). (e.0, copy) ∷ remove_entry (same_name u) c.entries) o ((u, copy)
+        ∷ take (c.cap - 1) c.entries)) ≤ row_count copy.rows + rows_of_all c.entries
     by None e = let rest = count_taken (c.cap - 1) c.entries in omega (arith, rest)
     by (Some d) e = let rest = count_removed u c.entries d e in omega (arith, rest)
 
@@ -133,36 +150,42 @@ all_there b o rows whole e = grind arith
 seen_but_events : (b : Bool) (rows : UnitRows) → without_events (seen b rows) ≡ without_events rows
 seen_but_events b rows = grind arith
 
-pub all_but_events : (b : Bool) (o : Option UnitRows) (rows : UnitRows) → option_map (seen b) o ≡ Some rows → Some (without_events rows) ≡ option_map without_events o
+pub all_but_events : (b : Bool) (o : Option UnitRows) (rows : UnitRows) → option_map (seen b) o ≡ Some rows
+    → Some (without_events rows) ≡ option_map without_events o
 all_but_events b o rows e = grind (arith, seen_but_events b)
 
 events_again : (b : Bool) (rows : UnitRows) → record (seen b rows) { events = rows.events } ≡ rows
 events_again b rows = grind arith
 
-pub seen_with_events : (b : Bool) (o : Option UnitRows) (rows : UnitRows) → option_map (seen b) o ≡ Some rows → o ≡ Some (record rows { events = (unwrap_or o no_rows).events })
+pub seen_with_events : (b : Bool) (o : Option UnitRows) (rows : UnitRows) → option_map (seen b) o ≡ Some rows
+    → o ≡ Some (record rows { events = (unwrap_or o no_rows).events })
 seen_with_events b None rows e = absurd (cc e)
 seen_with_events b (Some r) rows e =
     let same : seen b r ≡ rows = cc e in
     ap (λ x. Some x) (sym (events_again b r)) ∙ ap (λ (x : UnitRows). Some (record x { events = r.events })) same
 
-pub shelves_seen : (u : Name) (b : Bool) (o : Option UnitRows) (rows : UnitRows) → option_map (seen b) o ≡ Some rows → shelves_there u o ≡ map (mine_row u rows) rows.shelves
+pub shelves_seen : (u : Name) (b : Bool) (o : Option UnitRows) (rows : UnitRows) → option_map (seen b) o ≡ Some rows
+    → shelves_there u o ≡ map (mine_row u rows) rows.shelves
 shelves_seen u b None rows e = absurd (cc e)
 shelves_seen u true (Some r) rows e = let same : r ≡ rows = cc e in ap (λ (x : UnitRows). map (mine_row u x) x.shelves) same
 shelves_seen u false (Some r) rows e = let same : without_events r ≡ rows = cc e in ap (λ (x : UnitRows). map (mine_row u x) x.shelves) same
 
 -- the part of a call, where it is that of the rows which there are
-pub part_there : (c : Call) (b : Bool) (o : Option UnitRows) (rows : UnitRows) → option_map (seen b) o ≡ Some rows → ((r : UnitRows) → seen b r ≡ rows → part_of c rows ≡ part_of c r) → Some (part_of c rows) ≡ option_map (part_of c) o
+pub part_there : (c : Call) (b : Bool) (o : Option UnitRows) (rows : UnitRows) → option_map (seen b) o ≡ Some rows
+    → ((r : UnitRows) → seen b r ≡ rows → part_of c rows ≡ part_of c r) → Some (part_of c rows) ≡ option_map (part_of c) o
 part_there c b None rows e h = absurd (cc e)
 part_there c b (Some r) rows e h = let same : seen b r ≡ rows = cc e in ap (λ x. Some x) (h r same)
 
 -- a part that was made of rows at hand is that of the unit
 pub made_there : (said : Result UnitPart Fault) (made : Result (Option UnitPart) Fault) (part : UnitPart) (there : Option UnitPart)
     → IfOk made (λ o. IfSome o (λ x. said ≡ Ok x)) → IfOk said (λ y. y ≡ part) → Some part ≡ there → IfOk made (λ o. IfSome o (λ x. Some x ≡ there))
-made_there said (Ok (Some x)) part there is gives at = let given : x ≡ part = subst (λ (r : Result UnitPart Fault). IfOk r (λ y. y ≡ part)) is gives in ap (λ y. Some y) given ∙ at
+made_there said (Ok (Some x)) part there is gives at = let given : x ≡ part =
+    subst (λ (r : Result UnitPart Fault). IfOk r (λ y. y ≡ part)) is gives in ap (λ y. Some y) given ∙ at
 made_there said (Ok None) part there is gives at = tt
 made_there said (Err e) part there is gives at = tt
 
-pub part_seen : (c : Call) (b : Bool) (kept rows : UnitRows) → seen b rows ≡ kept → looks_at_events c.request ≡ false → part_of c kept ≡ part_of c rows
+pub part_seen : (c : Call) (b : Bool) (kept rows : UnitRows) → seen b rows ≡ kept → looks_at_events c.request ≡ false
+    → part_of c kept ≡ part_of c rows
 part_seen c b kept rows e none = grind (arith, part_without c rows)
 
 -- ---- what changes of a unit leave of the others, and what they make of the unit
@@ -173,14 +196,17 @@ others_stay m u cs v e = grind (arith, get-insert name_total m.units u (changed_
 pub unit_after : (m : Content) (u : Name) (cs : List RowEdit) → get (after_changes m u cs).units u ≡ Some (changed_by cs (rows_in m u))
 unit_after m u cs = grind (arith, get-insert name_total m.units u (changed_by cs (rows_in m u)) u, (eq_by_cmp_equiv name_total).refl u)
 
-seen_changed : (b : Bool) (cs : List RowEdit) (rows : UnitRows) → (not b && puts_event cs) ≡ false → seen b (changed_by cs rows) ≡ changed_by cs (seen b rows)
+seen_changed : (b : Bool) (cs : List RowEdit) (rows : UnitRows) → (not b && puts_event cs) ≡ false
+    → seen b (changed_by cs rows) ≡ changed_by cs (seen b rows)
 seen_changed b cs rows none = grind (arith, changed_without cs rows)
 
 seen_rows : (b : Bool) (o : Option UnitRows) (rows : UnitRows) → option_map (seen b) o ≡ Some rows → seen b (unwrap_or o no_rows) ≡ rows
 seen_rows b o rows e = grind arith
 
 -- a copy after changes is one of the unit after them
-pub changed_there : (m : Content) (u : Name) (cs : List RowEdit) (copy after : AtHand) → IsCopy (get m.units) (u, copy) → after.has_events ≡ copy.has_events → after.rows ≡ changed_by cs copy.rows → (not copy.has_events && puts_event cs) ≡ false → IsCopy (get (after_changes m u cs).units) (u, after)
+pub changed_there : (m : Content) (u : Name) (cs : List RowEdit) (copy after : AtHand) → IsCopy (get m.units) (u, copy)
+    → after.has_events ≡ copy.has_events → after.rows ≡ changed_by cs copy.rows → (not copy.has_events && puts_event cs) ≡ false
+    → IsCopy (get (after_changes m u cs).units) (u, after)
 changed_there m u cs copy after h flag is none =
     let b = copy.has_events in
     let there = ap (option_map (seen b)) (unit_after m u cs) in

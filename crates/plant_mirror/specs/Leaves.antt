@@ -8,16 +8,20 @@ use Rattle.plant_types.specs.declared.fault.Fault.{Fault}
 -- a question changes nothing: books and copies hold the same content, the keeper's premise held before, and answers
 -- Store are counted
 pub record Leaves {B A : Type 0} (books : Ghosts B) (said : Result A Fault) (before after : Mirror B) : Type 0 where
-  pub same : (m : Content) → IsMirrored (books.represents before.books) (books.is_honest before.books) before.copies.units.entries m
+  pub same : (m : Content)
+      → IsMirrored (books.represents before.books) (books.is_honest before.books) before.copies.units.entries m
       → IsMirrored (books.represents after.books) (books.is_honest after.books) after.copies.units.entries m
   pub honest : books.is_honest after.books → books.is_honest before.books
   pub count : Counts (books.stores before.books) (books.stores after.books) said
-  pub crash : LosesNothing books.represents books.is_honest books.is_clean books.leaves_books books.may_leave before.books after.books
+  pub crash : LosesNothing books.represents books.is_honest books.is_clean books.leaves_books books.may_leave
+      before.books after.books
 
 -- the books hold the content, and the copies beside them are true of it
 abbrev pub Mirrors : {B : Type 0} → Ghosts B → Mirror B → Content → Type 0
 Mirrors books m content = IsMirrored (books.represents m.books) (books.is_honest m.books) m.copies.units.entries content
 
 -- what is answered is so of every content that the books held
-abbrev pub AnswersOf : {B A : Type 0} → Ghosts B → Mirror B → Mirror B → Result A Fault → (Content → A → Type 0) → Type 0
-AnswersOf books before after said what = (m : Content) → books.represents before.books m → books.is_honest after.books → IfOk said (what m)
+abbrev pub AnswersOf : {B A : Type 0} → Ghosts B → Mirror B → Mirror B → Result A Fault → (Content → A → Type 0)
+    → Type 0
+AnswersOf books before after said what = (m : Content) → books.represents before.books m → books.is_honest after.books
+    → IfOk said (what m)

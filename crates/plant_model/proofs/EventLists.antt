@@ -61,7 +61,8 @@ pub one_said : (es : List Event) (n : ℕ) → is_fit es ≡ true → (o p : Opt
 one_said es n fit None None h k = refl
 one_said es n fit None (Some y) h k = absurd (clash_of (list_any (has_number n) es) (same_any (has_number n) y es k.0 k.1) h)
 one_said es n fit (Some x) None h k = absurd (clash_of (list_any (has_number n) es) (same_any (has_number n) x es h.0 h.1) k)
-one_said es n fit (Some x) (Some y) h k = ap (λ z. Some z) (one_content es x y fit h.0 k.0 (sym (same_number_of n x.seq h.1) ∙ same_number_of n y.seq k.1))
+one_said es n fit (Some x) (Some y) h k =
+    ap (λ z. Some z) (one_content es x y fit h.0 k.0 (sym (same_number_of n x.seq h.1) ∙ same_number_of n y.seq k.1))
 
 -- a file without a fault
 module _ (tags : List Name) (now : ℕ) (kept rows : List Event) (fit : is_fit kept ≡ true) (clean : first_fault tags now 2 kept rows ≡ None) where
@@ -69,14 +70,19 @@ module _ (tags : List Name) (now : ℕ) (kept rows : List Event) (fit : is_fit k
   whole_fits = file_fits tags now 2 kept rows fit clean
 
   -- its new rows say what all its rows say
-  pub new_rows_say : (n : ℕ) → or_else (find (has_number n) rows) (find (has_number n) kept) ≡ or_else (said nat_cmp event_number (fresh kept rows) n) (find (has_number n) kept)
+  pub new_rows_say : (n : ℕ)
+      → or_else (find (has_number n) rows) (find (has_number n) kept) ≡ or_else (said nat_cmp event_number (fresh kept rows) n)
+      (find (has_number n) kept)
   new_rows_say n =
       one_said (kept ++ rows) n whole_fits _ _
       (of_both n kept rows _ _ (of_find n rows) (of_find n kept))
-      (of_same n (kept ++ fresh kept rows) (kept ++ rows) (or_else (said nat_cmp event_number (fresh kept rows) n) (find (has_number n) kept)) (kept_fresh kept rows) (of_both n kept (fresh kept rows) _ _ (of_said n (fresh kept rows)) (of_find n kept)))
+      (of_same n (kept ++ fresh kept rows) (kept
+      ++ rows) (or_else (said nat_cmp event_number (fresh kept rows) n)
+      (find (has_number n) kept)) (kept_fresh kept rows) (of_both n kept (fresh kept rows) _ _ (of_said n (fresh kept rows)) (of_find n kept)))
 
   -- where a new row has a number, no other event is kept under it
-  pub new_alone : (n : ℕ) (y : Event) → said nat_cmp event_number (fresh kept rows) n ≡ Some y → (x : Event) → find (has_number n) kept ≡ Some x → x ≡ y
+  pub new_alone : (n : ℕ) (y : Event) → said nat_cmp event_number (fresh kept rows) n ≡ Some y → (x : Event) → find (has_number n) kept ≡ Some x
+      → x ≡ y
   new_alone n y is x found =
       let new = subst (IsOf (fresh kept rows) n) is (of_said n (fresh kept rows)) in
       let old = subst (IsOf kept n) found (of_find n kept) in
@@ -102,22 +108,28 @@ only a o = option_and_then (λ e. when (same_name a e.tag) e) o
 
 only_cons : (a : Name) (o : Option Event) (es : List Event) → of_alarm a (cons_option o es) ≡ cons_option (only a o) (of_alarm a es)
 only_cons a None es = refl
-only_cons a (Some e) es = elim (same_name a e.tag) as (λ b. cond b (e ∷ of_alarm a es) (of_alarm a es) ≡ cons_option (when b e) (of_alarm a es)) [ true ↦ refl | false ↦ refl ]
+only_cons a (Some e) es =
+    elim (same_name a e.tag) as (λ b. cond b (e ∷ of_alarm a es) (of_alarm a es)
+    ≡ cons_option (when b e) (of_alarm a es)) [ true ↦ refl | false ↦ refl ]
 
 pub only_told : (a : Name) (f : ℕ → Option Event) (ns : List ℕ) → of_alarm a (filter_map f ns) ≡ filter_map (λ n. only a (f n)) ns
 only_told a f [] = refl
 only_told a f (n ∷ ns) = only_cons a (f n) (filter_map f ns) ∙ ap (cons_option (only a (f n))) (only_told a f ns)
 
 -- a row of the file is of an alarm that is there
-tag_known : (a b c d : Bool) → first_cause ((not a, TagUnknown) ∷ (b, MomentAhead) ∷ (c, SequenceClash) ∷ (d, MomentOutOfOrder) ∷ []) ≡ None → a ≡ true
+tag_known : (a b c d : Bool) → first_cause ((not a, TagUnknown) ∷ (b, MomentAhead) ∷ (c, SequenceClash) ∷ (d, MomentOutOfOrder) ∷ []) ≡ None
+    → a ≡ true
 tag_known true b c d e = refl
 tag_known false b c d e = cc
 
-row_known : (tags : List Name) (now : ℕ) (others : List Event) (e : Event) → merge_fault tags now others e ≡ None → list_any (same_name e.tag) tags ≡ true
+row_known : (tags : List Name) (now : ℕ) (others : List Event) (e : Event) → merge_fault tags now others e ≡ None
+    → list_any (same_name e.tag) tags ≡ true
 unfolding merge_fault
-row_known tags now others e h = tag_known (list_any (same_name e.tag) tags) (nat_lt now e.moment) (list_any (clashes e) others) (list_any (out_of_order e) others) h
+row_known tags now others e h =
+    tag_known (list_any (same_name e.tag) tags) (nat_lt now e.moment) (list_any (clashes e) others) (list_any (out_of_order e) others) h
 
-pub rows_known : (tags : List Name) (now line : ℕ) (others rows : List Event) → first_fault tags now line others rows ≡ None → are_known tags rows ≡ true
+pub rows_known : (tags : List Name) (now line : ℕ) (others rows : List Event) → first_fault tags now line others rows ≡ None
+    → are_known tags rows ≡ true
 rows_known tags now line others [] h = refl
 rows_known tags now line others (e ∷ rows) h =
     let parts = no_first line (merge_fault tags now others e) (first_fault tags now (line + 1) (others ++ e ∷ []) rows) h in
@@ -126,7 +138,8 @@ rows_known tags now line others (e ∷ rows) h =
     λ i. here i && rest i
 
 -- fit events in the order of their numbers rise: no moment falls
-below_each : (e : Event) (es : List Event) → T (below_all nat_cmp e.seq (map (λ x. (event_number x, x)) es)) → list_any (out_of_order e) es ≡ false → Each (Before e) es
+below_each : (e : Event) (es : List Event) → T (below_all nat_cmp e.seq (map (λ x. (event_number x, x)) es)) → list_any (out_of_order e) es ≡ false
+    → Each (Before e) es
 below_each e [] below order = tt
 below_each e (x ∷ es) below order =
     let o = or_parts (out_of_order e x) (list_any (out_of_order e) es) order in
@@ -152,4 +165,5 @@ distinct_rising (e ∷ es) h = (others es h.0, distinct_rising es h.1) where
   others : (es : List Event) → Each (Before e) es → AllByRecursion (λ x. same_event e x ≡ false) es
   others [] h = tt
   others (x ∷ es) h =
-      (false_from_ne_true (same_event e x) (λ is. let same : e.seq ≡ x.seq = ap event_number (same_is e x is) in let less = h.0.0 in omega (arith, same, less)), others es h.1)
+      (false_from_ne_true (same_event e x) (λ is. let same : e.seq ≡ x.seq = ap event_number (same_is e x is) in let less = h.0.0 in
+      omega (arith, same, less)), others es h.1)

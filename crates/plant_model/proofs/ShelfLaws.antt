@@ -26,46 +26,62 @@ in_time : (h : List Call) → IsLegal h → (a : Name) → IsInTime (events_of h
 in_time h legal a = IsNonDecreasingBy-filter (λ e. e.moment) (λ e. same_name a e.tag) (events h) (moments_rise (events h) (events_rise h legal))
 
 returned_last : (h : List Call) → IsLegal h → (a : Name) (o : Option Bool) → latching h a ≡ o → returned (facts h) a ≡ last_return (events_of h a)
-returned_last h legal a (Some l) is = ap (λ o. option_and_then (λ r. r.return_s) (option_map (alarm_as a (unwrap_or (limit h a) 0) (limit_revision h a) (events_of h a) (outage h a)) o)) is
+returned_last h legal a (Some l) is =
+    ap (λ o. option_and_then (λ r. r.return_s)
+    (option_map (alarm_as a (unwrap_or (limit h a) 0) (limit_revision h a) (events_of h a) (outage h a)) o)) is
 returned_last h legal a None is =
-    ap (λ o. option_and_then (λ r. r.return_s) (option_map (alarm_as a (unwrap_or (limit h a) 0) (limit_revision h a) (events_of h a) (outage h a)) o)) is
+    ap (λ o. option_and_then (λ r. r.return_s)
+        (option_map (alarm_as a (unwrap_or (limit h a) 0) (limit_revision h a) (events_of h a) (outage h a)) o)) is
     ∙ sym (ap last_return (unspoken h legal a is).no_event)
 
 -- ---- rows that a function gives at keys, seen by two that agree at its own rows
 
 module _ {X : Type 0} (row : Name → Option X) where
-  filter_map-agree : {Y : Type 0} (f g : X → Option Y) → ((k : Name) (x : X) → row k ≡ Some x → f x ≡ g x) → (ks : List Name) → filter_map f (filter_map row ks) ≡ filter_map g (filter_map row ks)
+  filter_map-agree : {Y : Type 0} (f g : X → Option Y) → ((k : Name) (x : X) → row k ≡ Some x → f x ≡ g x) → (ks : List Name)
+      → filter_map f (filter_map row ks) ≡ filter_map g (filter_map row ks)
   filter_map-agree f g same [] = refl
   filter_map-agree f g same (k ∷ ks) =
       let rest = filter_map-agree f g same ks in
-      elim (row k) as (λ o. row k ≡ o → filter_map f (cons_option o (filter_map row ks)) ≡ filter_map g (cons_option o (filter_map row ks))) [ None ↦ λ _. rest | Some x ↦ λ is. λ i. cons_option (same k x is i) (rest i) ] refl
+      elim (row k) as (λ o. row k ≡ o
+          → filter_map f (cons_option o (filter_map row ks))
+          ≡ filter_map g (cons_option o (filter_map row ks))) [ None ↦ λ _. rest | Some x ↦ λ is. λ i. cons_option (same k x is i) (rest i) ] refl
 
-  filter-agree : (p q : X → Bool) → ((k : Name) (x : X) → row k ≡ Some x → p x ≡ q x) → (ks : List Name) → filter p (filter_map row ks) ≡ filter q (filter_map row ks)
+  filter-agree : (p q : X → Bool) → ((k : Name) (x : X) → row k ≡ Some x → p x ≡ q x) → (ks : List Name)
+      → filter p (filter_map row ks) ≡ filter q (filter_map row ks)
   filter-agree p q same [] = refl
   filter-agree p q same (k ∷ ks) =
       let rest = filter-agree p q same ks in
-      elim (row k) as (λ o. row k ≡ o → filter p (cons_option o (filter_map row ks)) ≡ filter q (cons_option o (filter_map row ks))) [ None ↦ λ _. rest | Some x ↦ λ is. λ i. cond (same k x is i) (x ∷ rest i) (rest i) ] refl
+      elim (row k) as (λ o. row k ≡ o
+          → filter p (cons_option o (filter_map row ks))
+          ≡ filter q (cons_option o (filter_map row ks))) [ None ↦ λ _. rest | Some x ↦ λ is. λ i. cond (same k x is i) (x ∷ rest i) (rest i) ] refl
 
-  map-all : {Y : Type 0} (f : X → Y) (P : Y → Type 0) → ((k : Name) (x : X) → row k ≡ Some x → P (f x)) → (ks : List Name) → AllByRecursion P (map f (filter_map row ks))
+  map-all : {Y : Type 0} (f : X → Y) (P : Y → Type 0) → ((k : Name) (x : X) → row k ≡ Some x → P (f x)) → (ks : List Name)
+      → AllByRecursion P (map f (filter_map row ks))
   map-all f P holds [] = tt
   map-all f P holds (k ∷ ks) =
       let rest = map-all f P holds ks in
-      elim (row k) as (λ o. row k ≡ o → AllByRecursion P (map f (cons_option o (filter_map row ks)))) [ None ↦ λ _. rest | Some x ↦ λ is. (holds k x is, rest) ] refl
+      elim (row k) as (λ o. row k ≡ o
+          → AllByRecursion P (map f (cons_option o (filter_map row ks)))) [ None ↦ λ _. rest | Some x ↦ λ is. (holds k x is, rest) ] refl
 
-  filter_map-all : {Y : Type 0} (f : X → Option Y) (P : Y → Type 0) → ((k : Name) (x : X) (y : Y) → row k ≡ Some x → f x ≡ Some y → P y) → (ks : List Name) → AllByRecursion P (filter_map f (filter_map row ks))
+  filter_map-all : {Y : Type 0} (f : X → Option Y) (P : Y → Type 0) → ((k : Name) (x : X) (y : Y) → row k ≡ Some x → f x ≡ Some y → P y)
+      → (ks : List Name) → AllByRecursion P (filter_map f (filter_map row ks))
   filter_map-all f P holds [] = tt
   filter_map-all f P holds (k ∷ ks) =
       let rest = filter_map-all f P holds ks in
       elim (row k) as (λ o. row k ≡ o → AllByRecursion P (filter_map f (cons_option o (filter_map row ks)))) [
         | None ↦ λ _. rest
-        | Some x ↦ λ is. elim (f x) as (λ o. f x ≡ o → AllByRecursion P (cons_option o (filter_map f (filter_map row ks)))) [ None ↦ λ _. rest | Some y ↦ λ at. (holds k x y is at, rest) ] refl
+        | Some x ↦ λ is. elim (f x) as (λ o. f x ≡ o
+            → AllByRecursion P (cons_option o (filter_map f (filter_map row ks)))) [ None ↦ λ _. rest | Some y ↦ λ at. (holds k x y is at, rest) ]
+            refl
       ] refl
 
 -- ---- what is said of shelves
 
 module _ (h : List Call) (legal : IsLegal h) (t : ℕ) where
   state_left : (a : Name) → shelf_now (facts h) a t ≡ shelf_in_history h a t
-  state_left a = shelf_by_events (shelf_left (shelf h a)) (events_of h a) (returned (facts h) a) t (in_time h legal a) (returned_last h legal a (latching h a) refl)
+  state_left a =
+      shelf_by_events (shelf_left (shelf h a)) (events_of h a) (returned (facts h) a) t (in_time h legal a)
+      (returned_last h legal a (latching h a) refl)
 
   -- the shelf of a row is that of its alarm
   own_shelf : (k : Name) (s : ShelfRow) → shelf h k ≡ Some s → state_of_shelf (Some s) (returned (facts h) s.tag) t ≡ shelf_in_history h s.tag t
@@ -100,12 +116,18 @@ module _ (h : List Call) (legal : IsLegal h) (t : ℕ) where
       let alarms = in_order name_cmp (tags_of_alarms h) in
       record {
         state = state_left;
-        lines = filter_map-agree (shelf h) (λ s. line_of s (state_of_shelf (Some s) (returned (facts h) s.tag) t)) (λ s. line_of s (shelf_in_history h s.tag t)) (λ k s is. ap (line_of s) (own_shelf k s is)) tags;
-        alarms = map-all (alarm_row h) (alarm_line (facts h) t) (λ (l : AlarmLine). l.shelved ≡ not (is_unshelved (shelf_in_history h l.tag t))) (λ k r is. ap (λ state. not (is_unshelved state)) (own_alarm k r is)) alarms;
-        standing = filter_map-all (alarm_row h) (standing_line (facts h) t) says_left (λ k r l is at. standing_left r (ap (λ state. not (is_unshelved state)) (own_alarm k r is)) l r.active_s at) alarms;
+        lines = filter_map-agree (shelf h) (λ s. line_of s (state_of_shelf (Some s) (returned (facts h) s.tag) t))
+            (λ s. line_of s (shelf_in_history h s.tag t)) (λ k s is. ap (line_of s) (own_shelf k s is)) tags;
+        alarms = map-all (alarm_row h) (alarm_line (facts h) t) (λ (l : AlarmLine). l.shelved ≡ not (is_unshelved (shelf_in_history h l.tag t)))
+            (λ k r is. ap (λ state. not (is_unshelved state)) (own_alarm k r is)) alarms;
+        standing =
+            filter_map-all (alarm_row h)
+            (standing_line (facts h) t) says_left
+            (λ k r l is at. standing_left r (ap (λ state. not (is_unshelved state)) (own_alarm k r is)) l r.active_s at) alarms;
         others = λ a.
             sym (length-filter (others_now a) (shelf_rows h))
-            ∙ ap length (filter-agree (shelf h) (others_now a) (others_left a) (λ k s is. ap (λ state. not (same_name a s.tag) && not (is_unshelved state)) (own_shelf k s is)) tags)
+            ∙ ap length (filter-agree (shelf h) (others_now a) (others_left a) (λ k s is. ap (λ state. not (same_name a s.tag)
+            && not (is_unshelved state)) (own_shelf k s is)) tags)
             ∙ length-filter (others_left a) (shelf_rows h);
       }
 

@@ -26,10 +26,12 @@ staffed = grant amy Approver ∷ grant abe Engineer ∷ base
 
 -- another unit, opened as this one
 abbrev other : List Call
-other = call ste (at 8 0 0) (Grant u2 eve (Engineer, None)) ∷ call ste (at 8 0 0) (Register u2 ft false 3600) ∷ call root (at 8 0 0) (OpenUnit u2 ste (grid 300) 2000) ∷ []
+other = call ste (at 8 0 0) (Grant u2 eve (Engineer, None)) ∷ call ste (at 8 0 0) (Register u2 ft false 3600) ∷ call root (at 8 0 0)
+    (OpenUnit u2 ste (grid 300) 2000) ∷ []
 
 abbrev seal : ℕ → Sheet
-seal severity = record { cause = codes "seal leak"; consequence = codes "loss of pressure"; action = codes "close XV-7"; severity = severity; response = 120 }
+seal severity =
+    record { cause = codes "seal leak"; consequence = codes "loss of pressure"; action = codes "close XV-7"; severity = severity; response = 120 }
 
 abbrev propose : Name → Name → ChangeKind → ℕ → Call
 propose u p k base = call p now (Propose u (record { kind = k; base = base }))
@@ -80,7 +82,9 @@ abbrev withdrawn : List Call
 withdrawn = withdraw eve 2 ∷ approved
 
 changes_read : IsAnswered withdrawn (call vic now (ChangeOf u1 3)) ChangeUnknown
-    × (verdict withdrawn (call vic now (ChangeOf u1 2)) ≡ Ok (ChangeReply (record { number = 2; kind = Rationale pt (seal 2); base = 0; proposer = eve; proposed = now; state = Withdrawn; decider = Some eve; decided = Some now })))
+    × (verdict withdrawn (call vic now (ChangeOf u1 2))
+    ≡ Ok (ChangeReply (record { number = 2; kind = Rationale pt (seal 2); base = 0; proposer = eve; proposed = now; state = Withdrawn;
+    decider = Some eve; decided = Some now })))
 unfolding holds_some
 changes_read = (refl, refl)
 
@@ -96,7 +100,9 @@ whole = call abe now (Reject u1 3) ∷ third ∷ withdrawn
 
 -- the record, with its priority by the matrix in force
 abbrev record_with : Cell → Result Reply Refused
-record_with cell = Ok (RecordReply (record { tag = pt; change = 1; revision = 1; cause = codes "seal leak"; consequence = codes "loss of pressure"; action = codes "close XV-7"; severity = 2; response = 120; priority = cell }))
+record_with cell =
+    Ok (RecordReply (record { tag = pt; change = 1; revision = 1; cause = codes "seal leak"; consequence = codes "loss of pressure";
+    action = codes "close XV-7"; severity = 2; response = 120; priority = cell }))
 
 high : verdict whole (call vic now (RecordOf u1 pt)) ≡ record_with P1
 unfolding holds_some
@@ -117,7 +123,8 @@ unfolding holds_some
 lower = refl
 
 -- the kept cell follows the matrix in force
-kept_cells : ((rows_of whole).records ≡ record { tag = pt; change_no = 1; rev = 1; cell_no = P1 } ∷ []) × ((rows_of rerated).records ≡ record { tag = pt; change_no = 1; rev = 1; cell_no = P2 } ∷ [])
+kept_cells : ((rows_of whole).records ≡ record { tag = pt; change_no = 1; rev = 1; cell_no = P1 } ∷ [])
+    × ((rows_of rerated).records ≡ record { tag = pt; change_no = 1; rev = 1; cell_no = P2 } ∷ [])
 kept_cells = (refl, refl)
 
 abbrev one_row : Grid
@@ -131,14 +138,16 @@ severities_outside = (refl, refl, refl)
 
 -- a unit whose only cell is N
 abbrev quiet : List Call
-quiet = call ste (at 8 0 0) (Register u2 ft false 3600) ∷ call ste (at 8 0 0) (Grant u2 ste (Engineer, None)) ∷ call root (at 8 0 0) (OpenUnit u2 ste (record { limits = []; cells = (N ∷ []) ∷ [] }) 2000) ∷ []
+quiet = call ste (at 8 0 0) (Register u2 ft false 3600) ∷ call ste (at 8 0 0) (Grant u2 ste (Engineer, None)) ∷ call root (at 8 0 0)
+    (OpenUnit u2 ste (record { limits = []; cells = (N ∷ []) ∷ [] }) 2000) ∷ []
 
 not_an_alarm : IsAnswered quiet (propose u2 ste (Rationale ft (seal 1)) 0) NotAnAlarm
 unfolding holds_some
 not_an_alarm = refl
 
 -- bands and cells of each proposed matrix
-matrix_rows : ((rows_of rerated).bands ≡ record { matrix_no = 0; band_no = 1; limit_s = 300 } ∷ record { matrix_no = 4; band_no = 1; limit_s = 60 } ∷ [])
+matrix_rows : ((rows_of rerated).bands ≡ record { matrix_no = 0; band_no = 1; limit_s = 300 } ∷ record { matrix_no = 4; band_no = 1; limit_s = 60 }
+    ∷ [])
     × (length (rows_of rerated).cells ≡ 8)
     × ((rows_of rerated).units ≡ record { last_s = now; matrix_no = 4; matrix_rev = 1; quota = 2000 } ∷ [])
 matrix_rows = (refl, refl, refl)
@@ -165,12 +174,14 @@ limit_in_force = (refl, refl, refl)
 
 -- the line of an alarm has its priority by the matrix in force
 abbrev line_of_pt : Option Cell → AlarmLine
-line_of_pt priority = record { tag = pt; state = Normal; priority = priority; shelved = false; by_design = false; out_of_service = false; limit = 3600 }
+line_of_pt priority =
+    record { tag = pt; state = Normal; priority = priority; shelved = false; by_design = false; out_of_service = false; limit = 3600 }
 
 abbrev line_of_lt : AlarmLine
 line_of_lt = record { tag = lt; state = Normal; priority = None; shelved = false; by_design = false; out_of_service = false; limit = 86400 }
 
-priorities : (verdict whole (call vic now (Alarms u1)) ≡ Ok (AlarmsOf u1 now (line_of_lt ∷ line_of_pt (Some P1) ∷ []))) × (verdict rerated (call vic now (Alarms u1)) ≡ Ok (AlarmsOf u1 now (line_of_lt ∷ line_of_pt (Some P2) ∷ [])))
+priorities : (verdict whole (call vic now (Alarms u1)) ≡ Ok (AlarmsOf u1 now (line_of_lt ∷ line_of_pt (Some P1) ∷ [])))
+    × (verdict rerated (call vic now (Alarms u1)) ≡ Ok (AlarmsOf u1 now (line_of_lt ∷ line_of_pt (Some P2) ∷ [])))
 unfolding holds_some
 priorities = (refl, refl)
 
@@ -178,6 +189,7 @@ priorities = (refl, refl)
 abbrev refused : List Call
 refused = call abe now (Reject u1 4) ∷ shorter ∷ whole
 
-refused_kept : (IsDone (shorter ∷ whole) (call abe now (Reject u1 4))) × (length (rows_of refused).bands ≡ 2) × ((rows_of refused).units ≡ record { last_s = now; matrix_no = 0; matrix_rev = 0; quota = 2000 } ∷ [])
+refused_kept : (IsDone (shorter ∷ whole) (call abe now (Reject u1 4))) × (length (rows_of refused).bands ≡ 2)
+    × ((rows_of refused).units ≡ record { last_s = now; matrix_no = 0; matrix_rev = 0; quota = 2000 } ∷ [])
 unfolding holds_some
 refused_kept = (refl, refl, refl)

@@ -25,7 +25,8 @@ abbrev many : List Event
 many = burst 1 (at 10 0 0) 11 ++ burst 101 (at 10 10 0) 5 ++ burst 201 (at 10 20 0) 4 ++ burst 301 (at 10 30 0) 10 ++ burst 401 (at 10 40 0) 12
 
 floods_of_ranges : (period_counts many (at 10 0 0) (at 10 50 0) ≡ 11 ∷ 5 ∷ 4 ∷ 10 ∷ 12 ∷ [])
-    × (flood_lines many (at 10 0 0) (at 10 50 0) ≡ record { start = at 10 0 0; until = at 10 20 0; total = 16; peak = 11 } ∷ record { start = at 10 40 0; until = at 10 50 0; total = 12; peak = 12 } ∷ [])
+    × (flood_lines many (at 10 0 0) (at 10 50 0) ≡ record { start = at 10 0 0; until = at 10 20 0; total = 16; peak = 11 }
+    ∷ record { start = at 10 40 0; until = at 10 50 0; total = 12; peak = 12 } ∷ [])
     × IsAnswered base (call vic (at 10 50 0) (Floods u1 (at 10 0 0) (at 10 0 0))) RangeNotAligned
     × IsAnswered base (call vic (at 10 50 0) (Floods u1 (at 10 0 1) (at 10 10 0))) RangeNotAligned
     × (verdict base (call vic (at 10 50 0) (Floods u1 (at 10 0 0) (at 10 10 0))) ≡ Ok (FloodsOf u1 (at 10 0 0) (at 10 10 0) []))
@@ -36,7 +37,9 @@ floods_of_ranges = (refl, refl, refl, refl, refl)
 abbrev standing_unit : List Call
 standing_unit = call ann (at 10 0 0) (TimedShelve u1 pt 60 x) ∷ call ann (at 9 30 0) (Import u1 (Ok (event 1 Act (at 9 0 0) pt ∷ []))) ∷ base
 
-standing_list : verdict standing_unit (call vic (at 10 0 0) (Standing u1)) ≡ Ok (StandingOf u1 (at 10 0 0) (record { tag = pt; state = Unacknowledged; priority = None; since = at 9 0 0; shelved = true; by_design = false; out_of_service = false } ∷ []))
+standing_list : verdict standing_unit (call vic (at 10 0 0) (Standing u1))
+    ≡ Ok (StandingOf u1 (at 10 0 0) (record { tag = pt; state = Unacknowledged; priority = None; since = at 9 0 0; shelved = true; by_design = false;
+    out_of_service = false } ∷ []))
 unfolding holds_some
 standing_list = refl
 

@@ -53,7 +53,8 @@ after_the_end = (refl, refl)
 abbrev ended : List Call
 ended = grant_until dan Viewer (at 12 0 0) (at 13 0 0) ∷ anew
 
-ended_withdrawn : IsDone ended (call ste (at 14 0 0) (Withdraw u1 dan Viewer)) × IsAnswered (call ste (at 14 0 0) (Withdraw u1 dan Viewer) ∷ ended) (call ste (at 14 0 0) (Withdraw u1 dan Viewer)) NotHeld
+ended_withdrawn : IsDone ended (call ste (at 14 0 0) (Withdraw u1 dan Viewer))
+    × IsAnswered (call ste (at 14 0 0) (Withdraw u1 dan Viewer) ∷ ended) (call ste (at 14 0 0) (Withdraw u1 dan Viewer)) NotHeld
 unfolding holds_some
 ended_withdrawn = (refl, refl)
 

@@ -81,8 +81,10 @@ repeats_and_faults : IsImported base three 3 0
     × (status (three ∷ base) (at 9 30 0) ≡ plain pt 3600 0 Normal Unshelved)
     × IsImported (three ∷ base) three 0 3
     × (rows_of (three ∷ three ∷ base) ≡ rows_of (three ∷ base))
-    × IsAnswered (three ∷ base) (import_at (at 9 30 0) (row1 ∷ event 2 Rtn (at 9 4 0) pt ∷ row3 ∷ [])) (FileRefused (record { line = 3; cause = SequenceClash }))
-    × IsAnswered base (call ann (at 9 30 0) (Import u1 (Err (record { line = 1; cause = Header })))) (FileRefused (record { line = 1; cause = Header }))
+    × IsAnswered (three ∷ base) (import_at (at 9 30 0) (row1 ∷ event 2 Rtn (at 9 4 0) pt ∷ row3 ∷ []))
+    (FileRefused (record { line = 3; cause = SequenceClash }))
+    × IsAnswered base (call ann (at 9 30 0) (Import u1 (Err (record { line = 1; cause = Header }))))
+    (FileRefused (record { line = 1; cause = Header }))
     × IsImported base (import_at (at 9 30 0) []) 0 0
     × IsAnswered base (import_at (at 9 30 0) (event 1 Act (at 9 0 0) (codes "NO-1") ∷ [])) (FileRefused (record { line = 2; cause = TagUnknown }))
 unfolding holds_some merge_fault
@@ -98,8 +100,10 @@ early = import_at (at 9 30 0) (event 3 Rtn (at 9 0 0) pt ∷ [])
 ordered_by_number : IsImported base late 2 0
     × IsImported (late ∷ base) early 1 0
     × (status (early ∷ late ∷ base) (at 9 30 0) ≡ plain pt 3600 0 Acknowledged Unshelved)
-    × IsAnswered (early ∷ late ∷ base) (import_at (at 9 30 0) (event 4 Ack (at 9 15 0) pt ∷ [])) (FileRefused (record { line = 2; cause = MomentOutOfOrder }))
-    × IsAnswered (early ∷ late ∷ base) (import_at (at 9 30 0) (event 7 Act (at 9 31 0) pt ∷ [])) (FileRefused (record { line = 2; cause = MomentAhead }))
+    × IsAnswered (early ∷ late ∷ base) (import_at (at 9 30 0) (event 4 Ack (at 9 15 0) pt ∷ []))
+    (FileRefused (record { line = 2; cause = MomentOutOfOrder }))
+    × IsAnswered (early ∷ late ∷ base) (import_at (at 9 30 0) (event 7 Act (at 9 31 0) pt ∷ []))
+    (FileRefused (record { line = 2; cause = MomentAhead }))
 unfolding holds_some merge_fault
 ordered_by_number = (refl, refl, refl, refl, refl)
 
@@ -118,7 +122,9 @@ unfolding holds_some merge_fault
 filled_gap = (refl, refl, refl, refl)
 
 -- suppression by design
-suppressed_by_design : (status (one_pt 1 Sup ∷ base) (at 9 30 0) ≡ Ok (StatusOf (record { tag = pt; limit = 3600; limit_revision = 0; state = Normal; shelf = Unshelved; suppressed = true; out_of_service = false; suppressed_or_shelved = true })))
+suppressed_by_design : (status (one_pt 1 Sup ∷ base) (at 9 30 0)
+    ≡ Ok (StatusOf (record { tag = pt; limit = 3600; limit_revision = 0; state = Normal; shelf = Unshelved; suppressed = true; out_of_service = false;
+    suppressed_or_shelved = true })))
     × (status (one_pt 2 Unsup ∷ one_pt 1 Sup ∷ base) (at 9 30 0) ≡ plain pt 3600 0 Normal Unshelved)
 unfolding holds_some merge_fault
 suppressed_by_design = (refl, refl)
@@ -142,7 +148,9 @@ counts_in_two_orders = (refl, refl, refl, refl, refl, refl, refl)
 abbrev rows_after : Call → Call → Call → UnitRows
 rows_after first second third = rows_of (third ∷ second ∷ first ∷ base)
 
-all_orders_agree : (rows_after file12 file13 file23 ≡ rows_after file12 file23 file13) × (rows_after file13 file12 file23 ≡ rows_after file12 file23 file13) × (rows_after file23 file12 file13 ≡ rows_after file12 file23 file13) × (rows_after file23 file13 file12 ≡ rows_after file12 file23 file13)
+all_orders_agree : (rows_after file12 file13 file23 ≡ rows_after file12 file23 file13)
+    × (rows_after file13 file12 file23 ≡ rows_after file12 file23 file13) × (rows_after file23 file12 file13 ≡ rows_after file12 file23 file13)
+    × (rows_after file23 file13 file12 ≡ rows_after file12 file23 file13)
 all_orders_agree = (refl, refl, refl, refl)
 
 abbrev Counts : Call → Call → Call → Type 0

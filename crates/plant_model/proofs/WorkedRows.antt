@@ -9,7 +9,8 @@ use Rattle.plant_types.specs.declared.role.Role.TheVariants.{Viewer}
 
 -- the part of the rows that the call looks at gives its verdict and its changes
 abbrev pub IsByPart : List Call → Call → Type 0
-IsByPart h c = (verdict_of (facts_in (part_of c (rows_of h))) c ≡ verdict h c) × (changed_by (changes_for (facts_in (part_of c (rows_of h))) c) (rows_of h) ≡ rows_of (c ∷ h))
+IsByPart h c = (verdict_of (facts_in (part_of c (rows_of h))) c ≡ verdict h c)
+    × (changed_by (changes_for (facts_in (part_of c (rows_of h))) c) (rows_of h) ≡ rows_of (c ∷ h))
 
 opening_rows : changed_by (changes_for (facts []) (call root (at 8 0 0) (OpenUnit u1 ste (grid 300) 2000))) no_rows ≡ rows_of opened
 opening_rows = refl
@@ -20,7 +21,8 @@ rich =
     call ann (at 9 36 0) (OneShotShelve u1 lt x) ∷ call ann (at 9 35 0) (TimedShelve u1 pt 60 x)
     ∷ call ste (at 9 0 0) (Grant u1 amy (Viewer, Some (at 12 0 0))) ∷ base
 
-granted : IsByPart rich (call ste (at 10 0 0) (Grant u1 bob (Viewer, Some (at 12 0 0)))) × IsByPart rich (call ste (at 10 0 0) (Withdraw u1 vic Viewer))
+granted : IsByPart rich (call ste (at 10 0 0) (Grant u1 bob (Viewer, Some (at 12 0 0))))
+    × IsByPart rich (call ste (at 10 0 0) (Withdraw u1 vic Viewer))
 unfolding holds_some
 granted = ((refl, refl), (refl, refl))
 
@@ -28,7 +30,8 @@ registered : IsByPart rich (call eve (at 10 0 0) (Register u1 (codes "NEW") true
 unfolding holds_some
 registered = (refl, refl)
 
-shelved_rows : IsByPart rich (call ann (at 10 0 0) (TimedShelve u1 lt 60 x)) × IsByPart rich (call ann (at 10 0 0) (OneShotShelve u1 pt x)) × IsByPart rich (call ann (at 10 0 0) (Unshelve u1 lt))
+shelved_rows : IsByPart rich (call ann (at 10 0 0) (TimedShelve u1 lt 60 x)) × IsByPart rich (call ann (at 10 0 0) (OneShotShelve u1 pt x))
+    × IsByPart rich (call ann (at 10 0 0) (Unshelve u1 lt))
 unfolding holds_some
 shelved_rows = ((refl, refl), (refl, refl), (refl, refl))
 

@@ -16,7 +16,9 @@ removed = call moe (at 10 0 0) (RemoveFromService u1 pt (codes "valve")) ∷ bas
 removal : IsDone base (call moe (at 10 0 0) (RemoveFromService u1 pt (codes "valve")))
     × IsAnswered base (call ann (at 10 0 0) (RemoveFromService u1 pt (codes "valve"))) (RoleLacking Maintainer)
     × IsAnswered base (call moe (at 10 0 0) (RemoveFromService u1 x (codes "valve"))) AlarmUnknown
-    × (status removed (at 10 0 0) ≡ Ok (StatusOf (record { tag = pt; limit = 3600; limit_revision = 0; state = Normal; shelf = Unshelved; suppressed = false; out_of_service = true; suppressed_or_shelved = true })))
+    × (status removed (at 10 0 0)
+    ≡ Ok (StatusOf (record { tag = pt; limit = 3600; limit_revision = 0; state = Normal; shelf = Unshelved; suppressed = false; out_of_service = true;
+    suppressed_or_shelved = true })))
     × IsAnswered removed (call moe (at 10 0 0) (RemoveFromService u1 pt (codes "valve"))) AlreadyOutOfService
 unfolding holds_some
 removal = (refl, refl, refl, refl, refl)
@@ -44,8 +46,11 @@ standing_list = refl
 abbrev placed : List Call
 placed = call moe (at 10 0 0) (PlaceInService u1 pt) ∷ shelved_too
 
-placement : IsDone shelved_too (call moe (at 10 0 0) (PlaceInService u1 pt)) × IsAnswered placed (call moe (at 10 0 0) (PlaceInService u1 pt)) NotOutOfService
-    × (status placed (at 10 0 30) ≡ Ok (StatusOf (record { tag = pt; limit = 3600; limit_revision = 0; state = Normal; shelf = TimedShelved 30; suppressed = false; out_of_service = false; suppressed_or_shelved = true })))
+placement : IsDone shelved_too (call moe (at 10 0 0) (PlaceInService u1 pt))
+    × IsAnswered placed (call moe (at 10 0 0) (PlaceInService u1 pt)) NotOutOfService
+    × (status placed (at 10 0 30)
+    ≡ Ok (StatusOf (record { tag = pt; limit = 3600; limit_revision = 0; state = Normal; shelf = TimedShelved 30; suppressed = false;
+    out_of_service = false; suppressed_or_shelved = true })))
 unfolding holds_some
 placement = (refl, refl, refl)
 
@@ -57,6 +62,7 @@ removed_row : option_map outage (alarm_row removed pt) ≡ Some (Some (at 10 0 0
 removed_row = refl
 
 -- the rows of a unit with shelves and a grant that ends
-service_rows : IsByPart rich (call moe (at 10 0 0) (RemoveFromService u1 pt x)) × IsByPart (call moe (at 9 40 0) (RemoveFromService u1 lt x) ∷ rich) (call moe (at 10 0 0) (PlaceInService u1 lt))
+service_rows : IsByPart rich (call moe (at 10 0 0) (RemoveFromService u1 pt x))
+    × IsByPart (call moe (at 9 40 0) (RemoveFromService u1 lt x) ∷ rich) (call moe (at 10 0 0) (PlaceInService u1 lt))
 unfolding holds_some
 service_rows = ((refl, refl), (refl, refl))

@@ -25,12 +25,15 @@ shelved = call ann (at 10 0 0) (TimedShelve u1 pt 3600 (codes "pump test")) ∷ 
 
 timed_shelf : (status shelved (at 10 59 59) ≡ plain pt 3600 0 Normal (TimedShelved 1))
     × (status shelved (at 11 0 0) ≡ plain pt 3600 0 Normal Unshelved)
-    × (verdict shelved (call ann (at 10 59 59) (Shelves u1)) ≡ Ok (ShelvesOf u1 (at 10 59 59) (record { tag = pt; one_shot = false; start = at 10 0 0; left = 1; person = ann; words = codes "pump test" } ∷ [])))
+    × (verdict shelved (call ann (at 10 59 59) (Shelves u1))
+    ≡ Ok (ShelvesOf u1 (at 10 59 59) (record { tag = pt; one_shot = false; start = at 10 0 0; left = 1; person = ann; words = codes "pump test" }
+    ∷ [])))
     × (verdict shelved (call ann (at 11 0 0) (Shelves u1)) ≡ Ok (ShelvesOf u1 (at 11 0 0) []))
     × (verdict shelved (call ann (at 10 30 0) (TimedShelve u1 pt 3601 x)) ≡ Err (ShelvingTimeOutOfRange 3600))
     × (verdict shelved (call ann (at 10 30 0) (TimedShelve u1 pt 3600 x)) ≡ Err ConditionAlreadyShelved)
     × (verdict shelved (call ann (at 11 0 0) (TimedShelve u1 pt 3600 x)) ≡ Ok Done)
-    × (verdict (call ann (at 11 0 0) (TimedShelve u1 pt 3600 x) ∷ shelved) (call ann (at 10 59 59) (TimedShelve u1 pt 3600 x)) ≡ Err (MomentBehind (at 11 0 0)))
+    × (verdict (call ann (at 11 0 0) (TimedShelve u1 pt 3600 x) ∷ shelved) (call ann (at 10 59 59) (TimedShelve u1 pt 3600 x))
+    ≡ Err (MomentBehind (at 11 0 0)))
 unfolding holds_some
 timed_shelf = (refl, refl, refl, refl, refl, refl, refl, refl)
 
@@ -52,6 +55,7 @@ unfolding holds_some
 unshelving = (refl, refl)
 
 -- the row of the shelf lies on when its time is over
-rows_shelved : (rows_of shelved).shelves ≡ record { tag = pt; one_shot = false; start_s = at 10 0 0; until_s = at 11 0 0; person = ann; words = codes "pump test" } ∷ []
+rows_shelved : (rows_of shelved).shelves
+    ≡ record { tag = pt; one_shot = false; start_s = at 10 0 0; until_s = at 11 0 0; person = ann; words = codes "pump test" } ∷ []
 unfolding holds_some
 rows_shelved = refl

@@ -11,7 +11,8 @@ no_units : answer_of_units [] (call vic (at 8 0 0) MyUnits) ≡ Ok (Units [])
 no_units = refl
 
 -- openings: by another, by the administrator, again, and again by another
-openings : (opening false false ≡ Err NotAdministrator) × (opening true false ≡ Ok Done) × (opening true true ≡ Err UnitTaken) × (opening false true ≡ Err NotAdministrator)
+openings : (opening false false ≡ Err NotAdministrator) × (opening true false ≡ Ok Done) × (opening true true ≡ Err UnitTaken)
+    × (opening false true ≡ Err NotAdministrator)
 openings = (refl, refl, refl, refl)
 
 -- the opening of an empty office
@@ -25,7 +26,8 @@ first_opening : answer (empty_world root) (open_call root) ≡ Ok Done
 first_opening = ap (λ o. opening true (is_some o)) (get-empty name_cmp u1)
 
 -- the units of a person, with the roles of the moment
-roles_in_units : answer_of_units ((u1, call ste (at 9 0 0) (Grant u1 (codes "con") (Viewer, Some (at 12 0 0))) ∷ base) ∷ []) (call (codes "con") (at 11 59 59) MyUnits) ≡ Ok (Units (record { unit = u1; roles = Viewer ∷ [] } ∷ []))
+roles_in_units : answer_of_units ((u1, call ste (at 9 0 0) (Grant u1 (codes "con") (Viewer, Some (at 12 0 0))) ∷ base) ∷ [])
+    (call (codes "con") (at 11 59 59) MyUnits) ≡ Ok (Units (record { unit = u1; roles = Viewer ∷ [] } ∷ []))
 roles_in_units = refl
 
 -- shelves of two units

@@ -21,18 +21,28 @@ use Rattle.plant_types.specs.declared.role.Role.TheVariants.{Steward}
 -- the refusals of a request of this person at this moment, beside those of a caller without the role and of a moment
 -- before the last one
 abbrev pub own_refusals : Facts → Name → ℕ → Request → List (Bool × Refused)
-own_refusals f p t (Grant u q r) = (nat_le max_grants f.pairs, UnitFull TooManyGrants) ∷ (f.held t (q, r.0), AlreadyHeld) ∷ (not (is_before t r.1), EndNotAhead) ∷ []
-own_refusals f p t (Withdraw u q r) = (not (f.stands (q, r)), NotHeld) ∷ (same_role r Steward && nat_le f.stewards 1, LastSteward) ∷ []
-own_refusals f p t (Register u a l m) = (nat_le max_alarms f.alarm_count, UnitFull TooManyAlarms) ∷ (is_some (f.alarm a), AlarmTaken) ∷ []
+own_refusals f p t (Grant u q r) =
+    (nat_le max_grants f.pairs, UnitFull TooManyGrants) ∷ (f.held t (q, r.0), AlreadyHeld)
+    ∷ (not (is_before t r.1), EndNotAhead) ∷ []
+own_refusals f p t (Withdraw u q r) =
+    (not (f.stands (q, r)), NotHeld) ∷ (same_role r Steward && nat_le f.stewards 1, LastSteward) ∷ []
+own_refusals f p t (Register u a l m) =
+    (nat_le max_alarms f.alarm_count, UnitFull TooManyAlarms) ∷ (is_some (f.alarm a), AlarmTaken) ∷ []
 own_refusals f p t (Import u file) = file_refusals f t file
-own_refusals f p t (TimedShelve u a d w) = unknown f a ∷ (nat_lt (limit_of f a) d, ShelvingTimeOutOfRange (limit_of f a)) ∷ (is_timed (shelf_now f a t), ConditionAlreadyShelved) ∷ over_quota f a t ∷ []
-own_refusals f p t (OneShotShelve u a w) = unknown f a ∷ (is_one_shot (shelf_now f a t), ConditionAlreadyShelved) ∷ over_quota f a t ∷ []
+own_refusals f p t (TimedShelve u a d w) =
+    unknown f a ∷ (nat_lt (limit_of f a) d, ShelvingTimeOutOfRange (limit_of f a))
+    ∷ (is_timed (shelf_now f a t), ConditionAlreadyShelved) ∷ over_quota f a t ∷ []
+own_refusals f p t (OneShotShelve u a w) =
+    unknown f a ∷ (is_one_shot (shelf_now f a t), ConditionAlreadyShelved) ∷ over_quota f a t ∷ []
 own_refusals f p t (Unshelve u a) = unknown f a ∷ (is_unshelved (shelf_now f a t), ConditionNotShelved) ∷ []
 own_refusals f p t (RemoveFromService u a w) = unknown f a ∷ (is_out f a, AlreadyOutOfService) ∷ []
 own_refusals f p t (PlaceInService u a) = unknown f a ∷ (not (is_out f a), NotOutOfService) ∷ []
-own_refusals f p t (Propose u x) = (nat_le max_changes f.change_count, UnitFull TooManyChanges) ∷ kind_unknown f x.kind ++ kind_refusals f x.base x.kind
+own_refusals f p t (Propose u x) =
+    (nat_le max_changes f.change_count, UnitFull TooManyChanges) ∷ kind_unknown f x.kind
+    ++ kind_refusals f x.base x.kind
 own_refusals f p t (WithdrawChange u n) = of_change (f.change n) (λ c. (not (same_name p c.proposer), NotProposer) ∷ [])
-own_refusals f p t (Approve u n) = of_change (f.change n) (λ c. (same_name p c.proposer, SamePerson) ∷ kind_refusals f c.base c.kind)
+own_refusals f p t (Approve u n) =
+    of_change (f.change n) (λ c. (same_name p c.proposer, SamePerson) ∷ kind_refusals f c.base c.kind)
 own_refusals f p t (Reject u n) = of_change (f.change n) (λ c. (same_name p c.proposer, SamePerson) ∷ [])
 own_refusals f p t (Status u a) = unknown f a ∷ []
 own_refusals f p t (RecordOf u a) = unknown f a ∷ (is_none (f.rationale a), RecordUnknown) ∷ []
@@ -87,7 +97,10 @@ own_changes f p t (OneShotShelve u a w) = Put (ShelfPut (shelf_row_as true t (t 
 own_changes f p t (Unshelve u a) = Remove (ShelfKey a) ∷ []
 own_changes f p t (RemoveFromService u a w) = with_alarm f a (taken_out p t w)
 own_changes f p t (PlaceInService u a) = with_alarm f a placed_in
-own_changes f p t (Propose u x) = Put (ChangePut (change_entry (change_as (f.change_count + 1) None (record { proposer = p; proposed = t; kind = x.kind; base = x.base })))) ∷ kind_changes (f.change_count + 1) x.kind
+own_changes f p t (Propose u x) =
+    Put (ChangePut
+    (change_entry (change_as (f.change_count + 1) None (record { proposer = p; proposed = t; kind = x.kind;
+    base = x.base })))) ∷ kind_changes (f.change_count + 1) x.kind
 own_changes f p t (WithdrawChange u n) = for_change (f.change n) (λ c. decision_change Withdrawn p t c ∷ [])
 own_changes f p t (Approve u n) = for_change (f.change n) (approval_changes f p t)
 own_changes f p t (Reject u n) = for_change (f.change n) (λ c. decision_change Rejected p t c ∷ [])

@@ -30,7 +30,8 @@ proposals h = counted (λ c before. is_proposal c.request) h
 -- the change of a number, where this proposal is the one of that number
 abbrev pub draft_by : ℕ → Name → ℕ → List Call → Option Proposal → Option Draft
 draft_by n p t before None = None
-draft_by n p t before (Some x) = when (same_number n (proposals before + 1)) (record { proposer = p; proposed = t; kind = x.kind; base = x.base })
+draft_by n p t before (Some x) =
+    when (same_number n (proposals before + 1)) (record { proposer = p; proposed = t; kind = x.kind; base = x.base })
 
 -- what an entry says of the change of a number: that it is proposed
 abbrev pub said_of_draft : ℕ → Name → ℕ → List Call → Request → Option Draft
@@ -58,7 +59,10 @@ state_after (Some d) = d.state
 
 -- the change of a number, with its state
 abbrev pub change_as : ℕ → Option Decision → Draft → ChangeRow
-change_as n decided d = record { number = n; kind = d.kind; base = d.base; proposer = d.proposer; proposed = d.proposed; state = state_after decided; decider = option_map (λ x. x.decider) decided; decided = option_map (λ x. x.decided) decided }
+change_as n decided d =
+    record { number = n; kind = d.kind; base = d.base; proposer = d.proposer; proposed = d.proposed;
+    state = state_after decided; decider = option_map (λ x. x.decider) decided;
+    decided = option_map (λ x. x.decided) decided }
 
 abbrev pub change : List Call → ℕ → Option ChangeRow
 change h n = option_map (change_as n (decision h n)) (draft h n)
@@ -142,7 +146,10 @@ priority_by m severity response = unwrap_or (priority_of m severity response) N
 
 -- the rationalisation record of an alarm, with its priority by the matrix in force now
 abbrev pub record_as : Grid → ℕ → Name → ℕ × Sheet → RecordRow
-record_as m revision a e = record { tag = a; change = e.0; revision = revision; cause = e.1.cause; consequence = e.1.consequence; action = e.1.action; severity = e.1.severity; response = e.1.response; priority = priority_by m e.1.severity e.1.response }
+record_as m revision a e =
+    record { tag = a; change = e.0; revision = revision; cause = e.1.cause; consequence = e.1.consequence;
+    action = e.1.action; severity = e.1.severity; response = e.1.response;
+    priority = priority_by m e.1.severity e.1.response }
 
 abbrev pub record_of : List Call → Name → Option RecordRow
 record_of h a = option_map (record_as (matrix h).1 (record_revision h a) a) (sheet h a)

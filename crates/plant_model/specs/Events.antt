@@ -30,11 +30,13 @@ events_of h a = of_alarm a (events h)
 
 -- a range of whole periods of ten minutes, from 1 to 1,008 of them: a week
 abbrev pub is_aligned : ℕ → ℕ → Bool
-is_aligned begin until = (begin % 600 == 0) && (until % 600 == 0) && nat_lt begin until && nat_le (until - begin) max_flood_seconds
+is_aligned begin until =
+    (begin % 600 == 0) && (until % 600 == 0) && nat_lt begin until && nat_le (until - begin) max_flood_seconds
 
 -- the floods (ISA-18.2, IEC 62682) of a range
 abbrev pub flood_line : ℕ → Run → FloodLine
-flood_line begin r = record { start = begin + 600 * r.first; until = begin + 600 * r.last + 600; total = r.total; peak = r.peak }
+flood_line begin r =
+    record { start = begin + 600 * r.first; until = begin + 600 * r.last + 600; total = r.total; peak = r.peak }
 
 abbrev pub flood_lines : List Event → ℕ → ℕ → List FloodLine
 flood_lines es begin until = map (flood_line begin) (floods (period_counts es begin until))

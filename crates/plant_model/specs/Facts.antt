@@ -98,4 +98,6 @@ shelf_now f a t = state_of_shelf (f.shelf a) (returned f a) t
 
 -- how many other alarms are shelved at the moment
 abbrev pub others_shelved : Facts → Name → ℕ → ℕ
-others_shelved f a t = count_by (λ s. not (same_name a s.tag) && not (is_unshelved (state_of_shelf (Some s) (returned f s.tag) t))) f.shelves
+others_shelved f a t =
+    count_by (λ s. not (same_name a s.tag)
+    && not (is_unshelved (state_of_shelf (Some s) (returned f s.tag) t))) f.shelves

@@ -9,7 +9,8 @@ row_by_tag tag a rows = row_at name_cmp tag a rows
 
 -- so many rows have a smaller tag, and they stand first
 abbrev pub IsPlaceOfTag : {X : Type 0} → (X → Name) → Name → List X → ℕ → Type 0
-IsPlaceOfTag tag a rows place = IsPartitionPoint (λ r. is_lt (name_cmp (tag r) a) ≡ true) (λ r. is_lt (name_cmp (tag r) a) ≡ false) rows place
+IsPlaceOfTag tag a rows place =
+    IsPartitionPoint (λ r. is_lt (name_cmp (tag r) a) ≡ true) (λ r. is_lt (name_cmp (tag r) a) ≡ false) rows place
 
 -- the change of a number
 abbrev pub change_by_number : ℕ → List ChangeEntry → Option ChangeEntry

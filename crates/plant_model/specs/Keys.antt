@@ -38,7 +38,8 @@ PutsOverSeen rows seen (Put (Change r)) = IsOverSeen rows seen (Change r)
 PutsOverSeen rows seen (Put (Band r)) = has_key (Band r) rows ≡ false
 PutsOverSeen rows seen (Put (Cell r)) = has_key (Cell r) rows ≡ false
 PutsOverSeen rows seen (Put (Event e)) = has_key (Event e) rows ≡ false
-PutsOverSeen rows seen (PutEvents es) = (n : ℕ) → list_any (has_number n) es ≡ true → list_any (has_number n) rows.events ≡ false
+PutsOverSeen rows seen (PutEvents es) = (n : ℕ) → list_any (has_number n) es ≡ true
+    → list_any (has_number n) rows.events ≡ false
 PutsOverSeen rows seen (Remove k) = Unit {0}
 
 -- and with all of these changes, made in their order

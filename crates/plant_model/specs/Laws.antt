@@ -74,7 +74,8 @@ WithoutEndsStandingIsHolding =
 -- in a legal history fewer than 2,000 other alarms are shelved, whatever the moment: a quota of 2,000 refuses nothing
 abbrev pub QuotaOf2000RefusesNothing : Type 0
 QuotaOf2000RefusesNothing =
-    (h : List Call) → IsLegal h → (a : Name) (t : ℕ) → is_some (alarm_row h a) ≡ true → others_shelved (facts h) a t < max_quota
+    (h : List Call) → IsLegal h → (a : Name) (t : ℕ) → is_some (alarm_row h a) ≡ true
+    → others_shelved (facts h) a t < max_quota
 
 -- the shelf of an alarm at a moment, as all its events leave it: a one-shot shelf holds until some return after its start
 abbrev pub shelf_in_history : List Call → Name → ℕ → ShelfState
@@ -86,15 +87,18 @@ lines_in_history h t = filter_map (λ s. line_of s (shelf_in_history h s.tag t))
 
 -- how many other alarms are shelved by it
 abbrev pub others_in_history : List Call → Name → ℕ → ℕ
-others_in_history h a t = count_by (λ s. not (same_name a s.tag) && not (is_unshelved (shelf_in_history h s.tag t))) (shelf_rows h)
+others_in_history h a t =
+    count_by (λ s. not (same_name a s.tag) && not (is_unshelved (shelf_in_history h s.tag t))) (shelf_rows h)
 
 -- all that a verdict and its reply say of shelves at a moment is that: the state of one alarm, the lines of shelves, of alarms and of
 -- standing alarms, and what is counted for the quota
 pub record SaysShelves (h : List Call) (t : ℕ) : Type 0 where
   pub state : (a : Name) → shelf_now (facts h) a t ≡ shelf_in_history h a t
   pub lines : shelf_lines (facts h) t ≡ lines_in_history h t
-  pub alarms : AllByRecursion (λ (l : AlarmLine). l.shelved ≡ not (is_unshelved (shelf_in_history h l.tag t))) (alarm_lines (facts h) t)
-  pub standing : AllByRecursion (λ (l : StandingLine). l.shelved ≡ not (is_unshelved (shelf_in_history h l.tag t))) (standing_lines (facts h) t)
+  pub alarms : AllByRecursion (λ (l : AlarmLine). l.shelved ≡ not (is_unshelved (shelf_in_history h l.tag t)))
+      (alarm_lines (facts h) t)
+  pub standing : AllByRecursion (λ (l : StandingLine). l.shelved ≡ not (is_unshelved (shelf_in_history h l.tag t)))
+      (standing_lines (facts h) t)
   pub others : (a : Name) → others_shelved (facts h) a t ≡ others_in_history h a t
 
 -- a verdict sees an alarm's last return alone; in a legal history that makes no difference

@@ -58,4 +58,6 @@ abbrev pub band_at : BandKey → Grid → Option BandRow
 band_at k m = option_map (λ l. record { matrix_no = k.0; band_no = k.1; limit_s = l }) (at_place m.limits k.1)
 
 abbrev pub cell_of : CellKey → Grid → Option CellRow
-cell_of k m = option_map (λ c. record { matrix_no = k.0; severity = k.1; band_no = k.2; cell_no = c }) (option_and_then (λ row. at_place row k.2) (at_place m.cells k.1))
+cell_of k m =
+    option_map (λ c. record { matrix_no = k.0; severity = k.1; band_no = k.2; cell_no = c })
+    (option_and_then (λ row. at_place row k.2) (at_place m.cells k.1))

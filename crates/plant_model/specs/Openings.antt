@@ -8,9 +8,12 @@ use Rattle.plant_types.specs.declared.role.Role.TheVariants.{Steward}
 
 -- the values that an opening or a grant carries are of their sets
 abbrev pub has_values_said : Option Opening → Option (Pair × Said (Option ℕ)) → Bool
-has_values_said (Some o) pair = is_text in_unit_code 8 o.unit && is_text in_person 32 o.steward && is_matrix o.matrix.limits o.matrix.cells && is_quota o.quota
+has_values_said (Some o) pair =
+    is_text in_unit_code 8 o.unit && is_text in_person 32 o.steward && is_matrix o.matrix.limits o.matrix.cells
+    && is_quota o.quota
 has_values_said None None = true
-has_values_said None (Some (k, Begins until)) = is_text in_person 32 k.0 && (not (same_role k.1 Steward) || is_none until)
+has_values_said None (Some (k, Begins until)) =
+    is_text in_person 32 k.0 && (not (same_role k.1 Steward) || is_none until)
 has_values_said None (Some (k, Over)) = true
 
 -- the values of an opening and the name in a grant are of their sets, and a steward's grant has no end
@@ -26,7 +29,8 @@ pub record IsEntryOf (u : Name) (c : Call) : Type 0 where
 abbrev pub IsHistoryOf : Name → Name → List Call → Type 0
 IsHistoryOf admin u [] = ⊥
 IsHistoryOf admin u (c ∷ []) = IsEntryOf u c × (is_opening c.request ≡ true) × (c.person ≡ admin)
-IsHistoryOf admin u (c ∷ d ∷ before) = IsEntryOf u c × (not (is_opening c.request) ≡ true) × IsHistoryOf admin u (d ∷ before)
+IsHistoryOf admin u (c ∷ d ∷ before) = IsEntryOf u c × (not (is_opening c.request) ≡ true)
+    × IsHistoryOf admin u (d ∷ before)
 
 abbrev pub HasItsHistories : World → Type 0
 HasItsHistories w = (u : Name) (h : List Call) → get w.units u ≡ Some h → IsHistoryOf w.admin u h

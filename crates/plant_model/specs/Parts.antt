@@ -35,7 +35,9 @@ abbrev pub all_events : List Event → List Event
 all_events es = es
 
 abbrev pub nothing : Selection
-nothing = record { pair = none; alarm = none; shelf = none; events = no_events; matrix = none; rationale = none; change = none }
+nothing =
+    record { pair = none; alarm = none; shelf = none; events = no_events; matrix = none; rationale = none;
+    change = none }
 
 -- the alarm and the shelf of a tag
 abbrev pub of_tag : Name → Selection
@@ -92,7 +94,8 @@ selection rows NothingElse = nothing
 selection rows AllGrants = record nothing { pair = every }
 selection rows (OneAlarm a) = of_tag a
 selection rows (Shelving a) = of_shelving (is_crowded rows) a
-selection rows (OneRecord a) = record nothing { alarm = same_name a; rationale = same_name a; change = is_source rows (same_name a) }
+selection rows (OneRecord a) =
+    record nothing { alarm = same_name a; rationale = same_name a; change = is_source rows (same_name a) }
 selection rows (OneChange n) = of_number n
 selection rows (Approval n) = of_approved rows n (change_found rows n)
 selection rows (Content a) = of_content rows a
@@ -130,7 +133,8 @@ rows_selected p s rows =
     }
 
 abbrev pub part_of_holder : Call → UnitRows → UnitPart
-part_of_holder c rows = record { rows = rows_selected c.person (selected rows c.request) rows; count = counted_for rows c.request }
+part_of_holder c rows =
+    record { rows = rows_selected c.person (selected rows c.request) rows; count = counted_for rows c.request }
 
 -- of one who holds no role: the unit's row and the caller's grants, which have ended
 abbrev pub part_of_stranger : Call → UnitRows → UnitPart

@@ -31,7 +31,9 @@ fault_entries (Some fault) = (true, FileRefused fault) ∷ []
 
 abbrev pub file_refusals : Facts → ℕ → Result (List Event) BadFile → List (Bool × Refused)
 file_refusals f t (Err fault) = (true, FileRefused fault) ∷ []
-file_refusals f t (Ok rows) = (nat_lt max_events (length f.events + length (new_numbers f.events rows)), UnitFull TooManyEvents) ∷ fault_entries (first_fault (tags_of f) t 2 f.events rows)
+file_refusals f t (Ok rows) =
+    (nat_lt max_events (length f.events + length (new_numbers f.events rows)), UnitFull TooManyEvents)
+    ∷ fault_entries (first_fault (tags_of f) t 2 f.events rows)
 
 -- a change of an alarm's record or limit: whether the alarm is there
 abbrev pub kind_unknown : Facts → ChangeKind → List (Bool × Refused)
@@ -56,8 +58,12 @@ has_row m severity = is_some (row_of m severity)
 
 -- a record has its severity in the matrix in force, and a priority there; a matrix has the severities of all records in force
 abbrev pub kind_refusals : Facts → ℕ → ChangeKind → List (Bool × Refused)
-kind_refusals f base (Rationale a s) = base_changed base (f.revision a) ∷ (not (has_row f.matrix s.severity), OutsideMatrix) ∷ (is_not_needed (priority_of f.matrix s.severity s.response), NotAnAlarm) ∷ []
-kind_refusals f base (Matrix m) = base_changed base (matrix_revision_of f) ∷ (list_any (λ r. not (has_row m r.severity)) f.rationales, OutsideMatrix) ∷ []
+kind_refusals f base (Rationale a s) =
+    base_changed base (f.revision a) ∷ (not (has_row f.matrix s.severity), OutsideMatrix)
+    ∷ (is_not_needed (priority_of f.matrix s.severity s.response), NotAnAlarm) ∷ []
+kind_refusals f base (Matrix m) =
+    base_changed base (matrix_revision_of f) ∷ (list_any (λ r. not (has_row m r.severity)) f.rationales, OutsideMatrix)
+    ∷ []
 kind_refusals f base (Limit a max) = base_changed base (limit_revision_of f a) ∷ []
 
 -- a decision is about a change that is there and not decided yet

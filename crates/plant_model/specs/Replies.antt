@@ -25,8 +25,10 @@ status_of r shelf =
 -- the line of a shelf that is not over
 abbrev pub line_of : ShelfRow → ShelfState → Option ShelfLine
 line_of s Unshelved = None
-line_of s (TimedShelved left) = Some (record { tag = s.tag; one_shot = false; start = s.start_s; left = left; person = s.person; words = s.words })
-line_of s (OneShotShelved left) = Some (record { tag = s.tag; one_shot = true; start = s.start_s; left = left; person = s.person; words = s.words })
+line_of s (TimedShelved left) =
+    Some (record { tag = s.tag; one_shot = false; start = s.start_s; left = left; person = s.person; words = s.words })
+line_of s (OneShotShelved left) =
+    Some (record { tag = s.tag; one_shot = true; start = s.start_s; left = left; person = s.person; words = s.words })
 
 abbrev pub shelf_lines : Facts → ℕ → List ShelfLine
 shelf_lines f t = filter_map (λ s. line_of s (state_of_shelf (Some s) (returned f s.tag) t)) f.shelves
@@ -46,7 +48,9 @@ alarm_line f t r =
 
 -- the line of an alarm that is active since a moment
 abbrev pub standing_as : AlarmLine → ℕ → StandingLine
-standing_as l since = record { tag = l.tag; state = l.state; priority = l.priority; since = since; shelved = l.shelved; by_design = l.by_design; out_of_service = l.out_of_service }
+standing_as l since =
+    record { tag = l.tag; state = l.state; priority = l.priority; since = since; shelved = l.shelved;
+    by_design = l.by_design; out_of_service = l.out_of_service }
 
 abbrev pub standing_line : Facts → ℕ → AlarmRow → Option StandingLine
 standing_line f t r = option_map (standing_as (alarm_line f t r)) r.active_s

@@ -43,7 +43,9 @@ changed_by (c ∷ cs) rows = changed_by cs (changed c rows)
 
 -- what a unit's rows are before its opening
 abbrev pub no_rows : UnitRows
-no_rows = record { units = []; grants = []; alarms = []; shelves = []; events = []; bands = []; cells = []; records = []; changes = [] }
+no_rows =
+    record { units = []; grants = []; alarms = []; shelves = []; events = []; bands = []; cells = []; records = [];
+    changes = [] }
 
 -- some change puts the unit's own row
 abbrev pub is_unit_put : RowEdit → Bool
@@ -101,7 +103,9 @@ abbrev pub is_touched : List Event → List Event → AlarmRow → Bool
 is_touched kept rows r = list_any (λ e. same_name r.tag e.tag) (fresh kept rows)
 
 abbrev pub with_state : List Event → AlarmRow → AlarmRow
-with_state es r = record r { state_no = state_of r.latching es; suppressed = is_suppressed es; active_s = active_since es; return_s = last_return es }
+with_state es r =
+    record r { state_no = state_of r.latching es; suppressed = is_suppressed es; active_s = active_since es;
+    return_s = last_return es }
 
 abbrev pub state_put : List Event → AlarmRow → RowEdit
 state_put es r = Put (AlarmPut (with_state (of_alarm r.tag es) r))
@@ -120,10 +124,13 @@ decision_change state p t c = Put (ChangePut (change_entry (decided_as state p t
 
 -- what an approved change brings into force; a matrix gives all records their priorities anew
 abbrev pub rerated : Grid → RecordRow → RecordEntry
-rerated m r = record { tag = r.tag; change_no = r.change; rev = r.revision; cell_no = priority_by m r.severity r.response }
+rerated m r =
+    record { tag = r.tag; change_no = r.change; rev = r.revision; cell_no = priority_by m r.severity r.response }
 
 abbrev pub in_force : Facts → ℕ → ChangeKind → List RowEdit
-in_force f n (Rationale a s) = Put (RecordPut (record { tag = a; change_no = n; rev = f.revision a + 1; cell_no = priority_by f.matrix s.severity s.response })) ∷ []
+in_force f n (Rationale a s) =
+    Put (RecordPut (record { tag = a; change_no = n; rev = f.revision a + 1;
+    cell_no = priority_by f.matrix s.severity s.response })) ∷ []
 in_force f n (Matrix m) = map (λ r. Put (RecordPut (rerated m r))) f.rationales
 in_force f n (Limit a max) = with_alarm f a (with_limit max)
 

@@ -37,7 +37,8 @@ cell_key r = (r.matrix_no, r.severity, r.band_no)
 
 -- a matrix from its limits and cells: the rows of the severities from 1 on, as far as there are cells
 abbrev pub cells_at : List CellRow → ℕ → ℕ → List Cell
-cells_at cells n severity = map (λ c. c.cell_no) (filter (λ c. same_number n c.matrix_no && same_number severity c.severity) cells)
+cells_at cells n severity =
+    map (λ c. c.cell_no) (filter (λ c. same_number n c.matrix_no && same_number severity c.severity) cells)
 
 abbrev pub has_cells : List Cell → Bool
 has_cells [] = false
@@ -52,7 +53,9 @@ matrix_read rows n =
 
 -- a change from its row
 abbrev pub sheet_read : ChangeEntry → Sheet
-sheet_read c = record { cause = unwrap_or c.cause []; consequence = unwrap_or c.consequence []; action = unwrap_or c.remedy []; severity = unwrap_or c.severity 0; response = unwrap_or c.response_s 0 }
+sheet_read c =
+    record { cause = unwrap_or c.cause []; consequence = unwrap_or c.consequence []; action = unwrap_or c.remedy [];
+    severity = unwrap_or c.severity 0; response = unwrap_or c.response_s 0 }
 
 abbrev pub kind_read : UnitRows → ChangeEntry → ChangeTopic → ChangeKind
 kind_read rows c RecordTopic = Rationale (unwrap_or c.tag []) (sheet_read c)
@@ -60,14 +63,18 @@ kind_read rows c MatrixTopic = Matrix (matrix_read rows c.number)
 kind_read rows c LimitTopic = Limit (unwrap_or c.tag []) (unwrap_or c.max_s 0)
 
 abbrev pub change_read : UnitRows → ChangeEntry → ChangeRow
-change_read rows c = record { number = c.number; kind = kind_read rows c c.kind_no; base = c.base; proposer = c.proposer; proposed = c.proposed_s; state = c.state_no; decider = c.decider; decided = c.decided_s }
+change_read rows c =
+    record { number = c.number; kind = kind_read rows c c.kind_no; base = c.base; proposer = c.proposer;
+    proposed = c.proposed_s; state = c.state_no; decider = c.decider; decided = c.decided_s }
 
 abbrev pub change_found : UnitRows → ℕ → Option ChangeEntry
 change_found rows n = row_at nat_cmp change_number n rows.changes
 
 -- a record from its row and the change that it came from
 abbrev pub record_from : RecordEntry → Sheet → RecordRow
-record_from r s = record { tag = r.tag; change = r.change_no; revision = r.rev; cause = s.cause; consequence = s.consequence; action = s.action; severity = s.severity; response = s.response; priority = r.cell_no }
+record_from r s =
+    record { tag = r.tag; change = r.change_no; revision = r.rev; cause = s.cause; consequence = s.consequence;
+    action = s.action; severity = s.severity; response = s.response; priority = r.cell_no }
 
 abbrev pub record_read : UnitRows → RecordEntry → Option RecordRow
 record_read rows r = option_map (λ c. record_from r (sheet_read c)) (change_found rows r.change_no)

@@ -56,7 +56,8 @@ abbrev pub with_limit : ℕ → AlarmRow → AlarmRow
 with_limit max r = record r { max_s = max; max_rev = r.max_rev + 1 }
 
 abbrev pub alarm_row : List Call → Name → Option AlarmRow
-alarm_row h a = option_map (alarm_as a (unwrap_or (limit h a) 0) (limit_revision h a) (events_of h a) (outage h a)) (latching h a)
+alarm_row h a =
+    option_map (alarm_as a (unwrap_or (limit h a) 0) (limit_revision h a) (events_of h a) (outage h a)) (latching h a)
 
 -- Alarms, one for each registration
 abbrev pub alarm_rows : List Call → List AlarmRow
@@ -77,10 +78,14 @@ abbrev pub cell_row : List Call → CellKey → Option CellRow
 cell_row h k = option_and_then (cell_of k) (matrix_numbered h k.0)
 
 abbrev pub band_rows : List Call → List BandRow
-band_rows h = filter_map (band_row h) (in_order band_cmp (all_named (λ c before. places_in band_places (numbered_matrix before c.request)) h))
+band_rows h =
+    filter_map (band_row h)
+    (in_order band_cmp (all_named (λ c before. places_in band_places (numbered_matrix before c.request)) h))
 
 abbrev pub cell_rows : List Call → List CellRow
-cell_rows h = filter_map (cell_row h) (in_order cell_cmp (all_named (λ c before. places_in cell_places (numbered_matrix before c.request)) h))
+cell_rows h =
+    filter_map (cell_row h)
+    (in_order cell_cmp (all_named (λ c before. places_in cell_places (numbered_matrix before c.request)) h))
 
 abbrev pub tag_rationalised : Option ChangeKind → List Name
 tag_rationalised None = []
@@ -154,7 +159,8 @@ change_rows h = map change_entry (changes_of h)
 
 -- the unit's own row, with the number and the revision of the matrix in force
 abbrev pub unit_row : List Call → UnitRow
-unit_row h = record { last_s = last_moment h; matrix_no = (matrix h).0; matrix_rev = matrix_revision h; quota = quota h }
+unit_row h =
+    record { last_s = last_moment h; matrix_no = (matrix h).0; matrix_rev = matrix_revision h; quota = quota h }
 
 -- all rows of the unit
 abbrev pub rows_of : List Call → UnitRows

@@ -16,7 +16,9 @@ selection_by rows NothingElse = nothing
 selection_by rows AllGrants = record nothing { pair = every }
 selection_by rows (OneAlarm tag) = of_tag tag.now
 selection_by rows (Shelving tag crowded) = of_shelving crowded tag.now
-selection_by rows (OneRecord tag) = record nothing { alarm = same_name tag.now; rationale = same_name tag.now; change = is_source rows (same_name tag.now) }
+selection_by rows (OneRecord tag) =
+    record nothing { alarm = same_name tag.now; rationale = same_name tag.now;
+    change = is_source rows (same_name tag.now) }
 selection_by rows (OneChange n) = of_number n
 selection_by rows (Approval n change) = of_approved rows n (option_copied change)
 selection_by rows (Content tag) = of_content rows tag.now
@@ -50,7 +52,8 @@ pub record IsSeenIn (rows : UnitRows) (q : Request) (crowded : Bool) (approved :
 
 -- of the rows of any unit that is seen so, the scope takes in what the request looks at
 abbrev pub IsScopeOf : Request → Bool → Option ChangeEntry → Scope → Type 0
-IsScopeOf q crowded approved scope = (rows : UnitRows) → IsSeenIn rows q crowded approved → selection_by rows scope ≡ selected rows q
+IsScopeOf q crowded approved scope = (rows : UnitRows) → IsSeenIn rows q crowded approved
+    → selection_by rows scope ≡ selected rows q
 
 abbrev pub has_events : Looked → Bool
 has_events looked.NothingElse = false

@@ -12,7 +12,8 @@ pub record Outage : Type 0 where
 -- what a removal from service or its end says of an alarm: nothing where it is of another alarm
 abbrev pub outage_by : Name → Name → ℕ → Option (Name × Said Name) → Option (Said Outage)
 outage_by a p t None = None
-outage_by a p t (Some (b, Begins words)) = when (same_name a b) (Begins (record { from = t; person = p; words = words }))
+outage_by a p t (Some (b, Begins words)) =
+    when (same_name a b) (Begins (record { from = t; person = p; words = words }))
 outage_by a p t (Some (b, Over)) = when (same_name a b) Over
 
 -- what an entry says of the alarm's removal from service: that one begins, or that it is over

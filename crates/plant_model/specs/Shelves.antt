@@ -7,14 +7,17 @@ use Rattle.plant_types.specs.{Names.{Name, same_name}, Options.{when}}
 
 -- a shelf's row: by whom and why, whether it is a one-shot, its start and its end
 abbrev pub shelf_row_as : Bool → ℕ → ℕ → Name → Name → Name → ShelfRow
-shelf_row_as one_shot s until p words a = record { tag = a; one_shot = one_shot; start_s = s; until_s = until; person = p; words = words }
+shelf_row_as one_shot s until p words a =
+    record { tag = a; one_shot = one_shot; start_s = s; until_s = until; person = p; words = words }
 
 -- what a shelving or its end says of an alarm: nothing where it is of another alarm. A timed shelf lasts its own time, a
 -- one-shot shelf at most the limit in force just before the entry
 abbrev pub shelf_by : Name → Name → ℕ → List Call → Option (Name × Said NewShelf) → Option (Said ShelfRow)
 shelf_by a p s before None = None
-shelf_by a p s before (Some (b, Begins (TimedShelf d words))) = when (same_name a b) (Begins (shelf_row_as false s (s + d) p words a))
-shelf_by a p s before (Some (b, Begins (OneShotShelf words))) = when (same_name a b) (Begins (shelf_row_as true s (s + unwrap_or (limit before b) 0) p words a))
+shelf_by a p s before (Some (b, Begins (TimedShelf d words))) =
+    when (same_name a b) (Begins (shelf_row_as false s (s + d) p words a))
+shelf_by a p s before (Some (b, Begins (OneShotShelf words))) =
+    when (same_name a b) (Begins (shelf_row_as true s (s + unwrap_or (limit before b) 0) p words a))
 shelf_by a p s before (Some (b, Over)) = when (same_name a b) Over
 
 -- what an entry says of the alarm's shelf: that one begins, or that it is over

@@ -7,7 +7,9 @@ pub use Rattle.plant_model.specs.Kinds.{is_opening, is_read}
 
 -- the refusals of a call by a person who holds some role in the unit
 abbrev pub refusals_of_holder : Facts → Call → List (Bool × Refused)
-refusals_of_holder f c = lacks_role f c.moment c.person (role_needed c.request) ++ (nat_lt c.moment (last_of f), MomentBehind (last_of f)) ∷ own_refusals f c.person c.moment c.request
+refusals_of_holder f c =
+    lacks_role f c.moment c.person (role_needed c.request) ++ (nat_lt c.moment (last_of f), MomentBehind (last_of f))
+    ∷ own_refusals f c.person c.moment c.request
 
 -- the refusals of a call on a unit
 abbrev pub refusals : Facts → Call → List (Bool × Refused)

@@ -40,7 +40,8 @@ purge p units calls = filter (λ c. same_name c.person p || names_in units (unit
 -- the answers to the person's calls among these
 abbrev pub answers_to : Name → World → List Call → List (Result Reply Refused)
 answers_to p w [] = []
-answers_to p w (c ∷ calls) = if same_name c.person p then answer w c ∷ answers_to p (next w c) calls else answers_to p (next w c) calls
+answers_to p w (c ∷ calls) = if same_name c.person p then
+    answer w c ∷ answers_to p (next w c) calls else answers_to p (next w c) calls
 
 -- outside the units no pair of the person stands
 abbrev pub IsInside : Name → (Name → Bool) → World → Type 0

@@ -48,7 +48,8 @@ reply_of_units units c r = reply_about units c (subject_of r)
 
 -- the answer to a call that names no unit, from the caller's units
 abbrev pub answer_of_units : List (Name × List Call) → Call → Result Reply Refused
-answer_of_units units c = if nat_lt c.moment (greatest_last units) then Err (MomentBehind (greatest_last units)) else Ok (reply_of_units units c c.request)
+answer_of_units units c = if nat_lt c.moment (greatest_last units) then
+    Err (MomentBehind (greatest_last units)) else Ok (reply_of_units units c c.request)
 
 -- the answer to an opening
 abbrev pub opening : Bool → Bool → Result Reply Refused

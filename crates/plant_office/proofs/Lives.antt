@@ -16,13 +16,17 @@ within_more [] zs c it = tt
 within_more (y ∷ ys) zs c it = inr it
 
 -- the confirmed calls of a life and of those after it, among those that were made
-within_life : (calls : List Call) (answers : List Answer) (own ys zs : List Call) → AreMade calls answers own → IsWithin ys zs → IsWithin (confirmed calls answers ++ ys) (own ++ zs)
-within_life calls answers own ys zs (inl is) it = subst (λ l. IsWithin (confirmed calls answers ++ ys) (l ++ zs)) (sym is) (within_both (confirmed calls answers) ys zs it)
+within_life : (calls : List Call) (answers : List Answer) (own ys zs : List Call) → AreMade calls answers own → IsWithin ys zs
+    → IsWithin (confirmed calls answers ++ ys) (own ++ zs)
+within_life calls answers own ys zs (inl is) it =
+    subst (λ l. IsWithin (confirmed calls answers ++ ys) (l ++ zs)) (sym is) (within_both (confirmed calls answers) ys zs it)
 within_life calls answers own ys zs (inr (c, doubt, is)) it =
-    subst (IsWithin (confirmed calls answers ++ ys)) (sym (ap (λ l. l ++ zs) is ∙ append_assoc (confirmed calls answers) (c ∷ []) zs)) (within_both (confirmed calls answers) ys (c ∷ zs) (within_more ys zs c it))
+    subst (IsWithin (confirmed calls answers ++ ys)) (sym (ap (λ l. l ++ zs) is ∙ append_assoc (confirmed calls answers) (c ∷ []) zs))
+        (within_both (confirmed calls answers) ys (c ∷ zs) (within_more ys zs c it))
 
 -- at most one more than were confirmed
-made_bound : (calls : List Call) (answers : List Answer) (own : List Call) → AreMade calls answers own → length own ≤ length (confirmed calls answers) + 1
+made_bound : (calls : List Call) (answers : List Answer) (own : List Call) → AreMade calls answers own
+    → length own ≤ length (confirmed calls answers) + 1
 made_bound calls answers own (inl is) = let same = ap length is in omega (arith, same)
 made_bound calls answers own (inr (c, doubt, is)) = let same = ap length is in omega (arith, same, length-append (confirmed calls answers) (c ∷ []))
 

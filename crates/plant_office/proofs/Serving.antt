@@ -33,16 +33,19 @@ pub record IsAnswered (w : World) (c : Call) (a : Said) (left : Content → Type
   pub left_it : left after
   pub holds : Holds after (next w c)
 
-part_left : (w : World) (c : Call) (u : Name) (o : Option (List Call)) → IsLegalWorld w → get w.units u ≡ o → IsPartOf (option_map (part_of c) (option_map rows_of o)) (unwrap_or o []) c
+part_left : (w : World) (c : Call) (u : Name) (o : Option (List Call)) → IsLegalWorld w → get w.units u ≡ o
+    → IsPartOf (option_map (part_of c) (option_map rows_of o)) (unwrap_or o []) c
 part_left w c u None legal is = refl
 part_left w c u (Some h) legal is = (refl, legal u h is)
 
 -- the part that the books give of a unit is that of the rows that its history leaves
 held_part : (b : Content) (w : World) (c : Call) (u : Name) → IsLegalWorld w → Holds b w → IsPartOf (part_in b c u) (history w u) c
-held_part b w c u legal h = subst (λ o. IsPartOf (option_map (part_of c) o) (history w u) c) (sym (h.rows u)) (part_left w c u (get w.units u) legal refl)
+held_part b w c u legal h =
+    subst (λ o. IsPartOf (option_map (part_of c) o) (history w u) c) (sym (h.rows u)) (part_left w c u (get w.units u) legal refl)
 
 -- the rows of a unit that is there, or not
-rows_told : (b : Content) (w : World) (u : Name) (o : Option (List Call)) → Holds b w → get w.units u ≡ o → rows_in b u ≡ unwrap_or (option_map rows_of o) no_rows
+rows_told : (b : Content) (w : World) (u : Name) (o : Option (List Call)) → Holds b w → get w.units u ≡ o
+    → rows_in b u ≡ unwrap_or (option_map rows_of o) no_rows
 rows_told b w u o holds is = ap (λ o. unwrap_or o no_rows) (holds.rows u ∙ ap (option_map rows_of) is)
 
 -- a unit that accepts a change is there
@@ -60,20 +63,24 @@ is_some-map (Some h) = refl
 held_taken : (b : Content) (w : World) (u : Name) → Holds b w → contains_key b.units u ≡ is_taken w u
 held_taken b w u h = ap is_some (h.rows u) ∙ is_some-map (get w.units u)
 
-kept : (b : Content) (w : World) (c : Call) (u : Name) (a : Said) → Holds b w → answer_at w c (Some u) ≡ a → changes_history a c ≡ false → Holds b (next_at w c (Some u))
+kept : (b : Content) (w : World) (c : Call) (u : Name) (a : Said) → Holds b w → answer_at w c (Some u) ≡ a → changes_history a c ≡ false
+    → Holds b (next_at w c (Some u))
 kept b w c u a h is plain = subst (λ x. Holds b (if x then with_call w c u else w)) (sym (ap (λ x. changes_history x c) is ∙ plain)) h
 
-put : (b : Content) (w : World) (c : Call) (u : Name) (a : Said) (rows : UnitRows) → Holds b w → answer_at w c (Some u) ≡ a → changes_history a c ≡ true → rows ≡ rows_of (c ∷ history w u) → Holds (with_rows b u rows) (next_at w c (Some u))
+put : (b : Content) (w : World) (c : Call) (u : Name) (a : Said) (rows : UnitRows) → Holds b w → answer_at w c (Some u) ≡ a
+    → changes_history a c ≡ true → rows ≡ rows_of (c ∷ history w u) → Holds (with_rows b u rows) (next_at w c (Some u))
 put b w c u a rows h is changing left =
     subst (λ x. Holds (with_rows b u rows) (if x then with_call w c u else w)) (sym (ap (λ x. changes_history x c) is ∙ changing))
     (record {
       same_admin = h.same_admin;
       rows = λ q. get-insert name_total b.units u rows q
-          ∙ elim (same_name q u) as (λ t. cond t (Some rows) (get b.units q) ≡ option_map rows_of (cond t (Some (c ∷ history w u)) (get w.units q))) [ true ↦ ap (λ r. Some r) left | false ↦ h.rows q ]
+          ∙ elim (same_name q u) as (λ t. cond t (Some rows) (get b.units q)
+          ≡ option_map rows_of (cond t (Some (c ∷ history w u)) (get w.units q))) [ true ↦ ap (λ r. Some r) left | false ↦ h.rows q ]
           ∙ sym (ap (option_map rows_of) (get-insert name_total w.units u (c ∷ history w u) q));
     })
 
-served : (b : Content) (w : World) (c : Call) (u : Name) (a : Said) → unit_named c.request ≡ Some u → answer_at w c (Some u) ≡ a → Holds b (next_at w c (Some u)) → IsAnswered w c a (λ m. m ≡ b)
+served : (b : Content) (w : World) (c : Call) (u : Name) (a : Said) → unit_named c.request ≡ Some u → answer_at w c (Some u) ≡ a
+    → Holds b (next_at w c (Some u)) → IsAnswered w c a (λ m. m ≡ b)
 served b w c u a named is h =
     record {
       answered = sym (ap (answer_at w c) named ∙ is);
@@ -82,27 +89,34 @@ served b w c u a named is h =
       holds = subst (λ o. Holds b (next_at w c o)) (sym named) h;
     }
 
-answer_told : (w : World) (c : Call) (u : Name) (opens : Bool) → is_opening c.request ≡ opens → answer_at w c (Some u) ≡ (if opens then opening (by_admin w c) (is_taken w u) else verdict (history w u) c)
+answer_told : (w : World) (c : Call) (u : Name) (opens : Bool) → is_opening c.request ≡ opens
+    → answer_at w c (Some u) ≡ (if opens then opening (by_admin w c) (is_taken w u) else verdict (history w u) c)
 answer_told w c u opens e = ap (λ x. if x then opening (by_admin w c) (is_taken w u) else verdict (history w u) c) e
 
 -- a call on a unit that is there or not, and is no opening
-pub refused_call : (b : Content) (w : World) (c : Call) (u : Name) (r : Refused) → Holds b w → unit_named c.request ≡ Some u → is_opening c.request ≡ false → IsVerdictOn (history w u) c (IsRefused r) → IsAnswered w c (Err r) (λ m. m ≡ b)
+pub refused_call : (b : Content) (w : World) (c : Call) (u : Name) (r : Refused) → Holds b w → unit_named c.request ≡ Some u
+    → is_opening c.request ≡ false → IsVerdictOn (history w u) c (IsRefused r) → IsAnswered w c (Err r) (λ m. m ≡ b)
 refused_call b w c u r h named plain v =
     let is : answer_at w c (Some u) ≡ Err r = answer_told w c u false plain ∙ sym v.answer in
     served b w c u (Err r) named is (kept b w c u (Err r) h is refl)
 
-pub read_call : (b : Content) (w : World) (c : Call) (u : Name) (reply : Reply) (cs : List RowEdit) → Holds b w → unit_named c.request ≡ Some u → is_opening c.request ≡ false → is_read c.request ≡ true → IsVerdictOn (history w u) c (IsAccepted reply cs) → IsAnswered w c (Ok reply) (λ m. m ≡ b)
+pub read_call : (b : Content) (w : World) (c : Call) (u : Name) (reply : Reply) (cs : List RowEdit) → Holds b w → unit_named c.request ≡ Some u
+    → is_opening c.request ≡ false → is_read c.request ≡ true → IsVerdictOn (history w u) c (IsAccepted reply cs)
+    → IsAnswered w c (Ok reply) (λ m. m ≡ b)
 read_call b w c u reply cs h named plain read v =
     let is : answer_at w c (Some u) ≡ Ok reply = answer_told w c u false plain ∙ sym v.answer in
     served b w c u (Ok reply) named is (kept b w c u (Ok reply) h is (ap not read))
 
-pub changing_call : (b : Content) (w : World) (c : Call) (u : Name) (reply : Reply) (cs : List RowEdit) → Holds b w → unit_named c.request ≡ Some u → is_opening c.request ≡ false → is_read c.request ≡ false → IsVerdictOn (history w u) c (IsAccepted reply cs) → IsAnswered w c (Ok reply) (λ m. m ≡ after_changes b u cs)
+pub changing_call : (b : Content) (w : World) (c : Call) (u : Name) (reply : Reply) (cs : List RowEdit) → Holds b w → unit_named c.request ≡ Some u
+    → is_opening c.request ≡ false → is_read c.request ≡ false → IsVerdictOn (history w u) c (IsAccepted reply cs)
+    → IsAnswered w c (Ok reply) (λ m. m ≡ after_changes b u cs)
 changing_call b w c u reply cs h named plain read v =
     let is : answer_at w c (Some u) ≡ Ok reply = answer_told w c u false plain ∙ sym v.answer in
     let changing : changes_history (Ok reply) c ≡ true = ap not read in
     let accepted : changes_history (verdict (history w u) c) c ≡ true = ap (λ x. changes_history x c) (sym v.answer) ∙ changing in
     let there = there_of_accepted w c u accepted in
-    let left = ap (changed_by cs) (rows_told b w u (Some (history w u)) h there) ∙ v.changes ∙ ap (λ x. rows_of (if x then c ∷ history w u else history w u)) accepted in
+    let left = ap (changed_by cs) (rows_told b w u (Some (history w u)) h there) ∙ v.changes
+        ∙ ap (λ x. rows_of (if x then c ∷ history w u else history w u)) accepted in
     served _ w c u (Ok reply) named is (put b w c u (Ok reply) _ h is changing left)
 
 -- a reply to a call that is no read changes a history
@@ -110,7 +124,8 @@ changing_reply : (reply : Reply) (c : Call) (A : Type 0) → is_read c.request �
 changing_reply reply c A plain still = absurd (true≢false (sym (ap not plain) ∙ still))
 
 -- an opening
-pub refused_opening : (b : Content) (w : World) (c : Call) (u : Name) (r : Refused) → Holds b w → unit_named c.request ≡ Some u → is_opening c.request ≡ true → IsOpening (by_admin w c) (is_taken w u) c (IsRefused r) → IsAnswered w c (Err r) (λ m. m ≡ b)
+pub refused_opening : (b : Content) (w : World) (c : Call) (u : Name) (r : Refused) → Holds b w → unit_named c.request ≡ Some u
+    → is_opening c.request ≡ true → IsOpening (by_admin w c) (is_taken w u) c (IsRefused r) → IsAnswered w c (Err r) (λ m. m ≡ b)
 refused_opening b w c u r h named opens v =
     let is : answer_at w c (Some u) ≡ Err r = answer_told w c u true opens ∙ sym v.answer in
     served b w c u (Err r) named is (kept b w c u (Err r) h is refl)
@@ -127,7 +142,9 @@ pub opening_changes : (q : Request) → is_opening q ≡ true → is_read q ≡ 
 opening_changes (OpenUnit u s m q) e = refl
 opening_changes _ e = cc
 
-pub accepted_opening : (b : Content) (w : World) (c : Call) (u : Name) (reply : Reply) (cs : List RowEdit) → Holds b w → unit_named c.request ≡ Some u → is_opening c.request ≡ true → IsOpening (by_admin w c) (is_taken w u) c (IsAccepted reply cs) → IsAnswered w c (Ok reply) (λ m. m ≡ after_changes b u cs)
+pub accepted_opening : (b : Content) (w : World) (c : Call) (u : Name) (reply : Reply) (cs : List RowEdit) → Holds b w → unit_named c.request ≡ Some u
+    → is_opening c.request ≡ true → IsOpening (by_admin w c) (is_taken w u) c (IsAccepted reply cs)
+    → IsAnswered w c (Ok reply) (λ m. m ≡ after_changes b u cs)
 accepted_opening b w c u reply cs h named opens v =
     let is : answer_at w c (Some u) ≡ Ok reply = answer_told w c u true opens ∙ sym v.answer in
     let changing : changes_history (Ok reply) c ≡ true = ap not (opening_changes c.request opens) in
@@ -137,22 +154,29 @@ accepted_opening b w c u reply cs h named opens v =
     served _ w c u (Ok reply) named is (put b w c u (Ok reply) _ h is changing left)
 
 -- what the office makes of the keeper's answers
-pub opening_of : (b : Content) (w : World) (c : Call) (u admin : Name) (taken : Bool) (v : Verdict) → Holds b w → admin ≡ b.admin → taken ≡ contains_key b.units u → IsOpening (same_name c.person admin) taken c v → IsOpening (by_admin w c) (is_taken w u) c v
+pub opening_of : (b : Content) (w : World) (c : Call) (u admin : Name) (taken : Bool) (v : Verdict) → Holds b w → admin ≡ b.admin
+    → taken ≡ contains_key b.units u → IsOpening (same_name c.person admin) taken c v → IsOpening (by_admin w c) (is_taken w u) c v
 opening_of b w c u admin taken v h a t o =
-    subst (λ x. IsOpening x (is_taken w u) c v) (ap (same_name c.person) (a ∙ h.same_admin)) (subst (λ x. IsOpening (same_name c.person admin) x c v) (t ∙ held_taken b w u h) o)
+    subst (λ x. IsOpening x (is_taken w u) c v) (ap (same_name c.person) (a ∙ h.same_admin))
+        (subst (λ x. IsOpening (same_name c.person admin) x c v) (t ∙ held_taken b w u h) o)
 
 -- the verdict on the part that the books gave is that on the unit's history
-pub on_history : (b : Content) (w : World) (c : Call) (u : Name) (o p : Option UnitPart) (v x : Verdict) → IsLegalWorld w → Holds b w → o ≡ part_in b c u → p ≡ o → ((h : List Call) → IsPartOf p h c → IsVerdictOn h c v) → v ≡ x → IsVerdictOn (history w u) c x
+pub on_history : (b : Content) (w : World) (c : Call) (u : Name) (o p : Option UnitPart) (v x : Verdict) → IsLegalWorld w → Holds b w
+    → o ≡ part_in b c u → p ≡ o → ((h : List Call) → IsPartOf p h c → IsVerdictOn h c v) → v ≡ x → IsVerdictOn (history w u) c x
 on_history b w c u o p v x legal h found same verdicts is =
-    subst (IsVerdictOn (history w u) c) is (verdicts (history w u) (subst (λ y. IsPartOf y (history w u) c) (sym (same ∙ found)) (held_part b w c u legal h)))
+    subst (IsVerdictOn (history w u) c) is
+        (verdicts (history w u) (subst (λ y. IsPartOf y (history w u) c) (sym (same ∙ found)) (held_part b w c u legal h)))
 
 -- the headline: what was answered and left is what any other world that looks the same to the caller would give
-own_units : (w v : World) (c : Call) (u : Name) → w.admin ≡ v.admin → view c.moment c.person w ≡ view c.moment c.person v → IsOwnUnit v c u → get (next w c).units u ≡ get (next v c).units u
+own_units : (w v : World) (c : Call) (u : Name) → w.admin ≡ v.admin → view c.moment c.person w ≡ view c.moment c.person v → IsOwnUnit v c u
+    → get (next w c).units u ≡ get (next v c).units u
 own_units w v c u admin e (inl before) = own_units_after w v c u (view_alike c.moment c.person w v admin e) before
 own_units w v c u admin e (inr held) =
-    same_unit c.moment c.person (next w c) (next v c) u (same_seen (next w c) (next v c) c.moment c.person (ap (λ x. x.0) (equal_views w v c admin e).1) u) held
+    same_unit c.moment c.person (next w c)
+        (next v c) u (same_seen (next w c) (next v c) c.moment c.person (ap (λ x. x.0) (equal_views w v c admin e).1) u) held
 
-pub isolated : (w v : World) (c : Call) (a : Said) (left : Content → Type 0) → IsServed w c a left → w.admin ≡ v.admin → view c.moment c.person w ≡ view c.moment c.person v → IsIsolated v c a left
+pub isolated : (w v : World) (c : Call) (a : Said) (left : Content → Type 0) → IsServed w c a left → w.admin ≡ v.admin
+    → view c.moment c.person w ≡ view c.moment c.person v → IsIsolated v c a left
 isolated w v c a left s admin e =
     record {
       answered = s.answered ∙ (equal_views w v c admin e).0;
@@ -161,7 +185,8 @@ isolated w v c a left s admin e =
       rows = λ u own. s.holds.rows u ∙ ap (option_map rows_of) (own_units w v c u admin e own);
     }
 
-pub isolated_if : (w v : World) (c : Call) (a : Answer) (left : Content → Type 0) → IfSaid a (λ x. IsServed w c x left) → w.admin ≡ v.admin → view c.moment c.person w ≡ view c.moment c.person v → IfSaid a (λ x. IsIsolated v c x left)
+pub isolated_if : (w v : World) (c : Call) (a : Answer) (left : Content → Type 0) → IfSaid a (λ x. IsServed w c x left) → w.admin ≡ v.admin
+    → view c.moment c.person w ≡ view c.moment c.person v → IfSaid a (λ x. IsIsolated v c x left)
 isolated_if w v c (Replied r) left s admin e = isolated w v c (Ok r) left s admin e
 isolated_if w v c (WasRefused r) left s admin e = isolated w v c (Err r) left s admin e
 isolated_if w v c (Faulted f) left s admin e = tt
@@ -173,11 +198,14 @@ alike_if w c (WasRefused r) is = record { alike = λ v admin e. (is ∙ (equal_v
 alike_if w c (Faulted f) is = record { alike = λ v admin e. tt }
 
 -- the keeper holds the content that the call left
-pub leaves : (w : World) (c : Call) (a : Said) (b : Content) (left : Content → Type 0) → IsLegalWorld w → has_matrix c.request ≡ true → IsAnswered w c a (λ m. m ≡ b) → left b → IsServed w c a left
-leaves w c a b left legal matrix s h = record { answered = s.answered; after = s.after; left_it = subst left (sym s.left_it) h; holds = s.holds; legal = next_legal w c legal matrix }
+pub leaves : (w : World) (c : Call) (a : Said) (b : Content) (left : Content → Type 0) → IsLegalWorld w → has_matrix c.request ≡ true
+    → IsAnswered w c a (λ m. m ≡ b) → left b → IsServed w c a left
+leaves w c a b left legal matrix s h =
+    record { answered = s.answered; after = s.after; left_it = subst left (sym s.left_it) h; holds = s.holds; legal = next_legal w c legal matrix }
 
 -- a unit that accepts a change is there, so any changes may be made to its rows
-pub known_call : (b : Content) (w : World) (c : Call) (u : Name) (reply : Reply) (cs left : List RowEdit) → Holds b w → is_read c.request ≡ false → IsVerdictOn (history w u) c (IsAccepted reply cs) → IsKnownTo b u left
+pub known_call : (b : Content) (w : World) (c : Call) (u : Name) (reply : Reply) (cs left : List RowEdit) → Holds b w → is_read c.request ≡ false
+    → IsVerdictOn (history w u) c (IsAccepted reply cs) → IsKnownTo b u left
 known_call b w c u reply cs left h read v =
     let accepted : changes_history (verdict (history w u) c) c ≡ true = ap (λ x. changes_history x c) (sym v.answer) ∙ ap not read in
     inl (held_taken b w u h ∙ ap is_some (there_of_accepted w c u accepted))
@@ -185,19 +213,24 @@ known_call b w c u reply cs left h read v =
 -- each part of a unit's rows has its own row
 units_in_part : (c : Call) (rows : UnitRows) → rows.units ≡ (part_of c rows).rows.units
 units_in_part c rows =
-    elim (holds_by rows.grants c.moment c.person) as (λ b. rows.units ≡ (if b then part_of_holder c rows else part_of_stranger c rows).rows.units) [ true ↦ refl | false ↦ refl ]
+    elim (holds_by rows.grants c.moment c.person) as (λ b. rows.units
+        ≡ (if b then part_of_holder c rows else part_of_stranger c rows).rows.units) [ true ↦ refl | false ↦ refl ]
 
 units_in_some_part : (c : Call) (o : Option UnitRows) → IfSome (option_map (part_of c) o) (λ p. (unwrap_or o no_rows).units ≡ p.rows.units)
 units_in_some_part c None = tt
 units_in_some_part c (Some rows) = units_in_part c rows
 
 -- changes that come to the same in all rows with the unit's row that was seen come to the same in the books
-pub same_changes : (b : Content) (c : Call) (u : Name) (part : Option UnitPart) (cs left : List RowEdit) → part ≡ part_in b c u → ((rows : UnitRows) → IfSome part (λ p. rows.units ≡ p.rows.units) → changed_by left rows ≡ changed_by cs rows) → after_changes b u left ≡ after_changes b u cs
+pub same_changes : (b : Content) (c : Call) (u : Name) (part : Option UnitPart) (cs left : List RowEdit) → part ≡ part_in b c u
+    → ((rows : UnitRows) → IfSome part (λ p. rows.units ≡ p.rows.units) → changed_by left rows ≡ changed_by cs rows)
+    → after_changes b u left ≡ after_changes b u cs
 same_changes b c u part cs left found same =
-    ap (with_rows b u) (same (rows_in b u) (subst (λ o. IfSome o (λ p. (rows_in b u).units ≡ p.rows.units)) (sym found) (units_in_some_part c (get b.units u))))
+    ap (with_rows b u)
+        (same (rows_in b u) (subst (λ o. IfSome o (λ p. (rows_in b u).units ≡ p.rows.units)) (sym found) (units_in_some_part c (get b.units u))))
 
 -- the changes of an accepted opening put the unit's own row
-pub known_opening : (b : Content) (w : World) (c : Call) (u : Name) (reply : Reply) (cs : List RowEdit) → IsOpening (by_admin w c) (is_taken w u) c (IsAccepted reply cs) → IsKnownTo b u cs
+pub known_opening : (b : Content) (w : World) (c : Call) (u : Name) (reply : Reply) (cs : List RowEdit)
+    → IsOpening (by_admin w c) (is_taken w u) c (IsAccepted reply cs) → IsKnownTo b u cs
 known_opening b w c u reply cs v = inr (v.puts (ap is_ok (sym v.answer)))
 
 -- The units of a person
@@ -208,13 +241,15 @@ option_map-when f false x = refl
 filter_map-mapped : {A B C : Type 0} (f : B → C) (s : A → Option B) (xs : List A) → filter_map (λ x. option_map f (s x)) xs ≡ map f (filter_map s xs)
 filter_map-mapped f s [] = refl
 filter_map-mapped f s (x ∷ xs) =
-    elim (s x) as (λ o. cons_option (option_map f o) (filter_map (λ x. option_map f (s x)) xs) ≡ map f (cons_option o (filter_map s xs))) [ None ↦ filter_map-mapped f s xs | Some y ↦ ap (λ ys. f y ∷ ys) (filter_map-mapped f s xs) ]
+    elim (s x) as (λ o. cons_option (option_map f o) (filter_map (λ x. option_map f (s x)) xs)
+        ≡ map f (cons_option o (filter_map s xs))) [ None ↦ filter_map-mapped f s xs | Some y ↦ ap (λ ys. f y ∷ ys) (filter_map-mapped f s xs) ]
 
 -- a unit of the person, as the history tells it
 abbrev mine_of : ℕ → Name → Name × List Call → MineUnit
 mine_of t p e = record { unit = e.0; roles = roles_held e.1 t p; last = last_moment e.1 }
 
-one_mine : (t : ℕ) (p u : Name) (o : Option (List Call)) → mine_unit t p u (option_map rows_of o) ≡ option_map (mine_of t p) (when (holds_any (unwrap_or o []) t p) (u, unwrap_or o []))
+one_mine : (t : ℕ) (p u : Name) (o : Option (List Call))
+    → mine_unit t p u (option_map rows_of o) ≡ option_map (mine_of t p) (when (holds_any (unwrap_or o []) t p) (u, unwrap_or o []))
 one_mine t p u None = refl
 one_mine t p u (Some h) =
     (λ i. when (any_of_rows h t p i) (record { unit = u; roles = roles_of_rows h t p i; last = last_moment h }))
@@ -240,35 +275,52 @@ lt_false : (a b : ℕ) → b ≤ a → nat_lt a b ≡ false
 lt_false a b h = grind (arith, nat_tests)
 
 -- the latest of the call's moment and the last moments of the units
-last_told : (t : ℕ) (p : Name) (us : List (Name × List Call)) (units : List MineUnit) (last : ℕ) → units ≡ map (mine_of t p) us → last ≡ fold max t (map (λ (u : MineUnit). u.last) units) → last ≡ max t (greatest_last us)
+last_told : (t : ℕ) (p : Name) (us : List (Name × List Call)) (units : List MineUnit) (last : ℕ) → units ≡ map (mine_of t p) us
+    → last ≡ fold max t (map (λ (u : MineUnit). u.last) units) → last ≡ max t (greatest_last us)
 last_told t p us units last is e =
-    e ∙ ap (λ xs. fold max t (map (λ (u : MineUnit). u.last) xs)) is ∙ ap (fold max t) (map-map (λ (u : MineUnit). u.last) (mine_of t p) us) ∙ latest_of t (map (λ e. last_moment e.1) us)
+    e ∙ ap (λ xs. fold max t (map (λ (u : MineUnit). u.last) xs)) is ∙ ap (fold max t) (map-map (λ (u : MineUnit). u.last) (mine_of t p) us)
+        ∙ latest_of t (map (λ e. last_moment e.1) us)
 
-answered_of_units : (b : Content) (w : World) (c : Call) (a : Said) → Holds b w → unit_named c.request ≡ None → a ≡ answer_of_units (units_held w c.moment c.person) c → IsAnswered w c a (λ m. m ≡ b)
+answered_of_units : (b : Content) (w : World) (c : Call) (a : Said) → Holds b w → unit_named c.request ≡ None
+    → a ≡ answer_of_units (units_held w c.moment c.person) c → IsAnswered w c a (λ m. m ≡ b)
 answered_of_units b w c a h named is =
     record { answered = is ∙ sym (ap (answer_at w c) named); after = b; left_it = refl; holds = subst (λ o. Holds b (next_at w c o)) (sym named) h }
 
-units_behind : (us : List (Name × List Call)) (c : Call) (last : ℕ) → last ≡ max c.moment (greatest_last us) → c.moment < last → Err (MomentBehind last) ≡ answer_of_units us c
+units_behind : (us : List (Name × List Call)) (c : Call) (last : ℕ) → last ≡ max c.moment (greatest_last us) → c.moment < last
+    → Err (MomentBehind last) ≡ answer_of_units us c
 units_behind us c last e lt =
     let is : last ≡ greatest_last us = omega (arith, e, lt) in
     let less : c.moment < greatest_last us = omega (arith, e, lt) in
-    ap (λ x. Err (MomentBehind x)) is ∙ sym (ap (λ b. if b then Err (MomentBehind (greatest_last us)) else Ok (reply_of_units us c c.request)) (lt_true c.moment (greatest_last us) less))
+    ap (λ x. Err (MomentBehind x)) is
+        ∙ sym (ap (λ b. if b then
+        Err (MomentBehind (greatest_last us)) else Ok (reply_of_units us c c.request)) (lt_true c.moment (greatest_last us) less))
 
-units_told : (us : List (Name × List Call)) (c : Call) (last : ℕ) (reply : Reply) → last ≡ max c.moment (greatest_last us) → reply ≡ reply_of_units us c c.request → last ≤ c.moment → Ok reply ≡ answer_of_units us c
+units_told : (us : List (Name × List Call)) (c : Call) (last : ℕ) (reply : Reply) → last ≡ max c.moment (greatest_last us)
+    → reply ≡ reply_of_units us c c.request → last ≤ c.moment → Ok reply ≡ answer_of_units us c
 units_told us c last reply e is le =
     let least : greatest_last us ≤ c.moment = omega (arith, e, le) in
-    ap (λ x. Ok x) is ∙ sym (ap (λ b. if b then Err (MomentBehind (greatest_last us)) else Ok (reply_of_units us c c.request)) (lt_false c.moment (greatest_last us) least))
+    ap (λ x. Ok x) is
+        ∙ sym (ap (λ b. if b then
+        Err (MomentBehind (greatest_last us)) else Ok (reply_of_units us c c.request)) (lt_false c.moment (greatest_last us) least))
 
-pub behind_units : (b : Content) (w : World) (c : Call) (units : List MineUnit) (last : ℕ) → Holds b w → unit_named c.request ≡ None → units ≡ mine_units b c.moment c.person → last ≡ fold max c.moment (map (λ (u : MineUnit). u.last) units) → c.moment < last → IsAnswered w c (Err (MomentBehind last)) (λ m. m ≡ b)
+pub behind_units : (b : Content) (w : World) (c : Call) (units : List MineUnit) (last : ℕ) → Holds b w → unit_named c.request ≡ None
+    → units ≡ mine_units b c.moment c.person → last ≡ fold max c.moment (map (λ (u : MineUnit). u.last) units) → c.moment < last
+    → IsAnswered w c (Err (MomentBehind last)) (λ m. m ≡ b)
 behind_units b w c units last h named is e lt =
-    answered_of_units b w c _ h named (units_behind (units_held w c.moment c.person) c last (last_told c.moment c.person (units_held w c.moment c.person) units last (is ∙ mine_told b w c.moment c.person h) e) lt)
+    answered_of_units b w c _ h named
+        (units_behind (units_held w c.moment c.person) c last (last_told c.moment c.person (units_held w c.moment c.person) units last (is
+        ∙ mine_told b w c.moment c.person h) e) lt)
 
-pub told_units : (b : Content) (w : World) (c : Call) (units : List MineUnit) (last : ℕ) (lines : List UnitLine) → Holds b w → c.request ≡ MyUnits → units ≡ mine_units b c.moment c.person → last ≡ fold max c.moment (map (λ (u : MineUnit). u.last) units) → lines ≡ map line_of_mine units → last ≤ c.moment → IsAnswered w c (Ok (Units lines)) (λ m. m ≡ b)
+pub told_units : (b : Content) (w : World) (c : Call) (units : List MineUnit) (last : ℕ) (lines : List UnitLine) → Holds b w → c.request ≡ MyUnits
+    → units ≡ mine_units b c.moment c.person → last ≡ fold max c.moment (map (λ (u : MineUnit). u.last) units) → lines ≡ map line_of_mine units
+    → last ≤ c.moment → IsAnswered w c (Ok (Units lines)) (λ m. m ≡ b)
 told_units b w c units last lines h asked is e l le =
     let us = units_held w c.moment c.person in
     let honest = is ∙ mine_told b w c.moment c.person h in
     let same : lines ≡ unit_lines c.moment c.person us = l ∙ ap (map line_of_mine) honest ∙ map-map line_of_mine (mine_of c.moment c.person) us in
-    answered_of_units b w c _ h (ap unit_named asked) (units_told us c last (Units lines) (last_told c.moment c.person us units last honest e) (ap (λ x. Units x) same ∙ ap (reply_of_units us c) (sym asked)) le)
+    answered_of_units b w c _ h (ap unit_named asked)
+        (units_told us c last (Units lines) (last_told c.moment c.person us units last honest e) (ap (λ x. Units x) same
+        ∙ ap (reply_of_units us c) (sym asked)) le)
 
 -- The shelves of a person
 returned_in : (h : List Call) (a : Name) → last_return (alarm_rows h) a ≡ returned (facts h) a
@@ -282,16 +334,21 @@ abbrev seen_shelves : Option (Name × List Call) → List MineRow
 seen_shelves None = []
 seen_shelves (Some e) = shelves_of e
 
-one_unit_shelves : (t : ℕ) (p u : Name) (o : Option (List Call)) → shelves_mine t p u (option_map rows_of o) ≡ seen_shelves (when (holds_any (unwrap_or o []) t p) (u, unwrap_or o []))
+one_unit_shelves : (t : ℕ) (p u : Name) (o : Option (List Call))
+    → shelves_mine t p u (option_map rows_of o) ≡ seen_shelves (when (holds_any (unwrap_or o []) t p) (u, unwrap_or o []))
 one_unit_shelves t p u None = refl
 one_unit_shelves t p u (Some h) =
     (λ i. if any_of_rows h t p i then shelves_of (u, h) else [])
     ∙ elim (holds_any h t p) as (λ b. (if b then shelves_of (u, h) else []) ≡ seen_shelves (when b (u, h))) [ true ↦ refl | false ↦ refl ]
 
-flat_map-seen : {A : Type 0} (s : A → Option (Name × List Call)) (xs : List A) → flat_map (λ x. seen_shelves (s x)) xs ≡ flat_map shelves_of (filter_map s xs)
+flat_map-seen : {A : Type 0} (s : A → Option (Name × List Call)) (xs : List A)
+    → flat_map (λ x. seen_shelves (s x)) xs ≡ flat_map shelves_of (filter_map s xs)
 flat_map-seen s [] = refl
 flat_map-seen s (x ∷ xs) =
-    elim (s x) as (λ o. seen_shelves o ++ flat_map (λ x. seen_shelves (s x)) xs ≡ flat_map shelves_of (cons_option o (filter_map s xs))) [ None ↦ flat_map-seen s xs | Some e ↦ ap (λ ys. shelves_of e ++ ys) (flat_map-seen s xs) ]
+    elim (s x) as (λ o. seen_shelves o
+        ++ flat_map (λ x. seen_shelves (s x)) xs
+        ≡ flat_map shelves_of (cons_option o (filter_map s xs))) [ None ↦ flat_map-seen s xs | Some e ↦ ap (λ ys. shelves_of e ++ ys)
+        (flat_map-seen s xs) ]
 
 shelves_told : (b : Content) (w : World) (t : ℕ) (p : Name) → Holds b w → mine_shelves b t p ≡ flat_map shelves_of (units_held w t p)
 shelves_told b w t p h =
@@ -312,23 +369,34 @@ all_shelf_lines t (e ∷ us) =
     filter_map-append (line_of_shelf t) (shelves_of e) (flat_map shelves_of us)
     ∙ (λ i. unit_shelf_lines t e.0 e.1 i ++ all_shelf_lines t us i)
 
-pub told_shelves : (b : Content) (w : World) (c : Call) (units : List MineUnit) (last : ℕ) (shelves : List MineRow) (lines : List MineLine) (person : Name) → Holds b w → c.request ≡ MyShelves → units ≡ mine_units b c.moment c.person → last ≡ fold max c.moment (map (λ (u : MineUnit). u.last) units) → shelves ≡ mine_shelves b c.moment c.person → lines ≡ filter_map (line_of_shelf c.moment) shelves → last ≤ c.moment → person ≡ c.person → IsAnswered w c (Ok (Mine person c.moment lines)) (λ m. m ≡ b)
+pub told_shelves : (b : Content) (w : World) (c : Call) (units : List MineUnit) (last : ℕ) (shelves : List MineRow) (lines : List MineLine)
+    (person : Name) → Holds b w → c.request ≡ MyShelves → units ≡ mine_units b c.moment c.person
+    → last ≡ fold max c.moment (map (λ (u : MineUnit). u.last) units) → shelves ≡ mine_shelves b c.moment c.person
+    → lines ≡ filter_map (line_of_shelf c.moment) shelves → last ≤ c.moment → person ≡ c.person
+    → IsAnswered w c (Ok (Mine person c.moment lines)) (λ m. m ≡ b)
 told_shelves b w c units last shelves lines person h asked is e found l le copied =
     let us = units_held w c.moment c.person in
-    let same : lines ≡ mine_lines c.moment us = l ∙ ap (filter_map (line_of_shelf c.moment)) (found ∙ shelves_told b w c.moment c.person h) ∙ all_shelf_lines c.moment us in
-    answered_of_units b w c _ h (ap unit_named asked) (units_told us c last (Mine person c.moment lines) (last_told c.moment c.person us units last (is ∙ mine_told b w c.moment c.person h) e) ((λ i. Mine (copied i) c.moment (same i)) ∙ ap (reply_of_units us c) (sym asked)) le)
+    let same : lines ≡ mine_lines c.moment us = l ∙ ap (filter_map (line_of_shelf c.moment)) (found ∙ shelves_told b w c.moment c.person h)
+        ∙ all_shelf_lines c.moment us in
+    answered_of_units b w c _ h (ap unit_named asked)
+        (units_told us c last (Mine person c.moment lines) (last_told c.moment c.person us units last (is
+        ∙ mine_told b w c.moment c.person h) e) ((λ i. Mine (copied i) c.moment (same i)) ∙ ap (reply_of_units us c) (sym asked)) le)
 
 -- the content after the changes of a call that is accepted holds the world after it
-pub holds_meant : (b : Content) (w : World) (c : Call) (u : Name) (reply : Reply) (cs left : List RowEdit) → IsLegalWorld w → Holds b w → has_matrix c.request ≡ true → unit_named c.request ≡ Some u → is_opening c.request ≡ false → is_read c.request ≡ false
+pub holds_meant : (b : Content) (w : World) (c : Call) (u : Name) (reply : Reply) (cs left : List RowEdit) → IsLegalWorld w → Holds b w
+    → has_matrix c.request ≡ true → unit_named c.request ≡ Some u → is_opening c.request ≡ false → is_read c.request ≡ false
     → IsVerdictOn (history w u) c (IsAccepted reply cs) → after_changes b u left ≡ after_changes b u cs → Holds (after_changes b u left) (next w c)
 holds_meant b w c u reply cs left legal h matrix named plain changes v same =
-    let s = leaves w c (Ok reply) (after_changes b u cs) (λ m. m ≡ after_changes b u cs) legal matrix (changing_call b w c u reply cs h named plain changes v) refl in
+    let s = leaves w c (Ok reply) (after_changes b u cs)
+        (λ m. m ≡ after_changes b u cs) legal matrix (changing_call b w c u reply cs h named plain changes v) refl in
     subst (λ (m : Content). Holds m (next w c)) (s.left_it ∙ sym same) s.holds
 
-pub holds_opened : (b : Content) (w : World) (c : Call) (u : Name) (reply : Reply) (cs : List RowEdit) → IsLegalWorld w → Holds b w → has_matrix c.request ≡ true → unit_named c.request ≡ Some u → is_opening c.request ≡ true
+pub holds_opened : (b : Content) (w : World) (c : Call) (u : Name) (reply : Reply) (cs : List RowEdit) → IsLegalWorld w → Holds b w
+    → has_matrix c.request ≡ true → unit_named c.request ≡ Some u → is_opening c.request ≡ true
     → IsOpening (by_admin w c) (is_taken w u) c (IsAccepted reply cs) → Holds (after_changes b u cs) (next w c)
 holds_opened b w c u reply cs legal h matrix named opens v =
-    let s = leaves w c (Ok reply) (after_changes b u cs) (λ m. m ≡ after_changes b u cs) legal matrix (accepted_opening b w c u reply cs h named opens v) refl in
+    let s = leaves w c (Ok reply) (after_changes b u cs)
+        (λ m. m ≡ after_changes b u cs) legal matrix (accepted_opening b w c u reply cs h named opens v) refl in
     subst (λ (m : Content). Holds m (next w c)) s.left_it s.holds
 
 -- ---- what a crash leaves of a call
@@ -351,7 +419,8 @@ unmade_says c (Faulted f) none = absurd none
 
 module _ {B : Type 0} (books : Ghosts B) (c : Call) where
   -- a call that asks, or is refused
-  pub endures_unmade : (a : Answer) (before after : B) → IsUnmade c a → ((m : Content) → books.represents before m → books.represents after m) → Loses books before after → Endures c a (books_state books before) (books_state books after)
+  pub endures_unmade : (a : Answer) (before after : B) → IsUnmade c a → ((m : Content) → books.represents before m → books.represents after m)
+      → Loses books before after → Endures c a (books_state books before) (books_state books after)
   endures_unmade a before after none same crash = record {
     clean = crash.clean;
     kept = λ _ told. absurd (true≢false (sym told ∙ unmade_says c a none));
@@ -363,7 +432,8 @@ module _ {B : Type 0} (books : Ghosts B) (c : Call) where
   }
 
   -- a call that a read ended by a fault
-  pub endures_fault : (f : Fault) (before after : B) → ((m : Content) → books.represents before m → books.represents after m) → Loses books before after → Endures c (Faulted f) (books_state books before) (books_state books after)
+  pub endures_fault : (f : Fault) (before after : B) → ((m : Content) → books.represents before m → books.represents after m)
+      → Loses books before after → Endures c (Faulted f) (books_state books before) (books_state books after)
   endures_fault f before after same crash = record {
     clean = crash.clean;
     kept = λ _ told. absurd (true≢false (sym told));
@@ -380,25 +450,31 @@ pub record Makes {B : Type 0} (books : Ghosts B) (c : Call) (u : Name) (cs : Lis
   pub same : (m : Content) → books.represents before m → books.represents mid m
   pub writes : LosesNoPart books.represents books.is_honest books.is_clean books.leaves_books books.may_leave u cs mid after
   pub known : (m : Content) → books.represents before m → (w : World) → IsLegalWorld w → Holds m w → books.is_honest mid → IsKnownTo m u cs
-  pub meant : (m : Content) → books.represents before m → (w : World) → IsLegalWorld w → Holds m w → books.is_honest mid → Holds (after_changes m u cs) (next w c)
+  pub meant : (m : Content) → books.represents before m → (w : World) → IsLegalWorld w → Holds m w → books.is_honest mid
+      → Holds (after_changes m u cs) (next w c)
   pub legal : (w : World) → IsLegalWorld w → IsLegalWorld (next w c)
 
-module _ {B : Type 0} (books : Ghosts B) (c : Call) (u : Name) (cs : List RowEdit) (before mid after : B) (it : Makes books c u cs before mid after) where
-  made_each : books.is_clean after → (w : World) → HoldsWorld w (books_state books before) → (x : Content) → books.may_leave after x → books.may_leave before x ⊎ (Holds x (next w c) × IsLegalWorld (next w c))
+module _ {B : Type 0} (books : Ghosts B) (c : Call) (u : Name) (cs : List RowEdit) (before mid after : B)
+    (it : Makes books c u cs before mid after) where
+  made_each : books.is_clean after → (w : World) → HoldsWorld w (books_state books before) → (x : Content) → books.may_leave after x
+      → books.may_leave before x ⊎ (Holds x (next w c) × IsLegalWorld (next w c))
   made_each tidy w of x l = elim (it.writes.fewer tidy x l) [
     | inl was ↦ inl (it.read.fewer (it.writes.clean tidy) x was)
     | inr new ↦
         let m = of.content in
-        inr (holds_alike x (after_changes m u cs) (next w c) (new.1 m (it.same m of.held) (it.known m of.held w of.legal of.holds new.0)) (it.meant m of.held w of.legal of.holds new.0), it.legal w of.legal)
+        inr (holds_alike x (after_changes m u cs) (next w c) (new.1 m (it.same m of.held) (it.known m of.held w of.legal of.holds new.0))
+            (it.meant m of.held w of.legal of.holds new.0), it.legal w of.legal)
   ]
 
   made_sound : books.is_clean after → (w : World) → HoldsWorld w (books_state books before) → books.leaves_books before → books.leaves_books after
   made_sound tidy w of s =
-      it.writes.sound tidy of.content (it.same of.content of.held) (λ honest. it.known of.content of.held w of.legal of.holds honest) (it.read.sound (it.writes.clean tidy) s)
+      it.writes.sound tidy of.content (it.same of.content of.held) (λ honest. it.known of.content of.held w of.legal of.holds honest)
+          (it.read.sound (it.writes.clean tidy) s)
 
   -- a call that was made
   pub endures_made : (reply : Reply) → is_read c.request ≡ false → (books.is_clean after → books.is_honest after)
-      → ((m : Content) → books.represents before m → (w : World) → IsLegalWorld w → Holds m w → books.is_honest after → IsServed w c (Ok reply) (books.represents after))
+      → ((m : Content) → books.represents before m → (w : World) → IsLegalWorld w → Holds m w → books.is_honest after
+      → IsServed w c (Ok reply) (books.represents after))
       → Endures c (Replied reply) (books_state books before) (books_state books after)
   endures_made reply changes kept served = record {
     clean = λ tidy. it.read.clean (it.writes.clean tidy);
@@ -413,7 +489,8 @@ module _ {B : Type 0} (books : Ghosts B) (c : Call) (u : Name) (cs : List RowEdi
   }
 
   -- a call whose changes failed
-  pub endures_failed : (f : Fault) → ((m : Content) → books.represents before m → books.represents after m) → Endures c (Faulted f) (books_state books before) (books_state books after)
+  pub endures_failed : (f : Fault) → ((m : Content) → books.represents before m → books.represents after m)
+      → Endures c (Faulted f) (books_state books before) (books_state books after)
   endures_failed f same = record {
     clean = λ tidy. it.read.clean (it.writes.clean tidy);
     kept = λ _ told. absurd (true≢false (sym told));
@@ -425,12 +502,21 @@ module _ {B : Type 0} (books : Ghosts B) (c : Call) (u : Name) (cs : List RowEdi
   }
 
 -- a call whose answer leaves the books as they were
-pub serves_same : {B : Type 0} {books : Ghosts B} {c : Call} {a : Said} {before after : B} → ((m : Content) → books.represents before m → (w : World) → IsLegalWorld w → Holds m w → books.is_honest after → IsServed w c a (books.represents after)) → (books.is_honest after → books.is_honest before) → ((m : Content) → books.represents before m → books.represents after m) → books.stores after ≡ books.stores before → IsUnmade c (answer_as (Ok a)) → Loses books before after → Serves books c (Ok a) before after
+pub serves_same : {B : Type 0} {books : Ghosts B} {c : Call} {a : Said} {before after : B}
+    → ((m : Content) → books.represents before m → (w : World) → IsLegalWorld w → Holds m w → books.is_honest after
+    → IsServed w c a (books.represents after)) → (books.is_honest after → books.is_honest before)
+    → ((m : Content) → books.represents before m → books.represents after m) → books.stores after ≡ books.stores before
+    → IsUnmade c (answer_as (Ok a)) → Loses books before after → Serves books c (Ok a) before after
 serves_same {B} {books} {c} {a} {before} {after} served honest same count none crash =
-    record { served = served; honest = honest; unchanged = λ m k _. same m k; fault = λ _ _. tt; count = count; endures = endures_unmade books c (answer_as (Ok a)) before after none same crash }
+    record { served = served; honest = honest; unchanged = λ m k _. same m k; fault = λ _ _. tt; count = count;
+        endures = endures_unmade books c (answer_as (Ok a)) before after none same crash }
 
 -- a call whose reply changed the books
-pub serves_changing : {B : Type 0} {books : Ghosts B} {c : Call} {reply : Reply} {before after : B} → ((m : Content) → books.represents before m → (w : World) → IsLegalWorld w → Holds m w → books.is_honest after → IsServed w c (Ok reply) (books.represents after)) → (books.is_honest after → books.is_honest before) → is_read c.request ≡ false → books.stores after ≡ books.stores before → {u : Name} {cs : List RowEdit} {mid : B} → Makes books c u cs before mid after → (books.is_clean after → books.is_honest after) → Serves books c (Ok (Ok reply)) before after
+pub serves_changing : {B : Type 0} {books : Ghosts B} {c : Call} {reply : Reply} {before after : B}
+    → ((m : Content) → books.represents before m → (w : World) → IsLegalWorld w → Holds m w → books.is_honest after
+    → IsServed w c (Ok reply) (books.represents after)) → (books.is_honest after → books.is_honest before) → is_read c.request ≡ false
+    → books.stores after ≡ books.stores before → {u : Name} {cs : List RowEdit} {mid : B} → Makes books c u cs before mid after
+    → (books.is_clean after → books.is_honest after) → Serves books c (Ok (Ok reply)) before after
 serves_changing {B} {books} {c} {reply} {before} {after} served honest changes count {u} {cs} {mid} makes kept =
     record {
       served = served;
@@ -442,7 +528,10 @@ serves_changing {B} {books} {c} {reply} {before} {after} served honest changes c
     }
 
 -- a call that a fault ended, after a read that left the count as it was
-pub serves_fault : {B : Type 0} {books : Ghosts B} {c : Call} {before after : B} {n : ℕ} (said : Result Said Fault) (e : Fault) → IsErrAnd said (λ f. f ≡ e) → (books.is_honest after → books.is_honest before) → ((m : Content) → books.represents before m → books.represents after m) → n ≡ books.stores before → CountsFault n (books.stores after) e → {u : Name} {cs : List RowEdit} {mid : B} → Makes books c u cs before mid after → Serves books c said before after
+pub serves_fault : {B : Type 0} {books : Ghosts B} {c : Call} {before after : B} {n : ℕ} (said : Result Said Fault) (e : Fault)
+    → IsErrAnd said (λ f. f ≡ e) → (books.is_honest after → books.is_honest before)
+    → ((m : Content) → books.represents before m → books.represents after m) → n ≡ books.stores before → CountsFault n (books.stores after) e
+    → {u : Name} {cs : List RowEdit} {mid : B} → Makes books c u cs before mid after → Serves books c said before after
 serves_fault (Ok a) e is honest same read count makes = absurd is
 serves_fault {B} {books} {c} {before} {after} {n} (Err f) e is honest same read count {u} {cs} {mid} makes =
     record {

@@ -22,7 +22,9 @@ pub record BooksState : Type 1 where
 
 -- that of a keeper's books
 abbrev pub books_state : {B : Type 0} → Ghosts B → B → BooksState
-books_state g b = record { held = g.represents b; honest = g.is_honest b; clean = g.is_clean b; leaves = g.may_leave b; sound = g.leaves_books b }
+books_state g b =
+    record { held = g.represents b; honest = g.is_honest b; clean = g.is_clean b; leaves = g.may_leave b;
+    sound = g.leaves_books b }
 
 -- by this answer the caller knows that the call changed nothing: a reply to a read, or a refusal
 abbrev pub IsUnmade : Call → Answer → Type 0
@@ -45,7 +47,8 @@ pub record Endures (c : Call) (a : Answer) (before after : BooksState) : Type 0 
   pub made : after.honest → confirms c a ≡ true → (w : World) → HoldsWorld w before → HoldsWorld (next w c) after
   pub unmade : confirms c a ≡ false → (m : Content) → before.held m → after.held m
   -- a crash leaves what it left before, or the books with the call
-  pub each : after.clean → (w : World) → HoldsWorld w before → (x : Content) → after.leaves x → before.leaves x ⊎ (Holds x (next w c) × IsLegalWorld (next w c))
+  pub each : after.clean → (w : World) → HoldsWorld w before → (x : Content) → after.leaves x
+      → before.leaves x ⊎ (Holds x (next w c) × IsLegalWorld (next w c))
   -- only the former, where the caller knows that nothing changed
   pub quiet : after.clean → IsUnmade c a → (x : Content) → after.leaves x → before.leaves x
   pub sound : after.clean → (w : World) → HoldsWorld w before → before.sound → after.sound
@@ -66,4 +69,5 @@ pub record AreAfter (w : World) (calls : List Call) (answers : List Answer) (boo
 -- what is true of the calls so far stays true with these calls after them
 pub record EnduresAll (before after : BooksState) (calls : List Call) (answers : List Answer) : Type 0 where
   pub clean : after.clean → before.clean
-  pub goes_on : (w : World) (earlier : List Call) (said : List Answer) → after.clean → AreAfter w earlier said before → AreAfter w (earlier ++ calls) (said ++ answers) after
+  pub goes_on : (w : World) (earlier : List Call) (said : List Answer) → after.clean → AreAfter w earlier said before
+      → AreAfter w (earlier ++ calls) (said ++ answers) after

@@ -14,12 +14,14 @@ pub record Life : Type 0 where
 abbrev pub LeadTo : Content → List Life → Content → Type 0
 LeadTo first [] last = last ≡ first
 LeadTo first (life ∷ lives) last =
-    (found : Content) × ((w : World) → IsLegalWorld w → Holds first w → IsOutcome w life.calls life.answers found) × LeadTo found lives last
+    (found : Content) × ((w : World) → IsLegalWorld w → Holds first w → IsOutcome w life.calls life.answers found)
+    × LeadTo found lives last
 
 -- the calls that the lives made, life by life: those that were confirmed, and after each life at most one that was in doubt
 abbrev pub AreMadeInAll : List Life → List Call → Type 0
 AreMadeInAll [] made = made ≡ []
-AreMadeInAll (life ∷ lives) made = (own later : List Call) × AreMade life.calls life.answers own × AreMadeInAll lives later × (made ≡ own ++ later)
+AreMadeInAll (life ∷ lives) made = (own later : List Call) × AreMade life.calls life.answers own
+    × AreMadeInAll lives later × (made ≡ own ++ later)
 
 -- the calls that were confirmed in all lives, in their order
 abbrev pub confirmed_in_all : List Life → List Call
@@ -38,4 +40,5 @@ abbrev pub CrashesLeaveAWorld : Type 0
 CrashesLeaveAWorld =
     (first last : Content) (lives : List Life) (w : World) → IsLegalWorld w → Holds first w → LeadTo first lives last
     → (made : List Call) × Holds last (after_calls w made) × IsLegalWorld (after_calls w made)
-    × IsWithin (confirmed_in_all lives) made × (length made ≤ length (confirmed_in_all lives) + length lives) × AreMadeInAll lives made
+    × IsWithin (confirmed_in_all lives) made × (length made ≤ length (confirmed_in_all lives) + length lives)
+    × AreMadeInAll lives made

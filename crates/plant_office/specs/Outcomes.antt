@@ -24,13 +24,15 @@ is_fault (Faulted f) = true
 
 -- the call is in doubt: its answer was a fault, so the caller does not know whether it was made, and no later call was confirmed
 abbrev pub IsInDoubt : Call → List Call → List Answer → Type 0
-IsInDoubt c (d ∷ calls) (a ∷ answers) = ((d ≡ c) × (is_fault a ≡ true) × (confirmed calls answers ≡ [])) ⊎ IsInDoubt c calls answers
+IsInDoubt c (d ∷ calls) (a ∷ answers) = ((d ≡ c) × (is_fault a ≡ true) × (confirmed calls answers ≡ []))
+    ⊎ IsInDoubt c calls answers
 IsInDoubt c (d ∷ calls) [] = ⊥
 IsInDoubt c [] answers = ⊥
 
 -- these calls are made after a crash: those that were confirmed, or these and one that is in doubt
 abbrev pub AreMade : List Call → List Answer → List Call → Type 0
-AreMade calls answers made = (made ≡ confirmed calls answers) ⊎ ((c : Call) × IsInDoubt c calls answers × (made ≡ confirmed calls answers ++ c ∷ []))
+AreMade calls answers made = (made ≡ confirmed calls answers)
+    ⊎ ((c : Call) × IsInDoubt c calls answers × (made ≡ confirmed calls answers ++ c ∷ []))
 
 -- the world after these calls, made one after the other
 abbrev pub after_calls : World → List Call → World

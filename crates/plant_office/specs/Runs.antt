@@ -27,7 +27,8 @@ AreAnswers w (c ∷ calls) [] = ⊥
 -- each caller got the answer, and has afterwards the histories, of any other office that looked the same to that caller
 pub record IsAlike (w : World) (c : Call) (a : Answer) : Type 0 where
   pub alike : (v : World) → w.admin ≡ v.admin → view c.moment c.person w ≡ view c.moment c.person v
-      → IfSaid a (λ x. (x ≡ answer v c) × ((u : Name) → IsOwnUnit v c u → get (next w c).units u ≡ get (next v c).units u))
+      → IfSaid a (λ x. (x ≡ answer v c)
+      × ((u : Name) → IsOwnUnit v c u → get (next w c).units u ≡ get (next v c).units u))
 
 abbrev pub AreIsolated : World → List Call → List Answer → Type 0
 AreIsolated w (c ∷ calls) (a ∷ answers) = IsAlike w c a × AreIsolated (after_answer w c a) calls answers

@@ -20,7 +20,8 @@ pub record IsServed (w : World) (c : Call) (a : Result Reply Refused) (left : Co
 
 -- the unit is the person's before the call or after it
 abbrev pub IsOwnUnit : World → Call → Name → Type 0
-IsOwnUnit v c u = (holds_any (history v u) c.moment c.person ≡ true) ⊎ (holds_any (history (next v c) u) c.moment c.person ≡ true)
+IsOwnUnit v c u = (holds_any (history v u) c.moment c.person ≡ true)
+    ⊎ (holds_any (history (next v c) u) c.moment c.person ≡ true)
 
 -- the headline: the caller is answered as in any other office that looks the same to the caller, and the rows of the
 -- caller's units are afterwards those of that office

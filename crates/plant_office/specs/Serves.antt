@@ -8,11 +8,14 @@ use Rattle.plant_types.specs.declared.fault.Fault.{Fault}
 
 -- the answer is that of the world whose rows the books hold; after a fault, a refusal or a reply to a read the books are
 -- unchanged
-pub record Serves {B : Type 0} (books : Ghosts B) (c : Call) (said : Result (Result Reply Refused) Fault) (before after : B) : Type 0 where
-  pub served : (m : Content) → books.represents before m → (w : World) → IsLegalWorld w → Holds m w → books.is_honest after
+pub record Serves {B : Type 0} (books : Ghosts B) (c : Call) (said : Result (Result Reply Refused) Fault)
+    (before after : B) : Type 0 where
+  pub served : (m : Content) → books.represents before m → (w : World) → IsLegalWorld w → Holds m w
+      → books.is_honest after
       → IfOk said (λ a. IsServed w c a (books.represents after))
   pub honest : books.is_honest after → books.is_honest before
-  pub unchanged : (m : Content) → books.represents before m → IfOk said (λ a. changes_history a c ≡ false → books.represents after m)
+  pub unchanged : (m : Content) → books.represents before m
+      → IfOk said (λ a. changes_history a c ≡ false → books.represents after m)
   pub fault : (m : Content) → books.represents before m → OnErr said (books.represents after m)
   pub count : Counts (books.stores before) (books.stores after) said
   -- and so does a crash

@@ -85,5 +85,7 @@ cell_at rows i j = option_and_then (λ row. slice_get row j) (slice_get rows i)
 
 -- the order of a matrix, cell by cell: no cell is lower than its neighbour in the next longer band, or in the next less severe row
 pub record IsOrdered (rows : List (List Cell)) : Type 0 where
-  pub bands : (i j : ℕ) (shorter longer : Cell) → cell_at rows i j ≡ Some shorter → cell_at rows i (j + 1) ≡ Some longer → rank shorter ≤ rank longer
-  pub severities : (i j : ℕ) (less more : Cell) → cell_at rows i j ≡ Some less → cell_at rows (i + 1) j ≡ Some more → rank more ≤ rank less
+  pub bands : (i j : ℕ) (shorter longer : Cell) → cell_at rows i j ≡ Some shorter → cell_at rows i (j + 1) ≡ Some longer
+      → rank shorter ≤ rank longer
+  pub severities : (i j : ℕ) (less more : Cell) → cell_at rows i j ≡ Some less → cell_at rows (i + 1) j ≡ Some more
+      → rank more ≤ rank less

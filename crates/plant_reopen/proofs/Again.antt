@@ -9,8 +9,10 @@ use Rattle.plant_store.{specs.{Changes.{IsHonest}, Keeping.{Represents, HasConte
 use Rattle.plant_store.proofs.public.Databases.{same_database}
 use Rattle.sqlite_disk.specs.declared.Disk as disk
 
-module _ {D : Type 0} {g : disk.Ghosts D} (old new : Held (FileStore D g)) (files : Files D) (live : IsLive (file_state old)) (settled : IsTrue (file_state old).is_open → (file_state old).now ≡ (file_state old).committed)
-    (copied : AreClean g files.log files.db → IsCopied old files) (opened : IsOpened new) (found : Finds files new) (up : IsTrue (file_state new).is_open) where
+module _ {D : Type 0} {g : disk.Ghosts D} (old new : Held (FileStore D g)) (files : Files D) (live : IsLive (file_state old))
+    (settled : IsTrue (file_state old).is_open → (file_state old).now ≡ (file_state old).committed)
+    (copied : AreClean g files.log files.db → IsCopied old files) (opened : IsOpened new) (found : Finds files new)
+    (up : IsTrue (file_state new).is_open) where
   was_told : IsHonest (file_state old)
   was_told = let it = copied found.honest in (it.was_clean, it.was_open)
 
@@ -21,4 +23,6 @@ module _ {D : Type 0} {g : disk.Ghosts D} (old new : Held (FileStore D g)) (file
       ∙ sym (ap (λ (d : Database). d.trees) (settled was_told.1))
 
   pub kept_again : (m : Content) → Represents (file_state old) m → HasContent (file_state new) m
-  kept_again m keeps = keeps_same (file_state old) (file_state new) m (keeps was_told) (same_database (file_state old).now (file_state new).now (live was_told.1).0 (opened.1 up).0 same_trees)
+  kept_again m keeps =
+      keeps_same (file_state old) (file_state new) m (keeps was_told)
+      (same_database (file_state old).now (file_state new).now (live was_told.1).0 (opened.1 up).0 same_trees)

@@ -106,7 +106,8 @@ flood_columns l = moment_text l.start ∷ moment_text l.until ∷ right 6 (decim
 
 abbrev pub flood_heading : Name → ℕ → ℕ → ℕ → List ℕ
 flood_heading unit begin until count =
-    line (codes "FLOODS" ∷ unit ∷ codes "FROM" ∷ moment_text begin ∷ codes "TO" ∷ moment_text until ∷ codes "COUNT" ∷ decimal count ∷ [])
+    line (codes "FLOODS" ∷ unit ∷ codes "FROM" ∷ moment_text begin ∷ codes "TO" ∷ moment_text until ∷ codes "COUNT"
+        ∷ decimal count ∷ [])
 
 -- the floods of a unit in a range of time
 unfoldable pub flood_text : Name → ℕ → ℕ → List FloodLine → List ℕ

@@ -12,7 +12,8 @@ pub record Hands (upper lower : BooksState) : Type 0 where
   pub leaves : (x : Content) → lower.leaves x → upper.leaves x
   pub sound : upper.sound → lower.sound
 
-handed : (upper lower : BooksState) → Hands upper lower → (w : World) (calls : List Call) (answers : List Answer) → AreAfter w calls answers upper → AreAfter w calls answers lower
+handed : (upper lower : BooksState) → Hands upper lower → (w : World) (calls : List Call) (answers : List Answer) → AreAfter w calls answers upper
+    → AreAfter w calls answers lower
 handed upper lower it w calls answers k = record {
   long = k.long;
   now = record { content = k.now.content; held = it.held k.now.content k.now.held; holds = k.now.holds; legal = k.now.legal };
@@ -21,17 +22,26 @@ handed upper lower it w calls answers k = record {
 }
 
 pub ran_below : (before after before_below after_below : BooksState) (count counted_to count_below counted_below : ℕ)
-    → Hands before_below before → Hands after after_below → (after_below.honest → after.honest) → (after_below.clean → after.clean) → (before.clean → before_below.clean)
+    → Hands before_below before → Hands after after_below → (after_below.honest → after.honest) → (after_below.clean → after.clean)
+    → (before.clean → before_below.clean)
     → count ≡ count_below → counted_below ≡ counted_to
-    → (calls : List Call) (answers : List Answer) → Ran before after count counted_to calls answers → Ran before_below after_below count_below counted_below calls answers
-ran_below before after before_below after_below count counted_to count_below counted_below down up honest clean_after clean_before first last calls answers is =
+    → (calls : List Call) (answers : List Answer) → Ran before after count counted_to calls answers
+    → Ran before_below after_below count_below counted_below calls answers
+ran_below before after before_below after_below count counted_to count_below counted_below down up honest clean_after clean_before first last calls
+    answers is =
     record {
       run = λ m h w legal rows told.
           let run = is.run m (down.held m h) w legal rows (honest told) in
-          record { answered = run.answered; isolated = run.isolated; after = run.after; left_it = up.held run.after run.left_it; holds = run.holds; legal = run.legal };
-      counted = λ room. subst (λ n. counted_below ≡ n + stores_in answers) first (subst (λ n. n ≡ count + stores_in answers) (sym last) (is.counted (subst (λ n. n + stores_in answers < 2 ^ 64) (sym first) room)));
+          record { answered = run.answered; isolated = run.isolated; after = run.after; left_it = up.held run.after run.left_it; holds = run.holds;
+              legal = run.legal };
+      counted =
+          λ room. subst (λ n. counted_below
+          ≡ n + stores_in answers) first (subst (λ n. n ≡ count + stores_in answers) (sym last)
+          (is.counted (subst (λ n. n + stores_in answers < 2 ^ 64) (sym first) room)));
       endures = record {
         clean = λ h. clean_before (is.endures.clean (clean_after h));
-        goes_on = λ w earlier said tidy k. handed after after_below up w _ _ (is.endures.goes_on w earlier said (clean_after tidy) (handed before_below before down w earlier said k));
+        goes_on =
+            λ w earlier said tidy k. handed after after_below up w _ _
+            (is.endures.goes_on w earlier said (clean_after tidy) (handed before_below before down w earlier said k));
       };
     }

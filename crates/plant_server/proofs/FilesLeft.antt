@@ -20,10 +20,13 @@ pub if_some : {A : Type 0} (found : Option A) {P Q : A → Type 0} → ((a : A) 
 if_some None then h = tt
 if_some (Some a) then h = then a h
 
-held_by : (image : Image) (d : Database) (m : Content) (db : Trees) → db ≡ d.trees → IsDatabase d → HaveRows m d → HoldsDatabase image db → HoldBooks image m
-held_by image d m db same live rows holds = record { db = d; database = record { trees = subst (HoldsDatabase image) same holds; listed = live }; rows = rows }
+held_by : (image : Image) (d : Database) (m : Content) (db : Trees) → db ≡ d.trees → IsDatabase d → HaveRows m d → HoldsDatabase image db
+    → HoldBooks image m
+held_by image d m db same live rows holds =
+    record { db = d; database = record { trees = subst (HoldsDatabase image) same holds; listed = live }; rows = rows }
 
-outcome_held : (image : Image) (w : World) (calls : List Call) (answers : List Answer) (db : Trees) → IsOutcomeIn w calls answers db → HoldsDatabase image db → HoldOutcome w calls answers image
+outcome_held : (image : Image) (w : World) (calls : List Call) (answers : List Answer) (db : Trees) → IsOutcomeIn w calls answers db
+    → HoldsDatabase image db → HoldOutcome w calls answers image
 outcome_held image w calls answers db it holds = record {
   content = it.content;
   books = held_by image it.database it.content db (sym it.same) it.books.database it.books.rows holds;
@@ -33,7 +36,8 @@ outcome_held image w calls answers db it holds = record {
 module _ {D : Type 0} {g : Ghosts D} where
   -- a store that leaves no more than a connection did leaves what it did
   pub outcomes_left : (c : Held (FileStore D g)) (it : FileStore D g) → IsWhole it → ((db : Trees) → recovers it db → recovers c.store db)
-      → LeavesBooks (file_state c) → (w : World) (calls : List Call) (answers : List Answer) → ((x : Content) → LeavesContent (file_state c) x → IsOutcome w calls answers x) → LeavesOutcomes it w calls answers
+      → LeavesBooks (file_state c) → (w : World) (calls : List Call) (answers : List Answer)
+      → ((x : Content) → LeavesContent (file_state c) x → IsOutcome w calls answers x) → LeavesOutcomes it w calls answers
   outcomes_left c it whole fewer_trees sound w calls answers has =
       let each : (db : Trees) → recovers it db → IsOutcomeIn w calls answers db = λ db may.
       let was = fewer_trees db may in
@@ -41,11 +45,13 @@ module _ {D : Type 0} {g : Ghosts D} where
       record { content = b.0; database = b.1; same = b.2; books = b.3; outcome = has b.0 (b.1, subst (recovers c.store) (sym b.2) was, b.3) } in
       record {
         databases = each;
-        files = λ image may. ∥∥₁_map (opens_again it whole.numbered whole.sound image may) (λ found. outcome_held image w calls answers found.0 (each found.0 found.1) found.2);
+        files = λ image may. ∥∥₁_map (opens_again it whole.numbered whole.sound image may)
+            (λ found. outcome_held image w calls answers found.0 (each found.0 found.1) found.2);
       }
 
   -- what was committed is among what a crash could leave before the closing
-  pub outcome_whole : (it : FileStore D g) (files : Files D) (w : World) (calls : List Call) (answers : List Answer) → LeavesOutcomes it w calls answers → HoldCommitted g it files → HoldWholeOutcome g files w calls answers
+  pub outcome_whole : (it : FileStore D g) (files : Files D) (w : World) (calls : List Call) (answers : List Answer)
+      → LeavesOutcomes it w calls answers → HoldCommitted g it files → HoldWholeOutcome g files w calls answers
   outcome_whole it files w calls answers left held image may =
       let alone = held.alone image may in
       let is = left.databases (view it).committed held.committed in (
@@ -53,7 +59,8 @@ module _ {D : Type 0} {g : Ghosts D} where
         ∥∥₁_map alone.alone (outcome_held (record image { log = [] }) w calls answers (view it).committed is),
       )
 
-  pub whole_books : (c : Held (FileStore D g)) (it : FileStore D g) (files : Files D) → IsLive (file_state c) → (IsTrue (file_state c).is_open → (file_state c).now ≡ (file_state c).committed)
+  pub whole_books : (c : Held (FileStore D g)) (it : FileStore D g) (files : Files D) → IsLive (file_state c)
+      → (IsTrue (file_state c).is_open → (file_state c).now ≡ (file_state c).committed)
       → HasCleanDisk (file_state c) → IsTrue (file_state c).is_open → (view it).committed ≡ (file_state c).committed.trees
       → (m : Content) → Represents (file_state c) m → HoldCommitted g it files → HoldWholeBooks g files m
   whole_books c it files live settled clean up committed m held copied image may =
@@ -73,6 +80,7 @@ closed_of P Q R S (Ok a) (Ok b) was whole unmade = λ p q. whole (was p q)
 closed_of P Q R S (Err e) (Ok b) was whole unmade = absurd (true≢false (sym unmade))
 
 -- what got its name is what was made
-pub placed_of : {A E F : Type 0} (P : A → Type 0) (made : Result A E) (placed : Result A F) → IfOk placed (λ a. made ≡ Ok a) → IfOk made P → IfOk placed P
+pub placed_of : {A E F : Type 0} (P : A → Type 0) (made : Result A E) (placed : Result A F) → IfOk placed (λ a. made ≡ Ok a) → IfOk made P
+    → IfOk placed P
 placed_of P made (Err e) is was = tt
 placed_of P made (Ok a) is was = subst (λ r. IfOk r P) is was

@@ -7,15 +7,19 @@ use Rattle.plant_server.specs.{Statuses.{AreOfPort, HasServed, IsStreamed, is_at
 use Rattle.plant_wire.specs.{Session.{EndsAs, IsCutShort}, Step.{AnswersFront, ServesBroken, ServesPart}, declared.reads.End.{End}}
 use Rattle.plant_wire.specs.declared.reads.End.TheVariants.{BrokenInput, Closed, Fault, ReadFailed, WriteFailed}
 
-module _ (ran also : List Call → List Answer → Type 0) (follows : (calls : List Call) (answers : List Answer) → ran calls answers → also calls answers) (o o' : Option (List ℕ)) where
+module _ (ran also : List Call → List Answer → Type 0)
+    (follows : (calls : List Call) (answers : List Answer) → ran calls answers → also calls answers) (o o' : Option (List ℕ)) where
   whole : {bytes rest : List ℕ} → AnswersFront bytes o o' ran rest → AnswersFront bytes o o' also rest
   whole s = record { marks = s.marks; parses = s.parses; writes = s.writes; served = follows _ _ s.served }
 
   broken : {bytes : List ℕ} → ServesBroken bytes o o' ran → ServesBroken bytes o o' also
-  broken s = record { marks = s.marks; rest = s.rest; cause = s.cause; parses = s.parses; front = s.front; writes = s.writes; served = follows _ _ s.served }
+  broken s =
+      record { marks = s.marks; rest = s.rest; cause = s.cause; parses = s.parses; front = s.front; writes = s.writes; served = follows _ _ s.served }
 
   abbrev partial : {bytes : List ℕ} → ServesPart bytes o o' ran → ServesPart bytes o o' also
-  partial s = record { marks = s.marks; rest = s.rest; last = s.last; part = s.part; parses = s.parses; stands = s.stands; writes = s.writes; served = follows _ _ s.served }
+  partial s =
+      record { marks = s.marks; rest = s.rest; last = s.last; part = s.part; parses = s.parses; stands = s.stands; writes = s.writes;
+      served = follows _ _ s.served }
 
   cut : {bytes : List ℕ} {r' : Option (List ℕ)} {ended : Bool} → IsCutShort bytes r' ended o o' ran → IsCutShort bytes r' ended o o' also
   cut s = record { seen = s.seen; nothing_left = s.nothing_left; rest = s.rest; some = s.some; waiting = s.waiting; serves = whole s.serves }
@@ -48,6 +52,7 @@ module _ (ran also : List Call → List Answer → Type 0) (follows : (calls : L
       record { result = s.result; reported = s.reported; shut = s.shut; calls = s.calls; answers = s.answers; made = follows _ _ s.made }
   port true service n s = record { result = s.result; reported = s.reported; shut = s.shut; sent = sent s.sent }
 
-  pub served : (service : Option Service) (r r' : Option (List ℕ)) (n : ExitStatus) → HasServed ran service r r' o o' n → HasServed also service r r' o o' n
+  pub served : (service : Option Service) (r r' : Option (List ℕ)) (n : ExitStatus) → HasServed ran service r r' o o' n
+      → HasServed also service r r' o o' n
   served None r r' n is = streamed r r' n is
   served (Some service) r r' n is = port (is_at_once service) service n is

@@ -31,7 +31,8 @@ pub record IsOutcomeIn (w : World) (calls : List Call) (answers : List Answer) (
 
 -- Whatever a crash leaves of this store is such books: each database that the engine may find again, and each state of
 -- its two files, which therefore opens.
-pub record LeavesOutcomes {D : Type 0} {g : Ghosts D} (it : FileStore D g) (w : World) (calls : List Call) (answers : List Answer) : Type 0 where
+pub record LeavesOutcomes {D : Type 0} {g : Ghosts D} (it : FileStore D g) (w : World) (calls : List Call)
+    (answers : List Answer) : Type 0 where
   pub databases : (db : Trees) → recovers it db → IsOutcomeIn w calls answers db
   pub files : (image : Image) → (state it).may_leave image → ∥ HoldOutcome w calls answers image ∥₁
 
@@ -49,9 +50,11 @@ pub record HoldCommitted {D : Type 0} (g : Ghosts D) (it : FileStore D g) (files
 
 -- whatever a crash leaves of closed files holds books with this content, also without the log
 abbrev pub HoldWholeBooks : {D : Type 0} → (g : Ghosts D) → Files D → Content → Type 0
-HoldWholeBooks g files m = (image : Image) → outcomes g files.log files.db image → ∥ HoldBooks image m ∥₁ × ∥ HoldBooks (record image { log = [] }) m ∥₁
+HoldWholeBooks g files m = (image : Image) → outcomes g files.log files.db image
+    → ∥ HoldBooks image m ∥₁ × ∥ HoldBooks (record image { log = [] }) m ∥₁
 
 -- the same, with such books as a crash may leave of an office
 abbrev pub HoldWholeOutcome : {D : Type 0} → (g : Ghosts D) → Files D → World → List Call → List Answer → Type 0
 HoldWholeOutcome g files w calls answers =
-    (image : Image) → outcomes g files.log files.db image → ∥ HoldOutcome w calls answers image ∥₁ × ∥ HoldOutcome w calls answers (record image { log = [] }) ∥₁
+    (image : Image) → outcomes g files.log files.db image
+    → ∥ HoldOutcome w calls answers image ∥₁ × ∥ HoldOutcome w calls answers (record image { log = [] }) ∥₁

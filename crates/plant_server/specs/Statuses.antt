@@ -70,7 +70,8 @@ Bytes = Option (List ℕ)
 -- One session over an inlet and an outlet, and its end: what was left to read and what was written, before and after.
 abbrev pub IsStreamed : Bytes → Bytes → Bytes → Bytes → OfCalls → ExitStatus → Type 0
 IsStreamed unread unread_after written written_after ran n =
-    (end : End) × (ended : Bool) × IsSession unread unread_after ended written written_after ran end × (n ≡ status_of end)
+    (end : End) × (ended : Bool) × IsSession unread unread_after ended written written_after ran end
+    × (n ≡ status_of end)
 
 -- whatever the office did
 abbrev pub Whatever : List Call → List Answer → Type 0

@@ -7,12 +7,14 @@ use Rattle.sqlite_trees.specs.Tree.{IsAscending}
 
 -- where none that passes the first test stands behind one that passes the second
 module _ {X : Type 0} (p q : X → Bool) where
-  split : (xs : List X) → IsAscending (λ a b. q a ≡ true → p b ≡ false) xs → AllByRecursion (λ x. q x ≡ true → p x ≡ false) xs → filter p xs ++ filter q xs ≡ filter (λ x. p x || q x) xs
+  split : (xs : List X) → IsAscending (λ a b. q a ≡ true → p b ≡ false) xs → AllByRecursion (λ x. q x ≡ true → p x ≡ false) xs
+      → filter p xs ++ filter q xs ≡ filter (λ x. p x || q x) xs
   split [] up apart = refl
   split (x ∷ xs) up apart = by (p x) (q x) refl refl (split xs up.1 apart.1)
     where
       by : (a b : Bool) → p x ≡ a → q x ≡ b → filter p xs ++ filter q xs ≡ filter (λ x. p x || q x) xs
-          → cond a (x ∷ filter p xs) (filter p xs) ++ cond b (x ∷ filter q xs) (filter q xs) ≡ cond (a || b) (x ∷ filter (λ x. p x || q x) xs) (filter (λ x. p x || q x) xs)
+          → cond a (x ∷ filter p xs) (filter p xs) ++ cond b (x ∷ filter q xs) (filter q xs) ≡ cond (a || b) (x ∷ filter (λ x. p x || q x) xs)
+          (filter (λ x. p x || q x) xs)
       by true true e f more = absurd (true≢false (sym e ∙ apart.0 f))
       by true false e f more = ap (λ l. x ∷ l) more
       by false false e f more = more
@@ -47,8 +49,10 @@ module _ {U X : Type 0} (cmp : U → U → Ordering) (total : IsTotalOrder cmp) 
       by Equal e h = sym (alike_right total (of a) (of b) u e) ∙ less
       by Greater e h = absurd (true≢false h)
 
-  pub blocks : (us : List U) → IsAscending (λ u v. cmp u v ≡ Less) us → (xs : List X) → IsAscending (λ a b. is_gt (cmp (of a) (of b)) ≡ false) xs → flat_map (λ u. filter (is_under u) xs) us ≡ filter (is_known us) xs
+  pub blocks : (us : List U) → IsAscending (λ u v. cmp u v ≡ Less) us → (xs : List X) → IsAscending (λ a b. is_gt (cmp (of a) (of b)) ≡ false) xs
+      → flat_map (λ u. filter (is_under u) xs) us ≡ filter (is_known us) xs
   blocks [] up xs rise = sym (filter_none (λ x. false) xs (all_of (λ x. false ≡ false) (λ x. refl) xs))
   blocks (u ∷ us) up xs rise =
       ap (λ l. filter (is_under u) xs ++ l) (blocks us up.1 xs rise)
-      ∙ split (is_under u) (is_known us) xs (ascending_weaker _ _ (λ a b h k. not_under u b (further u a b h (above u us up.0 a k))) xs rise) (all_of (λ x. is_known us x ≡ true → is_under u x ≡ false) (λ x k. not_under u x (above u us up.0 x k)) xs)
+      ∙ split (is_under u) (is_known us) xs (ascending_weaker _ _ (λ a b h k. not_under u b (further u a b h (above u us up.0 a k))) xs rise)
+      (all_of (λ x. is_known us x ≡ true → is_under u x ≡ false) (λ x k. not_under u x (above u us up.0 x k)) xs)

@@ -9,7 +9,8 @@ use Rattle.plant_store.specs.{Changes.{Applies, IsHonest}, Writing.{AreChanged, 
 use Rattle.plant_types.specs.Names.{Name}
 
 -- a transaction leaves what it commits, or what was left before
-pub survives_whole : {S : Type 0} (g : Ghosts S) (old begun mid last : Held S) (Commits : Trees → Type 0) → begun ≡ record old { in_transaction = true }
+pub survives_whole : {S : Type 0} (g : Ghosts S) (old begun mid last : Held S) (Commits : Trees → Type 0)
+    → begun ≡ record old { in_transaction = true }
     → Survives (state g begun) (state g mid) (λ _. ⊥) → (HasCleanDisk (state g mid) → Commits (state g mid).now.trees)
     → Survives (state g mid) (state g last) (λ db. db ≡ (state g mid).now.trees) → Survives (state g old) (state g last) Commits
 survives_whole g old begun mid last Commits is inside made commit =
@@ -18,9 +19,12 @@ survives_whole g old begun mid last Commits is inside made commit =
     (survives_begin g old (state g mid) (λ _. ⊥) (rw is at inside)) commit
 
 -- one that changes a unit's rows leaves them changed
-pub survives_commit : {S : Type 0} (g : Ghosts S) (old begun mid last : Held S) (u : Name) (cs : List RowEdit) → begun ≡ record old { in_transaction = true }
-    → Survives (state g begun) (state g mid) (λ _. ⊥) → (HasCleanDisk (state g mid) → AreBooks (state g begun).now → Applies u cs (state g begun).now (state g mid).now)
-    → Survives (state g mid) (state g last) (λ db. db ≡ (state g mid).now.trees) → Survives (state g old) (state g last) (AreChanged (state g old) u cs)
+pub survives_commit : {S : Type 0} (g : Ghosts S) (old begun mid last : Held S) (u : Name) (cs : List RowEdit)
+    → begun ≡ record old { in_transaction = true }
+    → Survives (state g begun) (state g mid) (λ _. ⊥)
+    → (HasCleanDisk (state g mid) → AreBooks (state g begun).now → Applies u cs (state g begun).now (state g mid).now)
+    → Survives (state g mid) (state g last) (λ db. db ≡ (state g mid).now.trees)
+    → Survives (state g old) (state g last) (AreChanged (state g old) u cs)
 survives_commit g old begun mid last u cs is inside made commit =
     let changed = rw is at made in
     survives_whole g old begun mid last (AreChanged (state g old) u cs) is inside
@@ -30,12 +34,15 @@ survives_commit g old begun mid last u cs is inside made commit =
 
 -- what was not called leaves what it left
 pub survives_unmade : (s : State) (Commits : Trees → Type 0) → Survives s s Commits
-survives_unmade s Commits = record { clean = omega arith; shield = λ h. h; counts = omega arith; limit = refl; closes = λ _ up. inl up; crash = λ _ db may. inl may }
+survives_unmade s Commits =
+    record { clean = omega arith; shield = λ h. h; counts = omega arith; limit = refl; closes = λ _ up. inl up; crash = λ _ db may. inl may }
 
 -- the same, after a step that left the database as it was and found the store open
 pub survives_open : {S : Type 0} (g : Ghosts S) (old mid last : Held S) (u : Name) (cs : List RowEdit) → Survives (state g old) (state g mid) (λ _. ⊥)
-    → (IsHonest (state g mid) → (state g mid).now ≡ (state g old).now) → (HasCleanDisk (state g mid) → IsTrue (state g old).is_open × IsTrue (state g mid).is_open × IsDatabase (state g old).now)
-    → Survives (state g mid) (state g last) (AreChanged (state g mid) u cs) → Survives (state g old) (state g last) (AreChangedHonestly (state g old) u cs)
+    → (IsHonest (state g mid) → (state g mid).now ≡ (state g old).now)
+    → (HasCleanDisk (state g mid) → IsTrue (state g old).is_open × IsTrue (state g mid).is_open × IsDatabase (state g old).now)
+    → Survives (state g mid) (state g last) (AreChanged (state g mid) u cs)
+    → Survives (state g old) (state g last) (AreChangedHonestly (state g old) u cs)
 survives_open g old mid last u cs first same was second =
     survives_then (state g old) (state g mid) (state g last) (λ _. ⊥) (AreChanged (state g mid) u cs) (AreChangedHonestly (state g old) u cs)
     (λ _ db none. absurd none)

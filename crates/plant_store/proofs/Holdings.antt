@@ -32,13 +32,16 @@ holding_in r = record { unit = bytes (column r 1); end_s = open_number_in (colum
 holding_back : Row → Holding
 holding_back r = record { unit = bytes (column r 0); end_s = open_number_in (column r 1) }
 
-pub holdings_read : (p : Name) (old new : State) → AreBooks old.now → (rows : List Row) → Shown holdings_text (Text p ∷ []) old new rows → (read : List Holding) → map (columns 2) rows ≡ map holding_cells read
+pub holdings_read : (p : Name) (old new : State) → AreBooks old.now → (rows : List Row) → Shown holdings_text (Text p ∷ []) old new rows
+    → (read : List Holding) → map (columns 2) rows ≡ map holding_cells read
     → read ≡ map holding_in (kept by_grant (is_named p) (old.now.trees 3))
 unfolding holding_back
 holdings_read p old new books rows shown read said =
     told holding_cells holding_back (λ h i. record { unit = h.unit; end_s = open_number_back h.end_s i }) _ read said
     ∙ map-map holding_back (columns 2) rows
-    ∙ ap (map (λ r. holding_back (columns 2 r))) (finds_rows grant_shape (good Grants) books_schema holdings_text by_holder _ (by_key grant_shape) _ holdings.is holdings.unlisted holdings.plain (Text p ∷ []) refl (is_named p) (λ r. one_test (column r 2) p) old new books.same_schema (books.tidy Grants).apart rows shown)
+    ∙ ap (map (λ r. holding_back (columns 2 r)))
+    (finds_rows grant_shape (good Grants) books_schema holdings_text by_holder _ (by_key grant_shape) _ holdings.is holdings.unlisted holdings.plain
+    (Text p ∷ []) refl (is_named p) (λ r. one_test (column r 2) p) old new books.same_schema (books.tidy Grants).apart rows shown)
     ∙ map-map (λ r. holding_back (columns 2 r)) (λ r. column r 1 ∷ column r 4 ∷ []) _
 
 -- ---- the units in which the person holds a role
@@ -55,18 +58,24 @@ rising (e ∷ es) h = (above e.0 es (first _ _ h), rising es (second _ _ h))
 
 filter-when : (p : Name → Bool) (us : List Name) → filter p us ≡ filter_map (λ u. when (p u) u) us
 filter-when p [] = refl
-filter-when p (u ∷ us) = elim (p u) as (λ b. cond b (u ∷ filter p us) (filter p us) ≡ cons_option (when b u) (filter_map (λ u. when (p u) u) us)) [ true ↦ ap (λ l. u ∷ l) (filter-when p us) | false ↦ filter-when p us ]
+filter-when p (u ∷ us) =
+    elim (p u) as (λ b. cond b (u ∷ filter p us) (filter p us)
+    ≡ cons_option (when b u) (filter_map (λ u. when (p u) u) us)) [ true ↦ ap (λ l. u ∷ l) (filter-when p us) | false ↦ filter-when p us ]
 
 module _ (m : Content) (t : ℕ) (p : Name) where
   is_held : Name → Bool
   is_held u = is_held_in t p (get m.units u)
 
   -- the codes held are settled by which they are
-  codes_are : (codes : List Name) → IsStrictlySortedBy name_cmp codes → ((q : Name) → list_any (same_name q) codes ≡ is_held_in t p (get m.units q)) → codes ≡ codes_held m t p
+  codes_are : (codes : List Name) → IsStrictlySortedBy name_cmp codes → ((q : Name) → list_any (same_name q) codes ≡ is_held_in t p (get m.units q))
+      → codes ≡ codes_held m t p
   unfolding is_held
   codes_are codes rise those =
-      btree_set_from_contains name_total (record { keys = codes }) (record { keys = filter is_held (keys m.units) }) rise (IsStrictlySortedBy-filter name_cmp is_held (keys m.units) (rising (entries m.units) (entries_sorted m.units)))
-      (λ q. those q ∙ opened (get m.units q) ∙ ap (λ b. is_held q && b) (contains_key-keys m.units q) ∙ sym (any-filter_same (same_name q) is_held (is_held q) (λ u same. ap is_held (sym (same_codes q u same))) (keys m.units))) same_names
+      btree_set_from_contains name_total (record { keys = codes })
+          (record { keys = filter is_held (keys m.units) }) rise
+          (IsStrictlySortedBy-filter name_cmp is_held (keys m.units) (rising (entries m.units) (entries_sorted m.units)))
+      (λ q. those q ∙ opened (get m.units q) ∙ ap (λ b. is_held q && b) (contains_key-keys m.units q)
+      ∙ sym (any-filter_same (same_name q) is_held (is_held q) (λ u same. ap is_held (sym (same_codes q u same))) (keys m.units))) same_names
       ∙ filter-when is_held (keys m.units)
     where
       opened : (o : Option UnitRows) → is_held_in t p o ≡ (is_held_in t p o && is_some o)
@@ -77,7 +86,9 @@ module _ (m : Content) (t : ℕ) (p : Name) where
     abbrev units_standing : List Row → List Name
     units_standing rows = map (λ (h : Holding). h.unit) (filter (λ (h : Holding). is_before t h.end_s) (map holding_in rows))
 
-    any_alike : (q : Name) (rows : List Row) → AllByRecursion (IsRowIn grant_shape) rows → list_any (same_name q) (units_standing (filter (is_named p) rows)) ≡ list_any (is_held_by t p) (map grant_shape.read (filter (is_of q) rows))
+    any_alike : (q : Name) (rows : List Row) → AllByRecursion (IsRowIn grant_shape) rows
+        → list_any (same_name q) (units_standing (filter (is_named p) rows)) ≡ list_any (is_held_by t p)
+        (map grant_shape.read (filter (is_of q) rows))
     any_alike q [] all = refl
     any_alike q (r ∷ rows) all = by (is_named p r) (is_of q r) (is_before t (holding_in r).end_s) refl refl refl (any_alike q rows all.1)
       where
@@ -87,8 +98,11 @@ module _ (m : Content) (t : ℕ) (p : Name) where
         unit : is_of q r ≡ same_name q (bytes (column r 1))
         unit = ap (λ x. is_of q x) all.0 ∙ named_same (bytes (column r 1)) q
 
-        by : (a b c : Bool) → is_named p r ≡ a → is_of q r ≡ b → is_before t (holding_in r).end_s ≡ c → list_any (same_name q) (units_standing (filter (is_named p) rows)) ≡ list_any (is_held_by t p) (map grant_shape.read (filter (is_of q) rows))
-            → list_any (same_name q) (units_standing (filter (is_named p) (r ∷ rows))) ≡ list_any (is_held_by t p) (map grant_shape.read (filter (is_of q) (r ∷ rows)))
+        by : (a b c : Bool) → is_named p r ≡ a → is_of q r ≡ b → is_before t (holding_in r).end_s ≡ c
+            → list_any (same_name q) (units_standing (filter (is_named p) rows)) ≡ list_any (is_held_by t p)
+            (map grant_shape.read (filter (is_of q) rows))
+            → list_any (same_name q) (units_standing (filter (is_named p) (r ∷ rows))) ≡ list_any (is_held_by t p)
+            (map grant_shape.read (filter (is_of q) (r ∷ rows)))
         by true true true e f h more = rw (e, f, h, (sym unit ∙ f), (sym person ∙ e)) refl
         by true true false e f h more = rw (e, f, h, (sym person ∙ e)) more
         by true false true e f h more = rw (e, f, h, (sym unit ∙ f)) more
@@ -112,9 +126,13 @@ module _ (m : Content) (t : ℕ) (p : Name) where
 
 -- ---- a person's grants in one unit
 
-pub own_roles : (t : ℕ) (p : Name) (gs : List GrantRow) → filter (λ g. is_before t g.end_s) (filter (λ g. same_name p g.person) gs) ≡ filter (is_held_by t p) gs
+pub own_roles : (t : ℕ) (p : Name) (gs : List GrantRow)
+    → filter (λ g. is_before t g.end_s) (filter (λ g. same_name p g.person) gs) ≡ filter (is_held_by t p) gs
 own_roles t p [] = refl
-own_roles t p (g ∷ gs) = elim (same_name p g.person) as (λ b. filter (λ g. is_before t g.end_s) (cond b (g ∷ filter (λ g. same_name p g.person) gs) (filter (λ g. same_name p g.person) gs)) ≡ cond (if b then is_before t g.end_s else false) (g ∷ filter (is_held_by t p) gs) (filter (is_held_by t p) gs)) [
+own_roles t p (g ∷ gs) =
+    elim (same_name p g.person) as (λ b. filter (λ g. is_before t g.end_s) (cond b (g
+    ∷ filter (λ g. same_name p g.person) gs) (filter (λ g. same_name p g.person) gs))
+    ≡ cond (if b then is_before t g.end_s else false) (g ∷ filter (is_held_by t p) gs) (filter (is_held_by t p) gs)) [
   | true ↦ ap (λ l. cond (is_before t g.end_s) (g ∷ l) l) (own_roles t p gs)
   | false ↦ own_roles t p gs
 ]

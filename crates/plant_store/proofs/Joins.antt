@@ -13,20 +13,25 @@ use Rattle.plant_columns.proofs.public.{Keys.{by_columns_total}, Kept.{strict-so
 
 picked : {A B : Type 0} (t : A → Bool) (f : A → B) (xs : List A) → flat_map (λ x. cond (t x) (f x ∷ []) []) xs ≡ map f (filter t xs)
 picked t f [] = refl
-picked t f (x ∷ xs) = elim (t x) as (λ b. cond b (f x ∷ []) [] ++ flat_map (λ x. cond (t x) (f x ∷ []) []) xs ≡ map f (cond b (x ∷ filter t xs) (filter t xs))) [
+picked t f (x ∷ xs) =
+    elim (t x) as (λ b. cond b (f x ∷ []) [] ++ flat_map (λ x. cond (t x) (f x ∷ []) []) xs ≡ map f (cond b (x ∷ filter t xs) (filter t xs))) [
   | true ↦ ap (λ l. f x ∷ l) (picked t f xs)
   | false ↦ picked t f xs
 ]
 
 -- lists that rise one after another, each below the next
-pub rising-flat_map : {A B : Type 0} (S : A → A → Type 0) (R : B → B → Type 0) (f : A → List B) → ((a : A) → IsAscending R (f a)) → ((a b : A) → S a b → AllByRecursion (λ x. AllByRecursion (R x) (f b)) (f a))
+pub rising-flat_map : {A B : Type 0} (S : A → A → Type 0) (R : B → B → Type 0) (f : A → List B) → ((a : A) → IsAscending R (f a))
+    → ((a b : A) → S a b → AllByRecursion (λ x. AllByRecursion (R x) (f b)) (f a))
     → (xs : List A) → IsAscending S xs → IsAscending R (flat_map f xs)
 rising-flat_map S R f inside across [] up = tt
-rising-flat_map {A} {B} S R f inside across (x ∷ xs) up = ascending-append R (f x) (flat_map f xs) (inside x) (rising-flat_map S R f inside across xs up.1) (far (f x) (λ b h. across x b h) xs up.0)
+rising-flat_map {A} {B} S R f inside across (x ∷ xs) up =
+    ascending-append R (f x) (flat_map f xs) (inside x) (rising-flat_map S R f inside across xs up.1) (far (f x) (λ b h. across x b h) xs up.0)
   where
-    far : (l : List B) → ((b : A) → S x b → AllByRecursion (λ y. AllByRecursion (R y) (f b)) l) → (ys : List A) → AllByRecursion (S x) ys → AllByRecursion (λ y. AllByRecursion (R y) (flat_map f ys)) l
+    far : (l : List B) → ((b : A) → S x b → AllByRecursion (λ y. AllByRecursion (R y) (f b)) l) → (ys : List A) → AllByRecursion (S x) ys
+        → AllByRecursion (λ y. AllByRecursion (R y) (flat_map f ys)) l
     far [] h ys all = tt
-    far (y ∷ l) h ys all = (all-flat_map (R y) f ys (all_weaker _ (λ b. AllByRecursion (R y) (f b)) (λ b s. (h b s).0) ys all), far l (λ b s. (h b s).1) ys all)
+    far (y ∷ l) h ys all =
+        (all-flat_map (R y) f ys (all_weaker _ (λ b. AllByRecursion (R y) (f b)) (λ b s. (h b s).0) ys all), far l (λ b s. (h b s).1) ys all)
 
 module _ (first second : ℕ) (tests project : List Term) (order : List (Term × Key)) (key others : List ℕ) (params : Row) where
   abbrev pub joined : Query
@@ -42,7 +47,9 @@ module _ (first second : ℕ) (tests project : List Term) (order : List (Term ×
   abbrev pub met : List Row → Row → List Output
   met us g = map (pair_shown g) (filter (meets g) us)
 
-  shown_each : (us : List Row) (g : Row) → map (output (plain_query (inner first (inner second end)) tests project order)) (flat_map (λ u. cond (meets g u) ((params ∷ g ∷ u ∷ []) ∷ []) []) us) ≡ met us g
+  shown_each : (us : List Row) (g : Row)
+      → map (output (plain_query (inner first (inner second end)) tests project order))
+      (flat_map (λ u. cond (meets g u) ((params ∷ g ∷ u ∷ []) ∷ []) []) us) ≡ met us g
   shown_each us g =
       let q = plain_query (inner first (inner second end)) tests project order in
       ap (map (output q)) (picked (meets g) (λ u. params ∷ g ∷ u ∷ []) us) ∙ map-map (output q) (λ u. params ∷ g ∷ u ∷ []) (filter (meets g) us)
@@ -51,13 +58,20 @@ module _ (first second : ℕ) (tests project : List Term) (order : List (Term ×
   abbrev by_keys : Trees → List Output
   by_keys trees = flat_map (met (sort_by (by_columns others) (trees second))) (sort_by (by_columns key) (trees first))
 
-  cells_by_keys : (trees : Trees) → map (λ (o : Output). o.1) (by_keys trees) ≡ flat_map (λ g. map (λ u. (pair_shown g u).1) (filter (meets g) (sort_by (by_columns others) (trees second)))) (sort_by (by_columns key) (trees first))
+  cells_by_keys : (trees : Trees)
+      → map (λ (o : Output). o.1)
+      (by_keys trees) ≡ flat_map (λ g. map (λ u. (pair_shown g u).1) (filter (meets g) (sort_by (by_columns others) (trees second))))
+      (sort_by (by_columns key) (trees first))
   cells_by_keys trees =
       let vs = sort_by (by_columns others) (trees second) in
       let sorted = sort_by (by_columns key) (trees first) in
-      map-flat_map (λ (o : Output). o.1) (met vs) sorted ∙ flat_map_same_on _ (λ g. map (λ u. (pair_shown g u).1) (filter (meets g) vs)) (λ g. map-map (λ (o : Output). o.1) (pair_shown g) (filter (meets g) vs)) sorted
+      map-flat_map (λ (o : Output). o.1) (met vs) sorted
+          ∙ flat_map_same_on _ (λ g. map (λ u. (pair_shown g u).1) (filter (meets g) vs))
+          (λ g. map-map (λ (o : Output). o.1) (pair_shown g) (filter (meets g) vs)) sorted
 
-  matched : (trees : Trees) (rows : List Row) (a : IsAnswer (plain_query (inner first (inner second end)) tests project order) (overlay trees []) params rows) → IsPermutation (by_keys trees) a.ordered
+  matched : (trees : Trees) (rows : List Row)
+      (a : IsAnswer (plain_query (inner first (inner second end)) tests project order) (overlay trees []) params rows)
+      → IsPermutation (by_keys trees) a.ordered
   matched trees rows a =
       let q = plain_query (inner first (inner second end)) tests project order in
       let gs = trees first in
@@ -66,29 +80,53 @@ module _ (first second : ℕ) (tests project : List Term) (order : List (Term ×
       let sorted = sort_by (by_columns key) gs in
       let over = λ (gs us : List Row). flat_map (λ g. flat_map (λ u. cond (meets g u) ((params ∷ g ∷ u ∷ []) ∷ []) []) us) gs in
       let staged = a.grouped ∙ ap (λ gs. over gs (overlay trees [] second)) (overlay_none trees first) ∙ ap (over gs) (overlay_none trees second) in
-      let kept : a.kept ≡ flat_map (met us) gs = a.distinct ∙ ap (map (output q)) staged ∙ map-flat_map (output q) (λ g. flat_map (λ u. cond (meets g u) ((params ∷ g ∷ u ∷ []) ∷ []) []) us) gs ∙ flat_map_same_on _ (met us) (shown_each us) gs in
-      let moved : IsPermutation (flat_map (met vs) sorted) (flat_map (met us) gs) = IsPermutation-trans _ _ _ (IsPermutation-flat_map (met vs) sorted gs (IsPermutation-sort_by (by_columns key) (by_columns_total key) gs))
-      (IsPermutation-flat_map_each (met vs) (met us) (λ g. IsPermutation-map (pair_shown g) (filter (meets g) vs) (filter (meets g) us) (IsPermutation-filter (meets g) vs us (IsPermutation-sort_by (by_columns others) (by_columns_total others) us))) gs) in
+      let kept : a.kept ≡ flat_map (met us) gs = a.distinct ∙ ap (map (output q)) staged
+          ∙ map-flat_map (output q) (λ g. flat_map (λ u. cond (meets g u) ((params ∷ g ∷ u ∷ []) ∷ []) []) us) gs
+          ∙ flat_map_same_on _ (met us) (shown_each us) gs in
+      let moved : IsPermutation (flat_map (met vs) sorted) (flat_map (met us) gs) =
+          IsPermutation-trans _ _ _ (IsPermutation-flat_map (met vs) sorted gs (IsPermutation-sort_by (by_columns key) (by_columns_total key) gs))
+      (IsPermutation-flat_map_each (met vs) (met us)
+      (λ g. IsPermutation-map (pair_shown g) (filter (meets g) vs) (filter (meets g) us)
+      (IsPermutation-filter (meets g) vs us (IsPermutation-sort_by (by_columns others) (by_columns_total others) us))) gs) in
       IsPermutation-trans _ _ _ moved (subst (λ k. IsPermutation k a.ordered) kept a.same)
 
   -- whatever the order, the query shows these in some order
-  pub joins_unordered : (trees : Trees) (rows : List Row) → IsAnswer (plain_query (inner first (inner second end)) tests project order) (overlay trees []) params rows
-      → IsPermutation (flat_map (λ g. map (λ u. (pair_shown g u).1) (filter (meets g) (sort_by (by_columns others) (trees second)))) (sort_by (by_columns key) (trees first))) rows
-  joins_unordered trees rows a = subst (IsPermutation _) (sym a.shown) (subst (λ l. IsPermutation l (map (λ (o : Output). o.1) a.ordered)) (cells_by_keys trees) (IsPermutation-map (λ (o : Output). o.1) _ _ (matched trees rows a)))
+  pub joins_unordered : (trees : Trees) (rows : List Row)
+      → IsAnswer (plain_query (inner first (inner second end)) tests project order) (overlay trees []) params rows
+      → IsPermutation
+      (flat_map (λ g. map (λ u. (pair_shown g u).1) (filter (meets g) (sort_by (by_columns others) (trees second))))
+      (sort_by (by_columns key) (trees first))) rows
+  joins_unordered trees rows a =
+      subst (IsPermutation _) (sym a.shown)
+      (subst (λ l. IsPermutation l (map (λ (o : Output). o.1) a.ordered)) (cells_by_keys trees)
+      (IsPermutation-map (λ (o : Output). o.1) _ _ (matched trees rows a)))
 
   -- by the keys of both, it shows them so
-  pub joins : ((g h u v : Row) → output_cmp (plain_query (inner first (inner second end)) tests project order) (pair_shown g u) (pair_shown h v) ≡ ordering_then (by_columns key g h) (by_columns others u v))
-      → (trees : Trees) (rows : List Row) → AreApart key (trees first) → AreApart others (trees second) → IsAnswer (plain_query (inner first (inner second end)) tests project order) (overlay trees []) params rows
-      → rows ≡ flat_map (λ g. map (λ u. (pair_shown g u).1) (filter (meets g) (sort_by (by_columns others) (trees second)))) (sort_by (by_columns key) (trees first))
+  pub joins : ((g h u v : Row)
+      → output_cmp (plain_query (inner first (inner second end)) tests project order) (pair_shown g u)
+      (pair_shown h v) ≡ ordering_then (by_columns key g h) (by_columns others u v))
+      → (trees : Trees) (rows : List Row) → AreApart key (trees first) → AreApart others (trees second)
+      → IsAnswer (plain_query (inner first (inner second end)) tests project order) (overlay trees []) params rows
+      → rows ≡ flat_map (λ g. map (λ u. (pair_shown g u).1) (filter (meets g) (sort_by (by_columns others) (trees second))))
+      (sort_by (by_columns key) (trees first))
   joins agrees trees rows apart lone a =
       let q = plain_query (inner first (inner second end)) tests project order in
       let vs = sort_by (by_columns others) (trees second) in
       let sorted = sort_by (by_columns key) (trees first) in
       let R = λ (a b : Output). output_cmp q a b ≡ Less in
-      let rise : IsAscending (λ u v. by_columns others u v ≡ Less) vs = strict-sort (by_columns others) (by_columns_total others) (trees second) lone in
-      let inside : (g : Row) → IsAscending R (met vs g) = λ g. ascending-map R (pair_shown g) (filter (meets g) vs) (ascending-filter _ (meets g) vs (ascending_weaker (λ u v. by_columns others u v ≡ Less) (λ u v. R (pair_shown g u) (pair_shown g v))
+      let rise : IsAscending (λ u v. by_columns others u v ≡ Less) vs =
+          strict-sort (by_columns others) (by_columns_total others) (trees second) lone in
+      let inside : (g : Row)
+          → IsAscending R (met vs g) =
+          λ g. ascending-map R (pair_shown g) (filter (meets g) vs)
+          (ascending-filter _ (meets g) vs (ascending_weaker (λ u v. by_columns others u v ≡ Less) (λ u v. R (pair_shown g u) (pair_shown g v))
       (λ u v less. agrees g g u v ∙ ap (λ o. ordering_then o (by_columns others u v)) (tied_itself (by_columns_total key) g) ∙ less) vs rise)) in
       let across : (g h : Row) → by_columns key g h ≡ Less → AllByRecursion (λ o. AllByRecursion (R o) (met vs h)) (met vs g) =
-      λ g h less. all-map (λ o. AllByRecursion (R o) (met vs h)) (pair_shown g) (λ u. all-map (R (pair_shown g u)) (pair_shown h) (λ v. agrees g h u v ∙ ap (λ o. ordering_then o (by_columns others u v)) less) (filter (meets h) vs)) (filter (meets g) vs) in
-      let strict : IsAscending R (by_keys trees) = rising-flat_map (λ g h. by_columns key g h ≡ Less) R (met vs) inside across sorted (strict-sort (by_columns key) (by_columns_total key) (trees first) apart) in
-      a.shown ∙ ap (map (λ (o : Output). o.1)) (sorted_unique (output_cmp q) (output_cmp_total q) (by_keys trees) a.ordered strict (matched trees rows a) a.sorted) ∙ cells_by_keys trees
+      λ g h less. all-map (λ o. AllByRecursion (R o) (met vs h)) (pair_shown g)
+          (λ u. all-map (R (pair_shown g u)) (pair_shown h) (λ v. agrees g h u v
+          ∙ ap (λ o. ordering_then o (by_columns others u v)) less) (filter (meets h) vs)) (filter (meets g) vs) in
+      let strict : IsAscending R (by_keys trees) =
+          rising-flat_map (λ g h. by_columns key g h
+          ≡ Less) R (met vs) inside across sorted (strict-sort (by_columns key) (by_columns_total key) (trees first) apart) in
+      a.shown ∙ ap (map (λ (o : Output). o.1))
+          (sorted_unique (output_cmp q) (output_cmp_total q) (by_keys trees) a.ordered strict (matched trees rows a) a.sorted) ∙ cells_by_keys trees

@@ -38,7 +38,8 @@ unfolding understood everything digits
 makes_office = record { means = record { is = refl; plain = (refl, refl) }; whole = refl; defines = refl; leaves = refl }
 
 -- by running it for each table
-pub makes_table : (i : TableKind) → Makes (schema_with ((shape i).place - 1)) (table_text i) (table_in (record (shape i) { tree = 0 })) (schema_with (shape i).place)
+pub makes_table : (i : TableKind)
+    → Makes (schema_with ((shape i).place - 1)) (table_text i) (table_in (record (shape i) { tree = 0 })) (schema_with (shape i).place)
 unfolding understood everything digits
 makes_table Units = record { means = record { is = refl; plain = (refl, refl) }; whole = refl; defines = refl; leaves = refl }
 makes_table i = record { means = record { is = refl; plain = (refl, refl) }; whole = refl; defines = refl; leaves = refl }
@@ -96,7 +97,8 @@ abbrev pub by_two : List Term
 by_two = op2 (Compare Eq Binary) (col 1 1) (col 0 0) ∷ op2 (Compare Eq Binary) (col 1 2) (col 0 1) ∷ []
 
 abbrev pub by_three : List Term
-by_three = op2 (Compare Eq Binary) (col 1 1) (col 0 0) ∷ op2 (Compare Eq Binary) (col 1 2) (col 0 1) ∷ op2 (Compare Eq Binary) (col 1 3) (col 0 2) ∷ []
+by_three =
+    op2 (Compare Eq Binary) (col 1 1) (col 0 0) ∷ op2 (Compare Eq Binary) (col 1 2) (col 0 1) ∷ op2 (Compare Eq Binary) (col 1 3) (col 0 2) ∷ []
 
 -- ---- a row written over: its rowid is shown, and then the row as it is to be
 
@@ -204,14 +206,16 @@ falling = record { collation = Binary; descending = true }
 abbrev pub falling_2 : List (Term × Key)
 falling_2 = (col 1 1, falling) ∷ (col 1 2, falling) ∷ []
 
-pub last_change : Asks books_schema last_change_text (record (plain_query (inner 17 end) by_unit (col 1 2 ∷ []) falling_2) { limit = lit (Int (pos 1)) }) (codes "number" ∷ [])
+pub last_change : Asks books_schema last_change_text (record (plain_query (inner 17 end) by_unit (col 1 2
+    ∷ []) falling_2) { limit = lit (Int (pos 1)) }) (codes "number" ∷ [])
 unfolding understood everything
 last_change = record { is = refl; unlisted = refl; plain = (refl, refl) }
 
 abbrev pub by_holder : List Term
 by_holder = op2 (Compare Eq Binary) (col 1 2) (col 0 0) ∷ []
 
-pub holdings : Asks books_schema holdings_text (plain_query (inner 3 end) by_holder (col 1 1 ∷ col 1 4 ∷ []) (by_key grant_shape)) (codes "unit" ∷ codes "end_s" ∷ [])
+pub holdings : Asks books_schema holdings_text (plain_query (inner 3 end) by_holder (col 1 1 ∷ col 1 4 ∷ []) (by_key grant_shape))
+    (codes "unit" ∷ codes "end_s" ∷ [])
 unfolding understood everything
 holdings = record { is = refl; unlisted = refl; plain = (refl, refl) }
 
@@ -228,7 +232,8 @@ grant_shows = col 1 1 ∷ col 1 3 ∷ col 1 4 ∷ []
 abbrev pub grant_names : List (List ℕ)
 grant_names = codes "unit" ∷ codes "role_no" ∷ codes "end_s" ∷ []
 
-pub unit_lines : Asks books_schema unit_lines_text (plain_query (inner 3 (inner 1 end)) joined_tests (grant_shows ++ col 2 2 ∷ []) (joined_order [])) (grant_names ++ codes "last_s" ∷ [])
+pub unit_lines : Asks books_schema unit_lines_text (plain_query (inner 3 (inner 1 end)) joined_tests (grant_shows ++ col 2 2 ∷ []) (joined_order []))
+    (grant_names ++ codes "last_s" ∷ [])
 unfolding understood everything
 unit_lines = record { is = refl; unlisted = refl; plain = (refl, refl) }
 
@@ -236,6 +241,7 @@ unit_lines = record { is = refl; unlisted = refl; plain = (refl, refl) }
 abbrev pub unit_order : List (Term × Key)
 unit_order = (col 1 1, ascending Binary) ∷ []
 
-pub shelf_lines : Asks books_schema shelf_lines_text (plain_query (inner 3 (inner 7 end)) joined_tests (grant_shows ++ terms 2 2 (drop 1 shelf_shape.columns)) unit_order) (grant_names ++ own_names shelf_shape)
+pub shelf_lines : Asks books_schema shelf_lines_text (plain_query (inner 3 (inner 7 end)) joined_tests (grant_shows
+    ++ terms 2 2 (drop 1 shelf_shape.columns)) unit_order) (grant_names ++ own_names shelf_shape)
 unfolding understood everything
 shelf_lines = record { is = refl; unlisted = refl; plain = (refl, refl) }

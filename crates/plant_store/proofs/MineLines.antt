@@ -20,7 +20,8 @@ itself a = ap is_eq (tied_itself nat_list_cmp_total a)
 
 -- ---- one line more
 
-pub joins_run : (u : MineUnit) (l : UnitLine) → same_name u.unit l.unit ≡ true → (vs : List MineUnit) → put_run (record u { roles = u.roles ++ l.role_no ∷ [] }) vs ≡ put_run u (put_run (started l) vs)
+pub joins_run : (u : MineUnit) (l : UnitLine) → same_name u.unit l.unit ≡ true → (vs : List MineUnit)
+    → put_run (record u { roles = u.roles ++ l.role_no ∷ [] }) vs ≡ put_run u (put_run (started l) vs)
 joins_run u l h [] = rw h refl
 joins_run u l h (v ∷ vs) = go (same_name l.unit v.unit) refl
   where
@@ -28,17 +29,24 @@ joins_run u l h (v ∷ vs) = go (same_name l.unit v.unit) refl
     alike = ap (λ n. same_name n v.unit) (same_codes u.unit l.unit h)
 
     go : (b : Bool) → same_name l.unit v.unit ≡ b
-        → cond (same_name u.unit v.unit) ((record { unit = u.unit; roles = (u.roles ++ l.role_no ∷ []) ++ v.roles; last = u.last }) ∷ vs) ((record u { roles = u.roles ++ l.role_no ∷ [] }) ∷ v ∷ vs)
+        → cond (same_name u.unit v.unit) ((record { unit = u.unit; roles = (u.roles ++ l.role_no ∷ []) ++ v.roles; last = u.last }) ∷ vs)
+        ((record u { roles = u.roles ++ l.role_no ∷ [] }) ∷ v ∷ vs)
         ≡ put_run u (cond b ((record { unit = l.unit; roles = l.role_no ∷ v.roles; last = l.last_s }) ∷ vs) (started l ∷ v ∷ vs))
-    go true e = rw (alike, e, h) (ap (λ (rs : List Role). (let w : MineUnit = record { unit = u.unit; roles = rs; last = u.last } in w) ∷ vs) (append_assoc u.roles (l.role_no ∷ []) v.roles))
+    go true e =
+        rw (alike, e, h)
+        (ap (λ (rs : List Role). (let w : MineUnit = record { unit = u.unit; roles = rs; last = u.last } in w)
+        ∷ vs) (append_assoc u.roles (l.role_no ∷ []) v.roles))
     go false e = rw (alike, e, h) refl
 
 -- a line of another unit begins a run of its own
-pub other_run : (u : MineUnit) (l : UnitLine) → same_name u.unit l.unit ≡ false → (vs : List MineUnit) → put_run u (put_run (started l) vs) ≡ u ∷ put_run (started l) vs
+pub other_run : (u : MineUnit) (l : UnitLine) → same_name u.unit l.unit ≡ false → (vs : List MineUnit)
+    → put_run u (put_run (started l) vs) ≡ u ∷ put_run (started l) vs
 other_run u l h [] = rw h refl
 other_run u l h (v ∷ vs) = go (same_name l.unit v.unit)
   where
-    go : (b : Bool) → put_run u (cond b ((record { unit = l.unit; roles = l.role_no ∷ v.roles; last = l.last_s }) ∷ vs) (started l ∷ v ∷ vs)) ≡ u ∷ cond b ((record { unit = l.unit; roles = l.role_no ∷ v.roles; last = l.last_s }) ∷ vs) (started l ∷ v ∷ vs)
+    go : (b : Bool)
+        → put_run u (cond b ((record { unit = l.unit; roles = l.role_no ∷ v.roles; last = l.last_s }) ∷ vs) (started l ∷ v ∷ vs)) ≡ u
+        ∷ cond b ((record { unit = l.unit; roles = l.role_no ∷ v.roles; last = l.last_s }) ∷ vs) (started l ∷ v ∷ vs)
     go true = rw h refl
     go false = rw h refl
 
@@ -57,7 +65,8 @@ listed_from last [] = refl
 listed_from last (l ∷ ls) = by (repeats l last) (listed_from last ls) (listed_from l ls)
   where
     by : (b : Bool) → dedup_from repeats last ls ≡ last ∷ listed_after (Some last) ls → dedup_from repeats l ls ≡ l ∷ listed_after (Some l) ls
-        → cond b (dedup_from repeats last ls) (last ∷ dedup_from repeats l ls) ≡ last ∷ cond (not b) (l ∷ listed_after (Some l) ls) (listed_after (Some last) ls)
+        → cond b (dedup_from repeats last ls) (last ∷ dedup_from repeats l ls) ≡ last ∷ cond (not b) (l ∷ listed_after (Some l) ls)
+        (listed_after (Some last) ls)
     by true same other = same
     by false same other = ap (λ l. last ∷ l) other
 
@@ -98,34 +107,49 @@ run u r (g ∷ h ∷ gs) ls new = ap (put_run (started (unit_line u g r))) (run 
 
 module _ (t : ℕ) (p : Name) where
   module _ {X L : Type 0} (line : GrantRow → X → L) (end_of : L → Option ℕ) (is : (g : GrantRow) (x : X) → end_of (line g x) ≡ g.end_s) where
-    one_grant : (g : GrantRow) (xs : List X) → filter (λ l. is_before t (end_of l)) (map (line g) xs) ≡ cond (is_before t g.end_s) (map (line g) xs) []
+    one_grant : (g : GrantRow) (xs : List X)
+        → filter (λ l. is_before t (end_of l)) (map (line g) xs) ≡ cond (is_before t g.end_s) (map (line g) xs) []
     one_grant g [] = elim (is_before t g.end_s) as (λ b. [] ≡ cond b (let none : List L = [] in none) []) [ true ↦ refl | false ↦ refl ]
     one_grant g (x ∷ xs) = rw (is g x) (by (is_before t g.end_s) (one_grant g xs))
       where
         by : (b : Bool) → filter (λ l. is_before t (end_of l)) (map (line g) xs) ≡ cond b (map (line g) xs) []
-            → cond b (line g x ∷ filter (λ l. is_before t (end_of l)) (map (line g) xs)) (filter (λ l. is_before t (end_of l)) (map (line g) xs)) ≡ cond b (line g x ∷ map (line g) xs) []
+            → cond b (line g x ∷ filter (λ l. is_before t (end_of l)) (map (line g) xs))
+            (filter (λ l. is_before t (end_of l)) (map (line g) xs)) ≡ cond b (line g x ∷ map (line g) xs) []
         by true more = ap (λ l. line g x ∷ l) more
         by false more = more
 
-    standing_at : (xs : List X) (gs : List GrantRow) → filter (λ l. is_before t (end_of l)) (flat_map (λ g. map (line g) xs) gs) ≡ flat_map (λ g. map (line g) xs) (filter (λ g. is_before t g.end_s) gs)
+    standing_at : (xs : List X) (gs : List GrantRow)
+        → filter (λ l. is_before t (end_of l)) (flat_map (λ g. map (line g) xs) gs) ≡ flat_map (λ g. map (line g) xs)
+        (filter (λ g. is_before t g.end_s) gs)
     standing_at xs [] = refl
     standing_at xs (g ∷ gs) =
-        filter-append (λ l. is_before t (end_of l)) (map (line g) xs) (flat_map (λ g. map (line g) xs) gs) ∙ ap₂ ◌++◌ (one_grant g xs) (standing_at xs gs) ∙ by (is_before t g.end_s)
+        filter-append (λ l. is_before t (end_of l)) (map (line g) xs) (flat_map (λ g. map (line g) xs) gs)
+            ∙ ap₂ ◌++◌ (one_grant g xs) (standing_at xs gs) ∙ by (is_before t g.end_s)
       where
-        by : (b : Bool) → cond b (map (line g) xs) [] ++ flat_map (λ g. map (line g) xs) (filter (λ g. is_before t g.end_s) gs) ≡ flat_map (λ g. map (line g) xs) (cond b (g ∷ filter (λ g. is_before t g.end_s) gs) (filter (λ g. is_before t g.end_s) gs))
+        by : (b : Bool)
+            → cond b (map (line g) xs) [] ++ flat_map (λ g. map (line g) xs) (filter (λ g. is_before t g.end_s) gs) ≡ flat_map (λ g. map (line g) xs)
+            (cond b (g ∷ filter (λ g. is_before t g.end_s) gs) (filter (λ g. is_before t g.end_s) gs))
         by true = refl
         by false = refl
 
   any_kept : (gs : List GrantRow) → list_any (is_held_by t p) gs ≡ has_any (filter (is_held_by t p) gs)
   any_kept [] = refl
-  any_kept (g ∷ gs) = elim (is_held_by t p g) as (λ b. (b || list_any (is_held_by t p) gs) ≡ has_any (cond b (g ∷ filter (is_held_by t p) gs) (filter (is_held_by t p) gs))) [ true ↦ refl | false ↦ any_kept gs ]
+  any_kept (g ∷ gs) =
+      elim (is_held_by t p g) as (λ b. (b || list_any (is_held_by t p) gs)
+      ≡ has_any (cond b (g ∷ filter (is_held_by t p) gs) (filter (is_held_by t p) gs))) [ true ↦ refl | false ↦ any_kept gs ]
 
   module _ (m : Content) where
-    held_lines : {X L : Type 0} (line : Name → GrantRow → X → L) (end_of : L → Option ℕ) → ((u : Name) (g : GrantRow) (x : X) → end_of (line u g x) ≡ g.end_s) → (these : UnitRows → List X)
-        → filter (λ l. is_before t (end_of l)) (lines_of line these m p) ≡ flat_map (λ u. flat_map (λ g. map (line u g) (these (rows_in m u))) (filter (is_held_by t p) (rows_in m u).grants)) (keys m.units)
+    held_lines : {X L : Type 0} (line : Name → GrantRow → X → L) (end_of : L → Option ℕ)
+        → ((u : Name) (g : GrantRow) (x : X) → end_of (line u g x) ≡ g.end_s) → (these : UnitRows → List X)
+        → filter (λ l. is_before t (end_of l))
+        (lines_of line these m p)
+        ≡ flat_map (λ u. flat_map (λ g. map (line u g) (these (rows_in m u))) (filter (is_held_by t p) (rows_in m u).grants)) (keys m.units)
     held_lines line end_of is these =
-        filter-flat_map (λ l. is_before t (end_of l)) (λ u. flat_map (λ g. map (line u g) (these (rows_in m u))) (filter (λ g. same_name p g.person) (rows_in m u).grants)) (keys m.units)
-        ∙ flat_map_same_on _ _ (λ u. standing_at (line u) end_of (is u) (these (rows_in m u)) (filter (λ g. same_name p g.person) (rows_in m u).grants) ∙ ap (flat_map (λ g. map (line u g) (these (rows_in m u)))) (own_roles t p (rows_in m u).grants)) (keys m.units)
+        filter-flat_map (λ l. is_before t (end_of l))
+            (λ u. flat_map (λ g. map (line u g) (these (rows_in m u))) (filter (λ g. same_name p g.person) (rows_in m u).grants)) (keys m.units)
+        ∙ flat_map_same_on _ _
+        (λ u. standing_at (line u) end_of (is u) (these (rows_in m u)) (filter (λ g. same_name p g.person) (rows_in m u).grants)
+        ∙ ap (flat_map (λ g. map (line u g) (these (rows_in m u)))) (own_roles t p (rows_in m u).grants)) (keys m.units)
 
     -- ---- the units
 
@@ -135,13 +159,17 @@ module _ (t : ℕ) (p : Name) where
     abbrev units_mine : List Name → List MineUnit
     units_mine us = filter_map (λ u. mine_unit t p u (get m.units u)) us
 
-    others : (u : Name) (us : List Name) → AllByRecursion (λ v. name_cmp u v ≡ Less) us → AllByRecursion (λ (v : MineUnit). same_name u v.unit ≡ false) (units_mine us)
+    others : (u : Name) (us : List Name) → AllByRecursion (λ v. name_cmp u v ≡ Less) us
+        → AllByRecursion (λ (v : MineUnit). same_name u v.unit ≡ false) (units_mine us)
     others u [] less = tt
     others u (v ∷ us) less = by (get m.units v) (others u us less.1)
       where
-        by : (o : Option UnitRows) → AllByRecursion (λ (v : MineUnit). same_name u v.unit ≡ false) (units_mine us) → AllByRecursion (λ (v : MineUnit). same_name u v.unit ≡ false) (cons_option (mine_unit t p v o) (units_mine us))
+        by : (o : Option UnitRows) → AllByRecursion (λ (v : MineUnit). same_name u v.unit ≡ false) (units_mine us)
+            → AllByRecursion (λ (v : MineUnit). same_name u v.unit ≡ false) (cons_option (mine_unit t p v o) (units_mine us))
         by None all = all
-        by (Some rows) all = elim (is_held_in t p (Some rows)) as (λ b. AllByRecursion (λ (v : MineUnit). same_name u v.unit ≡ false) (cons_option (when b (mine_as t p v rows)) (units_mine us))) [ true ↦ (ap is_eq less.0, all) | false ↦ all ]
+        by (Some rows) all =
+            elim (is_held_in t p (Some rows)) as (λ b. AllByRecursion (λ (v : MineUnit). same_name u v.unit
+            ≡ false) (cons_option (when b (mine_as t p v rows)) (units_mine us))) [ true ↦ (ap is_eq less.0, all) | false ↦ all ]
 
     module _ (one : (u : Name) (rows : UnitRows) → get m.units u ≡ Some rows → (r : UnitRow) × (rows.units ≡ r ∷ [])) where
       units_merged : (us : List Name) → IsStrictlySortedBy name_cmp us → runs_of (flat_map units_at us) ≡ units_mine us
@@ -150,14 +178,17 @@ module _ (t : ℕ) (p : Name) where
       units_merged (u ∷ us) up = by (get m.units u) refl (units_merged us up.1)
         where
           by : (o : Option UnitRows) → get m.units u ≡ o → runs_of (flat_map units_at us) ≡ units_mine us
-              → runs_of (flat_map (λ g. map (unit_line u g) (unwrap_or o no_rows).units) (filter (is_held_by t p) (unwrap_or o no_rows).grants) ++ flat_map units_at us) ≡ cons_option (mine_unit t p u o) (units_mine us)
+              → runs_of (flat_map (λ g. map (unit_line u g) (unwrap_or o no_rows).units) (filter (is_held_by t p) (unwrap_or o no_rows).grants)
+              ++ flat_map units_at us) ≡ cons_option (mine_unit t p u o) (units_mine us)
           by None e more = more
           by (Some rows) e more =
               let it = one u rows e in
               let gs = filter (is_held_by t p) rows.grants in
               ap (λ xs. runs_of (flat_map (λ g. map (unit_line u g) xs) gs ++ flat_map units_at us)) it.1
-              ∙ run u it.0 gs (flat_map units_at us) (subst (AllByRecursion (λ (v : MineUnit). same_name u v.unit ≡ false)) (sym more) (others u us up.0))
-              ∙ ap (λ xs. cons_option (when (has_any gs) (with_roles u gs (unwrap_or (slice_get xs 0) no_unit))) (runs_of (flat_map units_at us))) (sym it.1)
+              ∙ run u it.0 gs (flat_map units_at us)
+              (subst (AllByRecursion (λ (v : MineUnit). same_name u v.unit ≡ false)) (sym more) (others u us up.0))
+              ∙ ap (λ xs. cons_option (when (has_any gs) (with_roles u gs (unwrap_or (slice_get xs 0) no_unit))) (runs_of (flat_map units_at us)))
+              (sym it.1)
               ∙ ap (λ b. cons_option (when b (mine_as t p u rows)) (runs_of (flat_map units_at us))) (sym (any_kept rows.grants))
               ∙ ap (cons_option (when (is_held_in t p (Some rows)) (mine_as t p u rows))) more
 
@@ -182,11 +213,13 @@ module _ (t : ℕ) (p : Name) where
         other true b h = absurd (true≢false (sym h))
 
     -- once a grant's shelf is listed, no other grant's is
-    skips_one : (u : Name) (g h : GrantRow) (s : ShelfRow) → same_role g.role_no h.role_no ≡ false → (ss : List ShelfRow) (ls : List ShelfLine) → listed_after (Some (shelf_line u g s)) (map (shelf_line u h) ss ++ ls) ≡ listed_after (Some (shelf_line u g s)) ls
+    skips_one : (u : Name) (g h : GrantRow) (s : ShelfRow) → same_role g.role_no h.role_no ≡ false → (ss : List ShelfRow) (ls : List ShelfLine)
+        → listed_after (Some (shelf_line u g s)) (map (shelf_line u h) ss ++ ls) ≡ listed_after (Some (shelf_line u g s)) ls
     skips_one u g h s apart [] ls = refl
     skips_one u g h s apart (x ∷ ss) ls = rw (itself u, apart) (skips_one u g h s apart ss ls)
 
-    skips : (u : Name) (g : GrantRow) (s : ShelfRow) (ss : List ShelfRow) (hs : List GrantRow) → AllByRecursion (λ h. same_role g.role_no h.role_no ≡ false) hs → (ls : List ShelfLine)
+    skips : (u : Name) (g : GrantRow) (s : ShelfRow) (ss : List ShelfRow) (hs : List GrantRow)
+        → AllByRecursion (λ h. same_role g.role_no h.role_no ≡ false) hs → (ls : List ShelfLine)
         → listed_after (Some (shelf_line u g s)) (flat_map (λ h. map (shelf_line u h) ss) hs ++ ls) ≡ listed_after (Some (shelf_line u g s)) ls
     skips u g s ss [] all ls = refl
     skips u g s ss (h ∷ hs) all ls =
@@ -194,37 +227,54 @@ module _ (t : ℕ) (p : Name) where
         ∙ skips_one u g h s all.0 ss (flat_map (λ h. map (shelf_line u h) ss) hs ++ ls) ∙ skips u g s ss hs all.1 ls
 
     -- and the others of that grant are
-    takes : (u : Name) (g : GrantRow) (ss : List ShelfRow) (ls : List ShelfLine) (z : List MineRow) → ((s : ShelfRow) → map (with_return m) (listed_after (Some (shelf_line u g s)) ls) ≡ z)
-        → (s : ShelfRow) → map (with_return m) (listed_after (Some (shelf_line u g s)) (map (shelf_line u g) ss ++ ls)) ≡ map (mine_row u (rows_in m u)) ss ++ z
+    takes : (u : Name) (g : GrantRow) (ss : List ShelfRow) (ls : List ShelfLine) (z : List MineRow)
+        → ((s : ShelfRow) → map (with_return m) (listed_after (Some (shelf_line u g s)) ls) ≡ z)
+        → (s : ShelfRow)
+        → map (with_return m) (listed_after (Some (shelf_line u g s)) (map (shelf_line u g) ss ++ ls)) ≡ map (mine_row u (rows_in m u)) ss ++ z
     takes u g [] ls z same s = same s
     takes u g (x ∷ ss) ls z same s = rw (itself u, same_itself g.role_no) (ap (λ l. mine_row u (rows_in m u) x ∷ l) (takes u g ss ls z same x))
 
-    module _ (apart : (u : Name) (rows : UnitRows) → get m.units u ≡ Some rows → IsAscending (λ a b. same_role a.role_no b.role_no ≡ false) (filter (is_held_by t p) rows.grants)) where
+    module _ (apart : (u : Name) (rows : UnitRows) → get m.units u ≡ Some rows
+        → IsAscending (λ a b. same_role a.role_no b.role_no ≡ false) (filter (is_held_by t p) rows.grants)) where
       -- the lines of one unit come before others, of which the same is listed whichever line came last
-      in_unit : (u : Name) (ls : List ShelfLine) (z : List MineRow) (last : Option ShelfLine) → is_new last u ≡ true → map (with_return m) (listed_after last ls) ≡ z
-          → ((g : GrantRow) (s : ShelfRow) → map (with_return m) (listed_after (Some (shelf_line u g s)) ls) ≡ z) → (ss : List ShelfRow) (gs : List GrantRow) → IsAscending (λ a b. same_role a.role_no b.role_no ≡ false) gs
-          → map (with_return m) (listed_after last (flat_map (λ g. map (shelf_line u g) ss) gs ++ ls)) ≡ cond (has_any gs) (map (mine_row u (rows_in m u)) ss) [] ++ z
+      in_unit : (u : Name) (ls : List ShelfLine) (z : List MineRow) (last : Option ShelfLine) → is_new last u ≡ true
+          → map (with_return m) (listed_after last ls) ≡ z
+          → ((g : GrantRow) (s : ShelfRow) → map (with_return m) (listed_after (Some (shelf_line u g s)) ls) ≡ z)
+          → (ss : List ShelfRow) (gs : List GrantRow) → IsAscending (λ a b. same_role a.role_no b.role_no ≡ false) gs
+          → map (with_return m) (listed_after last (flat_map (λ g. map (shelf_line u g) ss) gs ++ ls)) ≡ cond (has_any gs)
+          (map (mine_row u (rows_in m u)) ss) [] ++ z
       in_unit u ls z last new now later ss [] differ = now
-      in_unit u ls z last new now later [] (g ∷ gs) differ = ap (λ l. map (with_return m) (listed_after last (l ++ ls))) (flat_map_none (λ (g : GrantRow). map (shelf_line u g) []) (λ g. refl) (g ∷ gs)) ∙ now
+      in_unit u ls z last new now later [] (g ∷ gs) differ =
+          ap (λ l. map (with_return m) (listed_after last (l ++ ls))) (flat_map_none (λ (g : GrantRow). map (shelf_line u g) []) (λ g. refl) (g ∷ gs))
+          ∙ now
       in_unit u ls z last new now later (s ∷ ss) (g ∷ gs) differ =
           let more = flat_map (λ (h : GrantRow). map (shelf_line u h) (s ∷ ss)) gs in
-          rw (begins last u g s new) (ap (λ l. mine_row u (rows_in m u) s ∷ l) (ap (λ l. map (with_return m) (listed_after (Some (shelf_line u g s)) l)) (append_assoc (map (shelf_line u g) ss) more ls)
+          rw (begins last u g s new)
+              (ap (λ l. mine_row u (rows_in m u) s
+              ∷ l) (ap (λ l. map (with_return m) (listed_after (Some (shelf_line u g s)) l)) (append_assoc (map (shelf_line u g) ss) more ls)
           ∙ takes u g ss (more ++ ls) z (λ x. ap (map (with_return m)) (skips u g x (s ∷ ss) gs differ.0 ls) ∙ later g x) s))
 
-      with_unit : (u : Name) (ls : List ShelfLine) (z : List MineRow) (last : Option ShelfLine) → is_new last u ≡ true → map (with_return m) (listed_after last ls) ≡ z
-          → ((g : GrantRow) (s : ShelfRow) → map (with_return m) (listed_after (Some (shelf_line u g s)) ls) ≡ z) → (o : Option UnitRows) → get m.units u ≡ o
-          → map (with_return m) (listed_after last (flat_map (λ g. map (shelf_line u g) (unwrap_or o no_rows).shelves) (filter (is_held_by t p) (unwrap_or o no_rows).grants) ++ ls)) ≡ shelves_mine t p u o ++ z
+      with_unit : (u : Name) (ls : List ShelfLine) (z : List MineRow) (last : Option ShelfLine) → is_new last u ≡ true
+          → map (with_return m) (listed_after last ls) ≡ z
+          → ((g : GrantRow) (s : ShelfRow) → map (with_return m) (listed_after (Some (shelf_line u g s)) ls) ≡ z) → (o : Option UnitRows)
+          → get m.units u ≡ o
+          → map (with_return m)
+          (listed_after last
+          (flat_map (λ g. map (shelf_line u g) (unwrap_or o no_rows).shelves) (filter (is_held_by t p) (unwrap_or o no_rows).grants) ++ ls))
+          ≡ shelves_mine t p u o ++ z
       with_unit u ls z last new now later None e = now
       with_unit u ls z last new now later (Some rows) e =
           in_unit u ls z last new now later rows.shelves (filter (is_held_by t p) rows.grants) (apart u rows e)
           ∙ ap₂ (λ b (o : Option UnitRows). cond b (map (mine_row u (unwrap_or o no_rows)) rows.shelves) [] ++ z) (sym (any_kept rows.grants)) e
 
-      shelves_merged : (us : List Name) → IsStrictlySortedBy name_cmp us → (last : Option ShelfLine) → AllByRecursion (λ u. is_new last u ≡ true) us → map (with_return m) (listed_after last (flat_map shelves_at us)) ≡ shelves_left us
+      shelves_merged : (us : List Name) → IsStrictlySortedBy name_cmp us → (last : Option ShelfLine) → AllByRecursion (λ u. is_new last u ≡ true) us
+          → map (with_return m) (listed_after last (flat_map shelves_at us)) ≡ shelves_left us
       unfolding IsStrictlySortedBy
       shelves_merged [] up last new = refl
       shelves_merged (u ∷ us) up last new =
           with_unit u (flat_map shelves_at us) (shelves_left us) last new.0 (shelves_merged us up.1 last new.1)
-          (λ g s. shelves_merged us up.1 (Some (shelf_line u g s)) (all_weaker _ (λ v. not (same_name u v) ≡ true) (λ v less. ap (λ o. not (is_eq o)) less) us up.0)) (get m.units u) refl
+          (λ g s. shelves_merged us up.1 (Some (shelf_line u g s)) (all_weaker _ (λ v. not (same_name u v)
+          ≡ true) (λ v less. ap (λ o. not (is_eq o)) less) us up.0)) (get m.units u) refl
 
     module _ (s : State) (k : HasContent s m) where
       abbrev names_up : IsStrictlySortedBy name_cmp (keys m.units)
@@ -232,17 +282,21 @@ module _ (t : ℕ) (p : Name) where
 
       one_row : (u : Name) (rows : UnitRows) → get m.units u ≡ Some rows → (r : UnitRow) × (rows.units ≡ r ∷ [])
       one_row u rows e =
-          single rows.units (subst (AreRising nat_cmp own_key) (k.seen u Units ∙ ap (λ o. (unwrap_or o no_rows).units) e) (rows_rise unit_shape (good Units) u (s.now.trees 1) (k.books.tidy Units)))
+          single rows.units (subst (AreRising nat_cmp own_key) (k.seen u Units
+              ∙ ap (λ o. (unwrap_or o no_rows).units) e) (rows_rise unit_shape (good Units) u (s.now.trees 1) (k.books.tidy Units)))
           (sym (ap (λ o. has_any (unwrap_or o no_rows).units) e) ∙ sym (k.opened u) ∙ ap is_some e)
 
       pub units_found : runs_of (standing_units t (unit_lines m p)) ≡ mine_units m t p
-      units_found = ap runs_of (held_lines unit_line (λ l. l.end_s) (λ u g x. refl) (λ rows. rows.units)) ∙ units_merged one_row (keys m.units) names_up
+      units_found = ap runs_of (held_lines unit_line (λ l. l.end_s) (λ u g x. refl) (λ rows. rows.units))
+          ∙ units_merged one_row (keys m.units) names_up
 
-      differ : (u : Name) (rows : UnitRows) → get m.units u ≡ Some rows → IsAscending (λ a b. same_role a.role_no b.role_no ≡ false) (filter (is_held_by t p) rows.grants)
+      differ : (u : Name) (rows : UnitRows) → get m.units u ≡ Some rows
+          → IsAscending (λ a b. same_role a.role_no b.role_no ≡ false) (filter (is_held_by t p) rows.grants)
       differ u rows e =
           subst (IsAscending (λ (a b : GrantRow). same_role a.role_no b.role_no ≡ false)) (own_roles t p rows.grants)
           (ascending-filter _ (λ g. is_before t g.end_s) _ (ascending_weaker _ _ (λ a b less. ap is_eq less) _
-          (subst (λ o. IsAscending (λ (a b : GrantRow). nat_cmp (role_no a.role_no) (role_no b.role_no) ≡ Less) (filter (λ g. same_name p g.person) (unwrap_or o no_rows).grants)) e (own_rise s m k p u))))
+          (subst (λ o. IsAscending (λ (a b : GrantRow). nat_cmp (role_no a.role_no) (role_no b.role_no)
+          ≡ Less) (filter (λ g. same_name p g.person) (unwrap_or o no_rows).grants)) e (own_rise s m k p u))))
 
       pub shelves_found : map (with_return m) (dedup repeats (standing_shelves t (shelf_lines m p))) ≡ mine_shelves m t p
       shelves_found =

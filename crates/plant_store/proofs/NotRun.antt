@@ -6,7 +6,8 @@ use Rattle.sqlite.specs.declared.error.ErrorCode.TheVariants as code
 use Rattle.sqlite_trees.specs.declared.error.StoreError.{StoreError, TheVariants.{Broken, Corrupt, Full, Io, OutOfMemory, Unstorable}}
 
 -- outside a transaction the database is as it was, and the store was open if it is
-pub left_alone : (old new : State) → (IsTrue old.is_open → old.now ≡ old.committed) → (sql : List ℕ) (params : Row) (e : Error) → IsNotRun old new sql params e → IsTrue new.is_open
+pub left_alone : (old new : State) → (IsTrue old.is_open → old.now ≡ old.committed) → (sql : List ℕ) (params : Row) (e : Error)
+    → IsNotRun old new sql params e → IsTrue new.is_open
     → (new.now ≡ old.now) × IsTrue old.is_open
 unfolding IsNotRun
 left_alone old new settled sql params e (inl h) up = (h.1.0.now_is, h.1.0.was_open)

@@ -21,7 +21,8 @@ module _ (schema : Schema) (k : ℕ) (t : Table) (named : table_named schema (co
   program = record { lets = []; body = query }
 
   abbrev pub meant : Compiled
-  meant = record { command = Select program names; returning = None; names = []; formats = []; start = asked.p.start; end = asked.p.end; tail = asked.p.tail }
+  meant = record { command = Select program names; returning = None; names = []; formats = []; start = asked.p.start; end = asked.p.end;
+      tail = asked.p.tail }
 
   reads : (b : Bool) → accepts_program schema [] query [] ≡ b → compile.read schema asked.s ≡ cond b (Ok (Select program names)) (Err Mismatch)
   reads = is_read schema (codes "office") k t named is (codes "id") (codes "schema_no") (codes "admin") asked.s asked.asks id schema_no admin
@@ -31,7 +32,8 @@ module _ (schema : Schema) (k : ℕ) (t : Table) (named : table_named schema (co
   compiles true h = rw (asked.is, asked.statement_is, asked.formats, asked.names, reads true h)
   compiles false h = rw (asked.is, asked.statement_is, asked.formats, asked.names, reads false h)
 
-  pub is_understood : accepts_program schema [] query [] ≡ true → (understood schema office_row_text ≡ Ok meant) × (reads_listing schema office_row_text ≡ false)
+  pub is_understood : accepts_program schema [] query [] ≡ true
+      → (understood schema office_row_text ≡ Ok meant) × (reads_listing schema office_row_text ≡ false)
   unfolding understood
   is_understood h = (rw (compiles true h), rw (compiles true h))
 

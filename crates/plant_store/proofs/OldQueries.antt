@@ -38,9 +38,14 @@ old_good i = good i
 
 -- ---- all rows of a unit, by computing for each table
 
-pub old_read : (i : TableKind) (u : Name) → ReadsOld (length (drop 1 (old_shape i).columns)) (old_shape i).cells (λ trees. old_rows u trees i) (Text u ∷ []) (old_text i)
-old_read Units u = reads_all OldRowOf KeyOf old_shape old_good old_books_schema Units _ (λ x. refl) _ (lists_old Units) u refl (λ r. one_test (column r 1) u) (λ id v x. refl)
-old_read i u = reads_all OldRowOf KeyOf old_shape old_good old_books_schema i _ (λ x. refl) _ (lists_old i) u refl (λ r. one_test (column r 1) u) (λ id v x. refl)
+pub old_read : (i : TableKind) (u : Name)
+    → ReadsOld (length (drop 1 (old_shape i).columns)) (old_shape i).cells (λ trees. old_rows u trees i) (Text u ∷ []) (old_text i)
+old_read Units u =
+    reads_all OldRowOf KeyOf old_shape old_good old_books_schema Units _ (λ x. refl) _ (lists_old Units) u refl (λ r. one_test (column r 1) u)
+    (λ id v x. refl)
+old_read i u =
+    reads_all OldRowOf KeyOf old_shape old_good old_books_schema i _ (λ x. refl) _ (lists_old i) u refl (λ r. one_test (column r 1) u)
+    (λ id v x. refl)
 
 -- ---- the codes of all units
 
@@ -48,12 +53,16 @@ code_back : Row → CodeLine
 code_back r = record { unit = bytes (column r 0) }
 
 pub old_codes_read : (old new : State) → AreOldBooks old.now → (rows : List Row) → Shown old_codes_text [] old new rows
-    → (lines : List CodeLine) → map (columns 1) rows ≡ map (λ (l : CodeLine). Text l.unit ∷ []) lines → map (λ (l : CodeLine). l.unit) lines ≡ old_codes old.now.trees
+    → (lines : List CodeLine) → map (columns 1) rows ≡ map (λ (l : CodeLine). Text l.unit ∷ []) lines
+    → map (λ (l : CodeLine). l.unit) lines ≡ old_codes old.now.trees
 unfolding code_back
 old_codes_read old new books rows h lines said =
-    let found = finds_rows old_unit_shape old_unit_good old_books_schema old_codes_text [] _ (by_key old_unit_shape) _ asks_codes.is asks_codes.unlisted asks_codes.plain [] refl (λ r. true) (λ r. refl)
+    let found =
+        finds_rows old_unit_shape old_unit_good old_books_schema old_codes_text [] _ (by_key old_unit_shape) _ asks_codes.is asks_codes.unlisted
+        asks_codes.plain [] refl (λ r. true) (λ r. refl)
     old new books.same_schema (books.tidy Units).apart rows h in
-    ap (map (λ (l : CodeLine). l.unit)) (told (λ (l : CodeLine). Text l.unit ∷ []) code_back (λ l. refl) _ lines said) ∙ ap (λ rs. codes_in (map (columns 1) rs)) found ∙ again _
+    ap (map (λ (l : CodeLine). l.unit)) (told (λ (l : CodeLine). Text l.unit ∷ []) code_back (λ l. refl) _ lines said)
+        ∙ ap (λ rs. codes_in (map (columns 1) rs)) found ∙ again _
   where
     codes_in : List Row → List Name
     codes_in rs = map (λ (l : CodeLine). l.unit) (map code_back rs)

@@ -26,7 +26,8 @@ use Rattle.plant_store.specs.OldRules.{old_quota, old_refusals, old_role_needed,
 
 -- ---- lists of refusals
 
-refused_alike : (xs : List (Bool × Refused)) (ys zs : List (Bool × Refused)) → first_refusal ys ≡ first_refusal zs → first_refusal (xs ++ ys) ≡ first_refusal (xs ++ zs)
+refused_alike : (xs : List (Bool × Refused)) (ys zs : List (Bool × Refused)) → first_refusal ys ≡ first_refusal zs
+    → first_refusal (xs ++ ys) ≡ first_refusal (xs ++ zs)
 refused_alike [] ys zs e = e
 refused_alike ((true, r) ∷ xs) ys zs e = refl
 refused_alike ((false, r) ∷ xs) ys zs e = refused_alike xs ys zs e
@@ -38,7 +39,8 @@ none_last ((true, r) ∷ xs) v = refl
 none_last ((false, r) ∷ xs) v = none_last xs v
 
 -- and one whose condition does not hold where the first does not
-none_beside : (b q : Bool) (x v : Refused) (xs : List (Bool × Refused)) → (b ≡ false → q ≡ false) → first_refusal ((b, x) ∷ xs ++ (q, v) ∷ []) ≡ first_refusal ((b, x) ∷ xs)
+none_beside : (b q : Bool) (x v : Refused) (xs : List (Bool × Refused)) → (b ≡ false → q ≡ false)
+    → first_refusal ((b, x) ∷ xs ++ (q, v) ∷ []) ≡ first_refusal ((b, x) ∷ xs)
 none_beside true q x v xs h = refl
 none_beside false q x v xs h = ap (λ b. first_refusal (xs ++ (b, v) ∷ [])) (h refl) ∙ none_last xs v
 
@@ -75,13 +77,15 @@ grants_for_good : (h : List Call) → WasLegal h → (ks : List Pair) → AllByR
 grants_for_good h was [] = tt
 grants_for_good h was (k ∷ ks) =
     let rest = grants_for_good h was ks in
-    elim (standing h k) as (λ o. standing h k ≡ o → AllByRecursion (λ (g : GrantRow). g.end_s ≡ None) (cons_option (option_map (grant_as k) o) (filter_map (grant_row h) ks))) [
+    elim (standing h k) as (λ o. standing h k ≡ o
+        → AllByRecursion (λ (g : GrantRow). g.end_s ≡ None) (cons_option (option_map (grant_as k) o) (filter_map (grant_row h) ks))) [
       | None ↦ λ _. rest
       | Some until ↦ λ is. (stands_for_good h (no_ends h was) k until is, rest)
     ] refl
 
 pub old_rows : OldRowsHaveNoEnds
-old_rows h was = record { quotas = (quota_is h was, tt); ends = grants_for_good h was (in_order pair_cmp (all_named (λ c before. pairs_named c.request) h)) }
+old_rows h was =
+    record { quotas = (quota_is h was, tt); ends = grants_for_good h was (in_order pair_cmp (all_named (λ c before. pairs_named c.request) h)) }
 
 -- ---- refusals that schema 1 has as today's
 
@@ -108,7 +112,8 @@ faults_alike : (o : Option BadFile) → fault_entries o ≡ old_fault_entries o
 faults_alike None = refl
 faults_alike (Some fault) = refl
 
-change_alike : (o : Option ChangeRow) (more old : ChangeRow → List (Bool × Refused)) → ((c : ChangeRow) → more c ≡ old c) → of_change o more ≡ old_of_change o old
+change_alike : (o : Option ChangeRow) (more old : ChangeRow → List (Bool × Refused)) → ((c : ChangeRow) → more c ≡ old c)
+    → of_change o more ≡ old_of_change o old
 change_alike None more old same = refl
 change_alike (Some c) more old same = λ i. (not (open_alike c.state i), NotProposed c.state) ∷ same c i
 
@@ -116,7 +121,8 @@ module _ (f : Facts) where
   file_alike : (t : ℕ) (file : Result (List Event) BadFile) → file_refusals f t file ≡ old_file_refusals f t file
   file_alike t (Err fault) = refl
   file_alike t (Ok rows) =
-      ap (λ rest. (nat_lt old_max_events (length f.events + length (new_numbers f.events rows)), UnitFull TooManyEvents) ∷ rest) (faults_alike (first_fault (map alarm_tag f.alarms) t 2 f.events rows))
+      ap (λ rest. (nat_lt old_max_events (length f.events + length (new_numbers f.events rows)), UnitFull TooManyEvents) ∷ rest)
+          (faults_alike (first_fault (map alarm_tag f.alarms) t 2 f.events rows))
 
   kind_alike : (base : ℕ) (k : ChangeKind) → kind_refusals f base k ≡ old_kind_refusals f base k
   kind_alike base (Rationale a s) = λ i.
@@ -154,19 +160,30 @@ module _ (h : List Call) (was : WasLegal h) (legal : IsLegal h) where
   same_lack t p None = refl
   same_lack t p (Some r) = rw (alike t (p, r)) refl
 
-  same_own : (p : Name) (t : ℕ) (q : Request) → is_of_old q ≡ true → first_refusal (own_refusals (facts h) p t q) ≡ first_refusal (old_own_refusals (facts h) p t q)
-  same_own p t (Grant u q (r, None)) e = rw (alike t (q, r)) (none_last ((nat_le max_grants (facts h).pairs, UnitFull TooManyGrants) ∷ (stands h (q, r), AlreadyHeld) ∷ []) EndNotAhead)
+  same_own : (p : Name) (t : ℕ) (q : Request) → is_of_old q ≡ true
+      → first_refusal (own_refusals (facts h) p t q) ≡ first_refusal (old_own_refusals (facts h) p t q)
+  same_own p t (Grant u q (r, None)) e =
+      rw (alike t (q, r)) (none_last ((nat_le max_grants (facts h).pairs, UnitFull TooManyGrants) ∷ (stands h (q, r), AlreadyHeld) ∷ []) EndNotAhead)
   same_own p t (Grant u q (r, Some end)) e = absurd (true≢false (sym e))
-  same_own p t (TimedShelve u a d w) e = none_beside (is_none (alarm_row h a)) _ AlarmUnknown (ShelfQuota (quota h)) ((nat_lt (limit_of (facts h) a) d, _) ∷ (is_timed (shelf_now (facts h) a t), _) ∷ []) (no_quota a t)
-  same_own p t (OneShotShelve u a w) e = none_beside (is_none (alarm_row h a)) _ AlarmUnknown (ShelfQuota (quota h)) ((is_one_shot (shelf_now (facts h) a t), _) ∷ []) (no_quota a t)
+  same_own p t (TimedShelve u a d w) e =
+      none_beside (is_none (alarm_row h a)) _ AlarmUnknown (ShelfQuota (quota h))
+      ((nat_lt (limit_of (facts h) a) d, _) ∷ (is_timed (shelf_now (facts h) a t), _) ∷ []) (no_quota a t)
+  same_own p t (OneShotShelve u a w) e =
+      none_beside (is_none (alarm_row h a)) _ AlarmUnknown (ShelfQuota (quota h)) ((is_one_shot (shelf_now (facts h) a t), _) ∷ []) (no_quota a t)
   same_own p t (Import u file) e = ap first_refusal (file_alike (facts h) t file)
   same_own p t (Propose u x) e =
-      ap (λ rest. first_refusal ((nat_le old_max_changes (facts h).change_count, UnitFull TooManyChanges) ∷ rest)) (proposed_alike (facts h) x.base x.kind)
-  same_own p t (WithdrawChange u n) e = ap first_refusal (change_alike ((facts h).change n) (λ c. (not (same_name p c.proposer), NotProposer) ∷ []) (λ c. (not (same_name p c.proposer), NotProposer) ∷ []) (λ c. refl))
+      ap (λ rest. first_refusal ((nat_le old_max_changes (facts h).change_count, UnitFull TooManyChanges) ∷ rest))
+          (proposed_alike (facts h) x.base x.kind)
+  same_own p t (WithdrawChange u n) e =
+      ap first_refusal (change_alike ((facts h).change n) (λ c. (not (same_name p c.proposer), NotProposer)
+      ∷ []) (λ c. (not (same_name p c.proposer), NotProposer) ∷ []) (λ c. refl))
   same_own p t (Approve u n) e =
       ap first_refusal (change_alike ((facts h).change n) (λ c. (same_name p c.proposer, SamePerson) ∷ kind_refusals (facts h) c.base c.kind)
-      (λ c. (same_name p c.proposer, SamePerson) ∷ old_kind_refusals (facts h) c.base c.kind) (λ c. ap (λ rest. (same_name p c.proposer, SamePerson) ∷ rest) (kind_alike (facts h) c.base c.kind)))
-  same_own p t (Reject u n) e = ap first_refusal (change_alike ((facts h).change n) (λ c. (same_name p c.proposer, SamePerson) ∷ []) (λ c. (same_name p c.proposer, SamePerson) ∷ []) (λ c. refl))
+      (λ c. (same_name p c.proposer, SamePerson) ∷ old_kind_refusals (facts h) c.base c.kind)
+      (λ c. ap (λ rest. (same_name p c.proposer, SamePerson) ∷ rest) (kind_alike (facts h) c.base c.kind)))
+  same_own p t (Reject u n) e =
+      ap first_refusal (change_alike ((facts h).change n) (λ c. (same_name p c.proposer, SamePerson) ∷ []) (λ c. (same_name p c.proposer, SamePerson)
+      ∷ []) (λ c. refl))
   same_own p t _ e = refl
 
   same_refusal : (c : Call) → is_of_old c.request ≡ true → first_refusal (refusals (facts h) c) ≡ first_refusal (old_refusals (facts h) c)
@@ -175,9 +192,12 @@ module _ (h : List Call) (was : WasLegal h) (legal : IsLegal h) where
       let behind : Bool × Refused = (nat_lt c.moment (facts h).unit.last_s, MomentBehind (facts h).unit.last_s) in
       let own = own_refusals (facts h) c.person c.moment c.request in
       let old_own = old_own_refusals (facts h) c.person c.moment c.request in
-      ap (λ b. first_refusal ((not b, NotGranted) ∷ lacks_role (facts h) c.moment c.person (role_needed c.request) ++ behind ∷ own)) (same_some c.moment c.person)
-      ∙ ap (λ l. first_refusal (none ∷ l ++ behind ∷ own)) (same_lack c.moment c.person (role_needed c.request) ∙ ap (old_lacks_role (facts h) c.person) (roles_stay c.request))
-      ∙ refused_alike (none ∷ old_lacks_role (facts h) c.person (old_role_needed c.request)) (behind ∷ own) (behind ∷ old_own) (refused_alike (behind ∷ []) own old_own (same_own c.person c.moment c.request e))
+      ap (λ b. first_refusal ((not b, NotGranted) ∷ lacks_role (facts h) c.moment c.person (role_needed c.request) ++ behind ∷ own))
+          (same_some c.moment c.person)
+      ∙ ap (λ l. first_refusal (none ∷ l ++ behind ∷ own))
+      (same_lack c.moment c.person (role_needed c.request) ∙ ap (old_lacks_role (facts h) c.person) (roles_stay c.request))
+      ∙ refused_alike (none ∷ old_lacks_role (facts h) c.person (old_role_needed c.request)) (behind ∷ own) (behind ∷ old_own)
+      (refused_alike (behind ∷ []) own old_own (same_own c.person c.moment c.request e))
 
   same_verdict : (c : Call) → is_of_old c.request ≡ true → verdict h c ≡ old_verdict h c
   same_verdict c e = ap (λ r. refused_or r (reply (facts h) c.moment c.request)) (same_refusal c e)

@@ -10,36 +10,45 @@ use Rattle.plant_store.{specs.Changes.{Applies}, proofs.Writes.{applies_then}}
 use Rattle.plant_types.specs.{KeyedRows.{IsInOrder, put_row, remove_row, row_at}, Names.{Name, name_cmp}, Roles.{pair_cmp}}
 use Rattle.plant_types.proofs.public.{KeyedRowLaws.{IsInOrder-put_row, IsInOrder-remove_row, row_at-put_row, row_at-remove_row, same_rows}, Orders.{name_total, pair_total, same_names, same_pairs}}
 
-again : {K X : Type 0} (R : K → K → Ordering) (key : X → K) → IsTotalOrder R → ((x y : K) → R x y ≡ Equal → x ≡ y) → (x : X) (rows : List X) → IsInOrder R key rows
+again : {K X : Type 0} (R : K → K → Ordering) (key : X → K) → IsTotalOrder R → ((x y : K) → R x y ≡ Equal → x ≡ y) → (x : X) (rows : List X)
+    → IsInOrder R key rows
     → put_row R key x (remove_row R key (key x) rows) ≡ put_row R key x rows
 again {K} {X} R key total same x rows up =
-    same_rows R key total same _ _ (IsInOrder-put_row R key total same x _ (IsInOrder-remove_row R key total same (key x) rows up)) (IsInOrder-put_row R key total same x rows up)
-    (λ q. row_at-put_row R key total same q x (remove_row R key (key x) rows) ∙ ap (cond (eq_by_cmp R q (key x)) (Some x)) (row_at-remove_row R key total same q (key x) rows)
+    same_rows R key total same _ _ (IsInOrder-put_row R key total same x _ (IsInOrder-remove_row R key total same (key x) rows up))
+        (IsInOrder-put_row R key total same x rows up)
+    (λ q. row_at-put_row R key total same q x (remove_row R key (key x) rows)
+    ∙ ap (cond (eq_by_cmp R q (key x)) (Some x)) (row_at-remove_row R key total same q (key x) rows)
     ∙ by (eq_by_cmp R q (key x)) (row_at R key q rows) ∙ sym (row_at-put_row R key total same q x rows))
   where
     by : (b : Bool) (o : Option X) → cond b (Some x) (cond b None o) ≡ cond b (Some x) o
     by true o = refl
     by false o = refl
 
-pub grant_again : (u : Name) (x : GrantRow) (a b c : Database) → AreBooks a → Applies u (Remove (GrantKey x.person x.role_no) ∷ []) a b → Applies u (Put (GrantPut x) ∷ []) b c → Applies u (Put (GrantPut x) ∷ []) a c
+pub grant_again : (u : Name) (x : GrantRow) (a b c : Database) → AreBooks a → Applies u (Remove (GrantKey x.person x.role_no) ∷ []) a b
+    → Applies u (Put (GrantPut x) ∷ []) b c → Applies u (Put (GrantPut x) ∷ []) a c
 grant_again u x a b c books p q =
     let both = applies_then u (Remove (GrantKey x.person x.role_no) ∷ []) (Put (GrantPut x) ∷ []) a b c p q in
     record {
       books = both.books;
       mine = λ rows seen. subst (λ gs. AreSeen u c (record rows { grants = gs }))
-          (again pair_cmp pair_of pair_total same_pairs x rows.grants (subst (IsInOrder pair_cmp pair_of) (seen Grants) (rises grant_shape (good Grants) u (a.trees 3) (books.tidy Grants)))) (both.mine rows seen);
+          (again pair_cmp pair_of pair_total same_pairs x rows.grants
+          (subst (IsInOrder pair_cmp pair_of) (seen Grants) (rises grant_shape (good Grants) u (a.trees 3) (books.tidy Grants))))
+          (both.mine rows seen);
       others = both.others;
       office = both.office;
       database = both.database;
     }
 
-pub shelf_again : (u : Name) (x : ShelfRow) (a b c : Database) → AreBooks a → Applies u (Remove (ShelfKey x.tag) ∷ []) a b → Applies u (Put (ShelfPut x) ∷ []) b c → Applies u (Put (ShelfPut x) ∷ []) a c
+pub shelf_again : (u : Name) (x : ShelfRow) (a b c : Database) → AreBooks a → Applies u (Remove (ShelfKey x.tag) ∷ []) a b
+    → Applies u (Put (ShelfPut x) ∷ []) b c → Applies u (Put (ShelfPut x) ∷ []) a c
 shelf_again u x a b c books p q =
     let both = applies_then u (Remove (ShelfKey x.tag) ∷ []) (Put (ShelfPut x) ∷ []) a b c p q in
     record {
       books = both.books;
       mine = λ rows seen. subst (λ ss. AreSeen u c (record rows { shelves = ss }))
-          (again name_cmp shelf_tag name_total same_names x rows.shelves (subst (IsInOrder name_cmp shelf_tag) (seen Shelves) (rises shelf_shape (good Shelves) u (a.trees 7) (books.tidy Shelves)))) (both.mine rows seen);
+          (again name_cmp shelf_tag name_total same_names x rows.shelves
+          (subst (IsInOrder name_cmp shelf_tag) (seen Shelves) (rises shelf_shape (good Shelves) u (a.trees 7) (books.tidy Shelves))))
+          (both.mine rows seen);
       others = both.others;
       office = both.office;
       database = both.database;

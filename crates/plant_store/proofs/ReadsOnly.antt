@@ -23,21 +23,26 @@ pub keeps_read : {old new : State} (m : Content) → Represents old m → OnlyRe
 keeps_read {old} {new} m keeps it honest = keeps_same old new m (keeps (it.honest honest)) (it.same honest)
 
 -- a query that is plain under some schema commits nothing
-asks_nothing : (schema : Schema) (text : List ℕ) → IsPlain (understood schema text) → (params : Row) (before after : State) → Survives before after (CommitsShowing text params before) → Survives before after (λ _. ⊥)
+asks_nothing : (schema : Schema) (text : List ℕ) → IsPlain (understood schema text) → (params : Row) (before after : State)
+    → Survives before after (CommitsShowing text params before) → Survives before after (λ _. ⊥)
 asks_nothing schema text plain params before after shows =
-    survives_weaker before after (CommitsShowing text params before) (λ _. ⊥) (λ _ db commits. never_commits_anywhere schema text plain params before db commits) shows
+    survives_weaker before after (CommitsShowing text params before) (λ _. ⊥)
+        (λ _ db commits. never_commits_anywhere schema text plain params before db commits) shows
 
 -- a query that is plain over the books only reads, whatever it reads
-pub reads_plain : {before after : State} (text : List ℕ) → IsPlain (understood books_schema text) → (IsHonest after → (schema : Schema) → IsPlain (understood schema text) → after.now ≡ before.now)
+pub reads_plain : {before after : State} (text : List ℕ) → IsPlain (understood books_schema text)
+    → (IsHonest after → (schema : Schema) → IsPlain (understood schema text) → after.now ≡ before.now)
     → (IsHonest after → IsHonest before) → (params : Row) → Survives before after (CommitsShowing text params before) → OnlyReads before after
 reads_plain {before} {after} text plain same honest params shows =
     record { same = λ tell. same tell books_schema plain; honest = honest; quiet = asks_nothing books_schema text plain params before after shows }
 
 -- and so one that is plain over those of schema 1
-pub reads_plain_old : {before after : State} (text : List ℕ) → IsPlain (understood old_books_schema text) → (IsHonest after → (schema : Schema) → IsPlain (understood schema text) → after.now ≡ before.now)
+pub reads_plain_old : {before after : State} (text : List ℕ) → IsPlain (understood old_books_schema text)
+    → (IsHonest after → (schema : Schema) → IsPlain (understood schema text) → after.now ≡ before.now)
     → (IsHonest after → IsHonest before) → (params : Row) → Survives before after (CommitsShowing text params before) → OnlyReads before after
 reads_plain_old {before} {after} text plain same honest params shows =
-    record { same = λ tell. same tell old_books_schema plain; honest = honest; quiet = asks_nothing old_books_schema text plain params before after shows }
+    record { same = λ tell. same tell old_books_schema plain; honest = honest;
+        quiet = asks_nothing old_books_schema text plain params before after shows }
 
 -- the books stand as in an earlier state
 pub record Still (old s : State) : Type 0 where
@@ -62,8 +67,10 @@ pub record IsListed {S X : Type 0} (g : Ghosts S) (before after : Held S) (liste
   pub reads : IsOnlyRead g before after
 
 -- also after one read more, if that leaves the whole
-pub lists_on : {S X : Type 0} {g : Ghosts S} {before mid after : Held S} {listed more whole : Content → List X} → IsListed g before mid listed whole → HasNoTransaction after → IsOnlyRead g mid after
-    → (IsHonest (state g after) → (m : Content) → HasContent (state g mid) m → listed m ≡ whole m → more m ≡ whole m) → IsListed g before after more whole
+pub lists_on : {S X : Type 0} {g : Ghosts S} {before mid after : Held S} {listed more whole : Content → List X} → IsListed g before mid listed whole
+    → HasNoTransaction after → IsOnlyRead g mid after
+    → (IsHonest (state g after) → (m : Content) → HasContent (state g mid) m → listed m ≡ whole m → more m ≡ whole m)
+    → IsListed g before after more whole
 lists_on {S} {X} {g} {before} {mid} {after} so_far mode reads next = record {
   mode = mode;
   found = λ honest m k.

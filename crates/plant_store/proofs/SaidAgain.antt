@@ -11,14 +11,16 @@ again_ok P (Err e) (Err fault) same h = tt
 again_ok P (Err e) (Ok found) same h = absurd same
 
 -- what a success gives, under a condition, it gives again
-pub again_made : {X H P Q : Type 0} (said : Result X Error) (again : Result X Fault) → SaysAgain said again → (H → OnOk said P) → ((H → P) → Q) → OnOk again Q
+pub again_made : {X H P Q : Type 0} (said : Result X Error) (again : Result X Fault) → SaysAgain said again → (H → OnOk said P) → ((H → P) → Q)
+    → OnOk again Q
 again_made (Ok found) (Ok again) same made then = then made
 again_made (Ok found) (Err fault) same made then = cc
 again_made (Err e) (Err fault) same made then = tt
 again_made (Err e) (Ok found) same made then = absurd same
 
 -- and so a failure
-pub again_left : {X H P Q : Type 0} (said : Result X Error) (again : Result X Fault) → SaysAgain said again → (H → OnErr said P) → ((H → P) → Q) → OnErr again Q
+pub again_left : {X H P Q : Type 0} (said : Result X Error) (again : Result X Fault) → SaysAgain said again → (H → OnErr said P) → ((H → P) → Q)
+    → OnErr again Q
 again_left (Ok found) (Ok again) same left then = tt
 again_left (Ok found) (Err fault) same left then = cc
 again_left (Err e) (Err fault) same left then = then left

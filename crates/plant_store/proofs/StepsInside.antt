@@ -5,7 +5,8 @@ use Rattle.plant_store.specs.StaysInside.{StaysInside}
 use Rattle.plant_columns.proofs.public.Asking.{keeps_then}
 
 -- a step after one that succeeded
-pub stays_then : {V W : Type 0} {value : V} {result : Result W Error} {first mid last : State} → StaysInside (Ok value) first mid → StaysInside result mid last → StaysInside result first last
+pub stays_then : {V W : Type 0} {value : V} {result : Result W Error} {first mid last : State} → StaysInside (Ok value) first mid
+    → StaysInside result mid last → StaysInside result first last
 stays_then {V} {W} {value} {result} {first} {mid} {last} one two =
     let early = λ (clean : HasCleanDisk last). let before : HasCleanDisk mid = omega (arith, two.survives.clean) in before in
     record {

@@ -11,7 +11,8 @@ same_some : {X : Type 0} (o : Option (Bor X)) → is_some o ≡ is_some (option_
 same_some None = refl
 same_some (Some x) = refl
 
-pub found_there : {K X : Type 0} (R : K → K → Ordering) (key : X → K) (k : K) (rows : List X) (o : Option (Bor X)) → option_copied o ≡ row_at R key k rows → list_any (λ r. eq_by_cmp R k (key r)) rows ≡ true → is_some o ≡ true
+pub found_there : {K X : Type 0} (R : K → K → Ordering) (key : X → K) (k : K) (rows : List X) (o : Option (Bor X))
+    → option_copied o ≡ row_at R key k rows → list_any (λ r. eq_by_cmp R k (key r)) rows ≡ true → is_some o ≡ true
 found_there R key k rows o is has = same_some o ∙ ap is_some is ∙ is_some-find (λ r. eq_by_cmp R k (key r)) rows ∙ has
 
 -- a row put as a new one, table by table

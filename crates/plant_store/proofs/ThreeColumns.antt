@@ -28,7 +28,8 @@ pub record IsColumn (t : Table) (n : Name) : Type 0 where
   pub has : column_named t n ≡ Some at
   pub it : slice_get t.columns at ≡ Some column
 
-module _ (schema : Schema) (name : Name) (k : ℕ) (t : Table) (is_named : table_named schema name ≡ Some k) (is : slice_get schema.tables k ≡ Some t) where
+module _ (schema : Schema) (name : Name) (k : ℕ) (t : Table) (is_named : table_named schema name ≡ Some k)
+    (is : slice_get schema.tables k ≡ Some t) where
   -- the one table of FROM, and the state and the context in which the columns are read
   abbrev table_bound : Bound
   table_bound = record { name = name; table = k; slot = 1; shared = [] }
@@ -95,8 +96,10 @@ module _ (schema : Schema) (name : Name) (k : ℕ) (t : Table) (is_named : table
       unfolding opened
       is_opened s' deeper = rw (w.out, is_column s')
 
-      is_node : (b : ℕ) → nat_lt 1 b ≡ true → (l : Carried) (deeper : Context → Expr → Lowering Term) → node deeper showing w.e (state_with b l) ≡ Ok (term, state_with (b - 1) carried)
-      unfolding node Rattle.sqlite_resolve.specs.Lowering.spend Rattle.sqlite_resolve.specs.Lowering.begin Rattle.sqlite_resolve.specs.Lowering.finish Rattle.sqlite_resolve.specs.Expr.passes
+      is_node : (b : ℕ) → nat_lt 1 b ≡ true → (l : Carried) (deeper : Context → Expr → Lowering Term)
+          → node deeper showing w.e (state_with b l) ≡ Ok (term, state_with (b - 1) carried)
+      unfolding node Rattle.sqlite_resolve.specs.Lowering.spend Rattle.sqlite_resolve.specs.Lowering.begin Rattle.sqlite_resolve.specs.Lowering.finish
+          Rattle.sqlite_resolve.specs.Expr.passes
       is_node b many l deeper = rw (many, is_opened (state_with (b - 1) nothing) deeper, w.out)
 
       is_lowered : (b : ℕ) → nat_lt 1 b ≡ true → (l : Carried) → lower showing w.e (state_with b l) ≡ Ok (term, state_with (b - 1) carried)
@@ -111,7 +114,8 @@ module _ (schema : Schema) (name : Name) (k : ℕ) (t : Table) (is_named : table
       unfolding body.is_column
       is_plain = rw w.out
 
-      is_shown : (b : ℕ) → nat_lt 1 b ≡ true → (l : Carried) (done : List Output) → body.shown lower showing (table_bound ∷ []) done s (state_with b l) ≡ Ok (done ++ output ∷ [], state_with (b - 1) carried)
+      is_shown : (b : ℕ) → nat_lt 1 b ≡ true → (l : Carried) (done : List Output)
+          → body.shown lower showing (table_bound ∷ []) done s (state_with b l) ≡ Ok (done ++ output ∷ [], state_with (b - 1) carried)
       unfolding body.shown
       is_shown b many l done = rw (w.one, is_lowered b many l, is_headed, is_plain)
 
@@ -126,11 +130,14 @@ module _ (schema : Schema) (name : Name) (k : ℕ) (t : Table) (is_named : table
     unfolding body.bounds
     are_bound = rw is_bound
 
-    is_joined : (x : Context) → x.schema ≡ schema → (s' : State) → body.join lower x (table_bound ∷ []) (record { steps = []; filter = [] }) table_bound w.src s' ≡ Ok (record { steps = Inner t.tree ∷ []; filter = [] }, s')
+    is_joined : (x : Context) → x.schema ≡ schema → (s' : State)
+        → body.join lower x (table_bound ∷ [])
+        (record { steps = []; filter = [] }) table_bound w.src s' ≡ Ok (record { steps = Inner t.tree ∷ []; filter = [] }, s')
     unfolding body.join body.shared body.inner_join body.tests
     is_joined x under s' = rw (under, is, w.left, w.on)
 
-    are_joined : (x : Context) → x.schema ≡ schema → (s' : State) → body.joins lower x (table_bound ∷ []) (w.src ∷ []) s' ≡ Ok (record { steps = Inner t.tree ∷ []; filter = [] }, s')
+    are_joined : (x : Context) → x.schema ≡ schema → (s' : State)
+        → body.joins lower x (table_bound ∷ []) (w.src ∷ []) s' ≡ Ok (record { steps = Inner t.tree ∷ []; filter = [] }, s')
     unfolding body.joins
     are_joined x under s' = rw (w.on, w.using, is_joined x under s')
 
@@ -143,7 +150,9 @@ module _ (schema : Schema) (name : Name) (k : ℕ) (t : Table) (is_named : table
 
       are_shown : body.outputs lower showing (table_bound ∷ []) (w.s₁ ∷ w.s₂ ∷ w.s₃ ∷ []) (state_with max_budget nothing) ≡ Ok (all, after)
       unfolding body.outputs
-      are_shown = rw (is_shown n₁ c₁ w.s₁ w.w₁ max_budget refl nothing [], is_shown n₂ c₂ w.s₂ w.w₂ 99999 refl (carried n₁ c₁) (output n₁ c₁ ∷ []), is_shown n₃ c₃ w.s₃ w.w₃ 99998 refl (carried n₂ c₂) (output n₁ c₁ ∷ output n₂ c₂ ∷ []))
+      are_shown =
+          rw (is_shown n₁ c₁ w.s₁ w.w₁ max_budget refl nothing [], is_shown n₂ c₂ w.s₂ w.w₂ 99999 refl (carried n₁ c₁) (output n₁ c₁
+          ∷ []), is_shown n₃ c₃ w.s₃ w.w₃ 99998 refl (carried n₂ c₂) (output n₁ c₁ ∷ output n₂ c₂ ∷ []))
 
       is_result : body.result lower (outermost schema) tables_level w.core (state_with max_budget nothing) ≡ Ok (all, after)
       unfolding body.result
@@ -156,15 +165,19 @@ module _ (schema : Schema) (name : Name) (k : ℕ) (t : Table) (is_named : table
       unfolding body.matching body.tests
       is_matching = rw (w.froms, w.filter, are_joined (body.within (outermost schema) shown_level false) refl after)
 
-      is_body : body.body lower (outermost schema) w.core (fresh 1 max_budget) ≡ Ok (record { level = shown_level; steps = Inner t.tree ∷ []; filter = [] }, after)
+      is_body : body.body lower (outermost schema) w.core (fresh 1 max_budget)
+          ≡ Ok (record { level = shown_level; steps = Inner t.tree ∷ []; filter = [] }, after)
       unfolding body.body
       is_body = rw (w.froms, are_bound, is_result, is_matching)
 
       abbrev clauses : Clauses
-      clauses = record { body = record { level = shown_level; steps = Inner t.tree ∷ []; filter = [] }; is_grouped = false; keys = []; collations = []; having = []; order = [] }
+      clauses =
+          record { body = record { level = shown_level; steps = Inner t.tree ∷ []; filter = [] }; is_grouped = false; keys = []; collations = [];
+          having = []; order = [] }
 
       are_parts : parts schema w.core [] (fresh 1 max_budget) ≡ Ok (clauses, after)
-      unfolding parts Rattle.sqlite_resolve.specs.Order.keys Rattle.sqlite_resolve.specs.Order.sorts Rattle.sqlite_resolve.specs.Select.having body.tests
+      unfolding parts Rattle.sqlite_resolve.specs.Order.keys Rattle.sqlite_resolve.specs.Order.sorts Rattle.sqlite_resolve.specs.Select.having
+          body.tests
       are_parts = rw (w.group, w.having, is_body)
 
       abbrev page : Term × Term
@@ -200,7 +213,8 @@ module _ (schema : Schema) (name : Name) (k : ℕ) (t : Table) (is_named : table
       sources_named : program.are_named (out-Core w.core).from ≡ true
       sources_named = rw (w.froms, w.from)
 
-      is_single : (deeper : Schema → Select → program.Building program.Shown) → program.single deeper schema w.core [] page [] ≡ Ok ((shown_so, schema), [])
+      is_single : (deeper : Schema → Select → program.Building program.Shown)
+          → program.single deeper schema w.core [] page [] ≡ Ok ((shown_so, schema), [])
       is_single deeper = single_named deeper schema w.core [] page [] sources_named ∙ rw is_drafted
 
       is_whole : (deeper : Schema → Select → program.Building program.Shown) → program.whole deeper schema s [] ≡ Ok (shown_so, [])
@@ -215,7 +229,8 @@ module _ (schema : Schema) (name : Name) (k : ℕ) (t : Table) (is_named : table
       body_of = record { lets = []; body = query_of draft }
 
       -- it is read where its types fit, and else refused
-      pub is_read : (b : Bool) → accepts_program schema [] (query_of draft) [] ≡ b → compile.read schema s ≡ cond b (Ok (command.Select body_of headings)) (Err Mismatch)
+      pub is_read : (b : Bool) → accepts_program schema [] (query_of draft) [] ≡ b
+          → compile.read schema s ≡ cond b (Ok (command.Select body_of headings)) (Err Mismatch)
       unfolding compile.read program.program
       is_read true accepted = rw (is_queried, accepted)
       is_read false refused = rw (is_queried, refused)

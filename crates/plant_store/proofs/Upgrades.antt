@@ -41,11 +41,14 @@ module _ {K X : Type 0} (R : K → K → Ordering) (key : X → K) where
         let up : R (key x) (key y) ≡ Greater = o.antisymm (key x) (key y) ∙ ap ordering_reverse all.0 in
         rw up (ap (λ l. y ∷ l) (at_end x ys all.1))
 
-    filled_end : (xs ys : List X) → AllByRecursion (λ y. AllByRecursion (λ x. R (key y) (key x) ≡ Less) xs) ys → Rise R key xs → filled xs ys ≡ ys ++ xs
+    filled_end : (xs ys : List X) → AllByRecursion (λ y. AllByRecursion (λ x. R (key y) (key x) ≡ Less) xs) ys → Rise R key xs
+        → filled xs ys ≡ ys ++ xs
     filled_end [] ys across up = sym (append-nil ys)
     filled_end (x ∷ xs) ys across up =
         ap (filled xs) (at_end x ys (all_weaker _ (λ y. R (key y) (key x) ≡ Less) (λ y h. h.0) ys across))
-        ∙ filled_end xs (ys ++ x ∷ []) (all-append (λ y. AllByRecursion (λ z. R (key y) (key z) ≡ Less) xs) ys (x ∷ []) (all_weaker _ (λ y. AllByRecursion (λ z. R (key y) (key z) ≡ Less) xs) (λ y h. h.1) ys across) (up.0, tt)) up.1
+        ∙ filled_end xs (ys ++ x ∷ [])
+        (all-append (λ y. AllByRecursion (λ z. R (key y) (key z) ≡ Less) xs) ys (x
+        ∷ []) (all_weaker _ (λ y. AllByRecursion (λ z. R (key y) (key z) ≡ Less) xs) (λ y h. h.1) ys across) (up.0, tt)) up.1
         ∙ append_assoc ys (x ∷ []) xs
 
     pub filled_none : (xs : List X) → Rise R key xs → filled xs [] ≡ xs
@@ -53,21 +56,26 @@ module _ {K X : Type 0} (R : K → K → Ordering) (key : X → K) where
 
 -- ---- the puts of each table's rows
 
-puts_units : (xs : List UnitRow) → Rise nat_cmp (λ (r : UnitRow). 0) xs → changed_by (map (λ r. Put (UnitPut r)) xs) no_rows ≡ record no_rows { units = xs }
+puts_units : (xs : List UnitRow) → Rise nat_cmp (λ (r : UnitRow). 0) xs
+    → changed_by (map (λ r. Put (UnitPut r)) xs) no_rows ≡ record no_rows { units = xs }
 puts_units [] up = refl
 puts_units (x ∷ []) up = refl
 puts_units (x ∷ y ∷ xs) up = absurd (cc up.0.0)
 
 -- of any other table
-puts_into : (i : TableKind) → i ≢ Units → (xs : List (RowOf i)) (rows : UnitRows) → changed_by (map (λ r. Put (as_row i r)) xs) rows ≡ with_rows i (filled (shape i).order (shape i).key xs (rows_at i rows)) rows
+puts_into : (i : TableKind) → i ≢ Units → (xs : List (RowOf i)) (rows : UnitRows)
+    → changed_by (map (λ r. Put (as_row i r)) xs) rows ≡ with_rows i (filled (shape i).order (shape i).key xs (rows_at i rows)) rows
 puts_into Units apart xs rows = absurd (apart refl)
 puts_into i apart [] rows = refl
 puts_into i apart (x ∷ xs) rows = puts_into i apart xs (with_rows i (put_row (shape i).order (shape i).key x (rows_at i rows)) rows)
 
 -- into one without rows
-puts_rising : (i : TableKind) → i ≢ Units → (xs : List (RowOf i)) → Rise (shape i).order (shape i).key xs → (rows : UnitRows) → rows_at i rows ≡ [] → changed_by (map (λ r. Put (as_row i r)) xs) rows ≡ with_rows i xs rows
+puts_rising : (i : TableKind) → i ≢ Units → (xs : List (RowOf i)) → Rise (shape i).order (shape i).key xs → (rows : UnitRows) → rows_at i rows ≡ []
+    → changed_by (map (λ r. Put (as_row i r)) xs) rows ≡ with_rows i xs rows
 puts_rising i apart xs up rows none =
-    puts_into i apart xs rows ∙ ap (λ l. with_rows i l rows) (ap (filled (shape i).order (shape i).key xs) none ∙ filled_none (shape i).order (shape i).key (good i).total xs up)
+    puts_into i apart xs rows
+        ∙ ap (λ l. with_rows i l rows)
+        (ap (filled (shape i).order (shape i).key xs) none ∙ filled_none (shape i).order (shape i).key (good i).total xs up)
 
 -- the rows of each table rise
 abbrev AreRising : UnitRows → Type 0
@@ -99,12 +107,17 @@ all_put rows up =
 -- ---- the rows of a store of schema 1 rise
 
 old_rise : (u : Name) (db : Database) → AreOldBooks db → AreRising (upgraded_rows u db.trees)
-old_rise u db books Units = ascending-map (λ (a b : UnitRow). nat_cmp 0 0 ≡ Less) upgraded_unit (old_rows u db.trees Units) (rising _ (old_good Units) u (db.trees 1) (books.tidy Units))
-old_rise u db books Grants = ascending-map (λ a b. pair_cmp (pair_of a) (pair_of b) ≡ Less) upgraded_grant (old_rows u db.trees Grants) (rising _ (old_good Grants) u (db.trees 3) (books.tidy Grants))
+old_rise u db books Units =
+    ascending-map (λ (a b : UnitRow). nat_cmp 0 0 ≡ Less) upgraded_unit (old_rows u db.trees Units)
+    (rising _ (old_good Units) u (db.trees 1) (books.tidy Units))
+old_rise u db books Grants =
+    ascending-map (λ a b. pair_cmp (pair_of a) (pair_of b) ≡ Less) upgraded_grant (old_rows u db.trees Grants)
+    (rising _ (old_good Grants) u (db.trees 3) (books.tidy Grants))
 old_rise u db books i = rising _ (old_good i) u (db.trees (shape i).tree) (books.tidy i)
 
 -- a unit without rows has, after the puts, the rows that it had in the old store
-pub unit_taken : (u : Name) (db : Database) → AreOldBooks db → (old new : Database) → AreSeen u old no_rows → Applies u (puts_all (upgraded_rows u db.trees)) old new → AreSeen u new (upgraded_rows u db.trees)
+pub unit_taken : (u : Name) (db : Database) → AreOldBooks db → (old new : Database) → AreSeen u old no_rows
+    → Applies u (puts_all (upgraded_rows u db.trees)) old new → AreSeen u new (upgraded_rows u db.trees)
 unit_taken u db books old new none it = subst (AreSeen u new) (all_put (upgraded_rows u db.trees) (old_rise u db books)) (it.mine no_rows none)
 
 -- ---- the codes of the units
@@ -129,7 +142,8 @@ module _ (db : Database) (books : AreOldBooks db) where
   name_at r h = named old_unit_shape old_unit_good r h
 
   -- a code is among them exactly where the unit has a row of its own
-  among : (u : Name) (rs : List Row) → AllByRecursion (IsRowIn old_unit_shape) rs → is_among (map code rs) u ≡ has_any (map old_unit_shape.read (filter (is_of u) rs))
+  among : (u : Name) (rs : List Row) → AllByRecursion (IsRowIn old_unit_shape) rs
+      → is_among (map code rs) u ≡ has_any (map old_unit_shape.read (filter (is_of u) rs))
   among u [] all = refl
   among u (r ∷ rs) all =
       let same : is_of u r ≡ same_name (code r) u = ap (λ v. is_eq (value_cmp v (Text u))) (name_at r all.0) ∙ ap is_eq (value_cmp-Text (code r) u) in
@@ -150,16 +164,20 @@ module _ (db : Database) (books : AreOldBooks db) where
   less_code : (a b : Row) → IsRowIn old_unit_shape a → IsRowIn old_unit_shape b → by_columns unit_key a b ≡ Less → name_cmp (code a) (code b) ≡ Less
   less_code a b p q h = sym (then-Equal _ ∙ ap₂ value_cmp (name_at a p) (name_at b q) ∙ value_cmp-Text (code a) (code b)) ∙ h
 
-  codes_up : (rs : List Row) → AllByRecursion (IsRowIn old_unit_shape) rs → IsAscending (λ a b. by_columns unit_key a b ≡ Less) rs → IsAscending (λ a b. name_cmp a b ≡ Less) (map code rs)
+  codes_up : (rs : List Row) → AllByRecursion (IsRowIn old_unit_shape) rs → IsAscending (λ a b. by_columns unit_key a b ≡ Less) rs
+      → IsAscending (λ a b. name_cmp a b ≡ Less) (map code rs)
   codes_up [] all up = tt
   codes_up (r ∷ rs) all up = (above rs all.1 up.0, codes_up rs all.1 up.1)
     where
-      above : (qs : List Row) → AllByRecursion (IsRowIn old_unit_shape) qs → AllByRecursion (λ q. by_columns unit_key r q ≡ Less) qs → AllByRecursion (λ c. name_cmp (code r) c ≡ Less) (map code qs)
+      above : (qs : List Row) → AllByRecursion (IsRowIn old_unit_shape) qs → AllByRecursion (λ q. by_columns unit_key r q ≡ Less) qs
+          → AllByRecursion (λ c. name_cmp (code r) c ≡ Less) (map code qs)
       above [] all h = tt
       above (q ∷ qs) more h = (less_code r q all.0 more.0 h.0, above qs more.1 h.1)
 
   pub codes_rise : IsAscending (λ a b. name_cmp a b ≡ Less) (old_codes db.trees)
-  codes_rise = subst (IsAscending (λ a b. name_cmp a b ≡ Less)) (sym codes_are) (codes_up sorted well_formed (strict-sort (by_columns unit_key) (by_columns_total unit_key) (db.trees 1) (books.tidy Units).apart))
+  codes_rise =
+      subst (IsAscending (λ a b. name_cmp a b ≡ Less)) (sym codes_are)
+      (codes_up sorted well_formed (strict-sort (by_columns unit_key) (by_columns_total unit_key) (db.trees 1) (books.tidy Units).apart))
 
 -- ---- one unit after another
 
@@ -167,14 +185,16 @@ abbrev pub units_of : List CodeLine → List Name
 units_of lines = map (λ (l : CodeLine). l.unit) lines
 
 -- a code that comes later is not among those before it
-pub not_before : (lines : List CodeLine) (k : ℕ) (d : CodeLine) → IsAscending (λ a b. name_cmp a b ≡ Less) (units_of lines) → k < length lines → is_among (units_of (take k lines)) (get_or lines k d).unit ≡ false
+pub not_before : (lines : List CodeLine) (k : ℕ) (d : CodeLine) → IsAscending (λ a b. name_cmp a b ≡ Less) (units_of lines) → k < length lines
+    → is_among (units_of (take k lines)) (get_or lines k d).unit ≡ false
 not_before [] k d up h = absurd (omega arith)
 not_before (l ∷ ls) zero d up h = refl
 not_before (l ∷ ls) (suc k) d up h =
     let far : name_cmp l.unit (get_or ls k d).unit ≡ Less = reach ls k up.0 (omega arith) in
     rw far (not_before ls k d up.1 (omega arith))
   where
-    reach : (qs : List CodeLine) (n : ℕ) → AllByRecursion (λ c. name_cmp l.unit c ≡ Less) (units_of qs) → n < length qs → name_cmp l.unit (get_or qs n d).unit ≡ Less
+    reach : (qs : List CodeLine) (n : ℕ) → AllByRecursion (λ c. name_cmp l.unit c ≡ Less) (units_of qs) → n < length qs
+        → name_cmp l.unit (get_or qs n d).unit ≡ Less
     reach [] n all h = absurd (omega arith)
     reach (q ∷ qs) zero all h = all.0
     reach (q ∷ qs) (suc n) all h = reach qs n all.1 (omega arith)
@@ -182,7 +202,8 @@ not_before (l ∷ ls) (suc k) d up h =
 among_more : (us : List Name) (x u : Name) → is_among (us ++ x ∷ []) u ≡ (is_among us u || same_name x u)
 among_more us x u = list_any-append (λ k. same_name k u) us (x ∷ []) ∙ ap (λ b. is_among us u || b) (or-false (same_name x u))
 
-pub taken_next : (us : List Name) (x : Name) (db : Database) → AreOldBooks db → (old new : Database) → is_among us x ≡ false → AreTakenOver us db.trees old → Applies x (puts_all (upgraded_rows x db.trees)) old new
+pub taken_next : (us : List Name) (x : Name) (db : Database) → AreOldBooks db → (old new : Database) → is_among us x ≡ false
+    → AreTakenOver us db.trees old → Applies x (puts_all (upgraded_rows x db.trees)) old new
     → AreTakenOver (us ++ x ∷ []) db.trees new
 taken_next us x db books old new fresh so_far it = record {
   books = it.books;
@@ -194,7 +215,8 @@ taken_next us x db books old new fresh so_far it = record {
     mine : AreSeen x new (upgraded_rows x db.trees)
     mine = unit_taken x db books old new (so_far.others x fresh) it
 
-    taken : (u : Name) (b c : Bool) → same_name x u ≡ b → is_among us u ≡ c → (is_among us u || same_name x u) ≡ true → AreSeen u new (upgraded_rows u db.trees)
+    taken : (u : Name) (b c : Bool) → same_name x u ≡ b → is_among us u ≡ c → (is_among us u || same_name x u) ≡ true
+        → AreSeen u new (upgraded_rows u db.trees)
     taken u true c e f h = subst (λ y. AreSeen y new (upgraded_rows y db.trees)) (same_codes x u e) mine
     taken u false true e f h = λ i. it.others u (differs x u e) i ∙ so_far.taken u f i
     taken u false false e f h = absurd (true≢false (sym (sym (ap₂ ◌||◌ f e) ∙ h)))
@@ -218,7 +240,8 @@ any_map : {A B : Type 0} (f : A → B) (xs : List A) → has_any (map f xs) ≡ 
 any_map f [] = refl
 any_map f (x ∷ xs) = refl
 
-pub all_taken : (m : Content) (db new : Database) → HaveOldRows m db → AreTakenOver (old_codes db.trees) db.trees new → IsOfficeOf m.admin new → HaveRows m new
+pub all_taken : (m : Content) (db new : Database) → HaveOldRows m db → AreTakenOver (old_codes db.trees) db.trees new → IsOfficeOf m.admin new
+    → HaveRows m new
 all_taken m db new h it office = record {
   books = it.books;
   office = office;
@@ -227,7 +250,8 @@ all_taken m db new h it office = record {
 }
   where
     known : (u : Name) → is_among (old_codes db.trees) u ≡ contains_key m.units u
-    known u = code_known db h.books u ∙ sym (any_map upgraded_unit (old_rows u db.trees Units)) ∙ ap (λ (rows : UnitRows). has_any rows.units) (h.seen u) ∙ sym (h.opened u)
+    known u = code_known db h.books u ∙ sym (any_map upgraded_unit (old_rows u db.trees Units))
+        ∙ ap (λ (rows : UnitRows). has_any rows.units) (h.seen u) ∙ sym (h.opened u)
 
     seen : (u : Name) (b : Bool) → is_among (old_codes db.trees) u ≡ b → AreSeen u new (rows_in m u)
     seen u true e = subst (AreSeen u new) (h.seen u) (it.taken u e)

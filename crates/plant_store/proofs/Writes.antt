@@ -38,8 +38,10 @@ pub office_apart : (i : TableKind) → 0 ≢ (shape i).tree
 office_apart Units e = omega arith
 office_apart i e = omega arith
 
-pub edits_apply : (i : TableKind) (u : Name) (change : List (RowOf i) → List (RowOf i)) (cs : List RowEdit) (old new : Database) → Edits RowOf KeyOf shape books_schema i u change old new
-    → ((rows : UnitRows) → AreSeen u old rows → rows_at i (changed_by cs rows) ≡ change (rows_at i rows)) → ((rows : UnitRows) (j : TableKind) → j ≢ i → rows_at j (changed_by cs rows) ≡ rows_at j rows)
+pub edits_apply : (i : TableKind) (u : Name) (change : List (RowOf i) → List (RowOf i)) (cs : List RowEdit) (old new : Database)
+    → Edits RowOf KeyOf shape books_schema i u change old new
+    → ((rows : UnitRows) → AreSeen u old rows → rows_at i (changed_by cs rows) ≡ change (rows_at i rows))
+    → ((rows : UnitRows) (j : TableKind) → j ≢ i → rows_at j (changed_by cs rows) ≡ rows_at j rows)
     → (IsDatabase old → IsDatabase new) → Applies u cs old new
 edits_apply i u change cs old new it here elsewhere database = record {
   books = it.tables;
@@ -50,7 +52,8 @@ edits_apply i u change cs old new it here elsewhere database = record {
 }
   where
     one : (rows : UnitRows) → AreSeen u old rows → (j : TableKind) → (j ≡ i) ⊎ (j ≢ i) → rows_seen u new.trees j ≡ rows_at j (changed_by cs rows)
-    one rows seen j (inl e) = subst (λ k. rows_seen u new.trees k ≡ rows_at k (changed_by cs rows)) (sym e) (it.mine ∙ ap change (seen i) ∙ sym (here rows seen))
+    one rows seen j (inl e) =
+        subst (λ k. rows_seen u new.trees k ≡ rows_at k (changed_by cs rows)) (sym e) (it.mine ∙ ap change (seen i) ∙ sym (here rows seen))
     one rows seen j (inr apart) = ap (rows_in (shape j) u) (it.other_tables j apart) ∙ seen j ∙ sym (elsewhere rows j apart)
 
     other : (v : Name) → v ≢ u → (j : TableKind) → (j ≡ i) ⊎ (j ≢ i) → rows_seen v new.trees j ≡ rows_seen v old.trees j
@@ -58,20 +61,26 @@ edits_apply i u change cs old new it here elsewhere database = record {
     other v apart j (inr away) = ap (rows_in (shape j) v) (it.other_tables j away)
 
 -- the cells of a row that is put, by computing for each table
-values : (i : TableKind) (u : Name) (x : RowOf i) → value_rows (stamped (table_in (shape i)) (Text u ∷ (shape i).cells x)) (put_width i) (length (put_terms i) / put_width i) (put_terms i) ≡ row_in (shape i) Null u x ∷ []
+values : (i : TableKind) (u : Name) (x : RowOf i)
+    → value_rows (stamped (table_in (shape i)) (Text u ∷ (shape i).cells x)) (put_width i) (length (put_terms i) / put_width i)
+    (put_terms i) ≡ row_in (shape i) Null u x ∷ []
 values Units u x = refl
 values i u x = refl
 
 -- INSERT of a row of one table
-put_in_table : (i : TableKind) (u : Name) (x : RowOf i) (old new : State) → AreBooks old.now → (count : ℕ) → Executes (put_text i) (Text u ∷ (shape i).cells x) old new (Ok count)
+put_in_table : (i : TableKind) (u : Name) (x : RowOf i) (old new : State) → AreBooks old.now → (count : ℕ)
+    → Executes (put_text i) (Text u ∷ (shape i).cells x) old new (Ok count)
     → Edits RowOf KeyOf shape books_schema i u (put_row (shape i).order (shape i).key x) old.now new.now
 put_in_table i u x old new books count h =
     edits RowOf KeyOf shape books_schema all_listed i u _ old.now new.now books (put_changes (shape i) (good i) books_schema u x old.now new.now
-    (adds_row (shape i) (good i) books_schema (listed i) free (put_text i) (put_terms i) (put_width i) (puts i).is (puts i).plain u x (values i u x) old new books.same_schema (books.tidy i).are count h) (books.tidy i))
+    (adds_row (shape i) (good i) books_schema (listed i) free (put_text i) (put_terms i) (put_width i) (puts i).is (puts i).plain u x (values i u x)
+    old new books.same_schema (books.tidy i).are count h) (books.tidy i))
 
 -- which leaves a database
-put_database : (i : TableKind) (u : Name) (x : RowOf i) (old new : State) → AreBooks old.now → (count : ℕ) → Executes (put_text i) (Text u ∷ (shape i).cells x) old new (Ok count) → IsDatabase new.now
-put_database i u x old new books count h = (runs_as (put_text i) (Text u ∷ (shape i).cells x) old new books_schema books.same_schema _ (puts i).is (puts i).plain count h).sound
+put_database : (i : TableKind) (u : Name) (x : RowOf i) (old new : State) → AreBooks old.now → (count : ℕ)
+    → Executes (put_text i) (Text u ∷ (shape i).cells x) old new (Ok count) → IsDatabase new.now
+put_database i u x old new books count h =
+    (runs_as (put_text i) (Text u ∷ (shape i).cells x) old new books_schema books.same_schema _ (puts i).is (puts i).plain count h).sound
 
 -- ---- a unit has one row of its own at most
 
@@ -108,23 +117,32 @@ away Changes xs rows Changes h = absurd (h refl)
 away i xs rows j h = refl
 
 -- a put into one table is the put of a unit
-pub edited : (i : TableKind) (u : Name) (x : RowOf i) (old new : Database) → AreBooks old → Edits RowOf KeyOf shape books_schema i u (put_row (shape i).order (shape i).key x) old new → (IsDatabase old → IsDatabase new) → Applies u (Put (as_row i x) ∷ []) old new
+pub edited : (i : TableKind) (u : Name) (x : RowOf i) (old new : Database) → AreBooks old
+    → Edits RowOf KeyOf shape books_schema i u (put_row (shape i).order (shape i).key x) old new → (IsDatabase old → IsDatabase new)
+    → Applies u (Put (as_row i x) ∷ []) old new
 edited Units u x old new books it database =
     edits_apply Units u (put_row nat_cmp own_key x) (Put (UnitPut x) ∷ []) old new it
-    (λ rows seen. sym (one_at_most x rows.units (subst (IsInOrder nat_cmp own_key) (seen Units) (rises unit_shape (good Units) u (old.trees 1) (books.tidy Units))))) (λ rows. away Units (x ∷ []) rows) database
+    (λ rows seen. sym
+    (one_at_most x rows.units (subst (IsInOrder nat_cmp own_key) (seen Units) (rises unit_shape (good Units) u (old.trees 1) (books.tidy Units)))))
+    (λ rows. away Units (x ∷ []) rows) database
 edited i u x old new books it database =
-    edits_apply i u (put_row (shape i).order (shape i).key x) (Put (as_row i x) ∷ []) old new it (λ rows seen. refl) (λ rows. away i (put_row (shape i).order (shape i).key x (rows_at i rows)) rows) database
+    edits_apply i u (put_row (shape i).order (shape i).key x) (Put (as_row i x) ∷ []) old new it (λ rows seen. refl)
+        (λ rows. away i (put_row (shape i).order (shape i).key x (rows_at i rows)) rows) database
 
 -- the statement that puts a row as a new one puts it, if it succeeds
 abbrev pub PutsNew : TableKind → Type 1
-PutsNew i = (S V : Type 0) (g : Ghosts S) (before after : Held S) (u : Name) (x : RowOf i) (cells : List ValueRef) (said : Result V Error) → bound cells ≡ Text u ∷ (shape i).cells x → AreBooks (state g before).now
-    → OnOk said ((count : ℕ) × Executes (put_text i) (bound cells) (state g before) (state g after) (Ok count)) → OnOk said (Applies u (Put (as_row i x) ∷ []) (state g before).now (state g after).now)
+PutsNew i = (S V : Type 0) (g : Ghosts S) (before after : Held S) (u : Name) (x : RowOf i) (cells : List ValueRef) (said : Result V Error)
+    → bound cells ≡ Text u ∷ (shape i).cells x → AreBooks (state g before).now
+    → OnOk said ((count : ℕ) × Executes (put_text i) (bound cells) (state g before) (state g after) (Ok count))
+    → OnOk said (Applies u (Put (as_row i x) ∷ []) (state g before).now (state g after).now)
 
 pub put_applies : (i : TableKind) → PutsNew i
 put_applies i S V g before after u x cells said is books h =
     let old = state g before in
     let new = state g after in
-    on_ok said (λ it. edited i u x old.now new.now books (put_in_table i u x old new books it.0 it.1) (λ _. put_database i u x old new books it.0 it.1)) (rw is at h)
+    on_ok said
+        (λ it. edited i u x old.now new.now books (put_in_table i u x old new books it.0 it.1) (λ _. put_database i u x old new books it.0 it.1))
+        (rw is at h)
 
 -- ---- the removes: a row of the key stands for the one that goes
 
@@ -134,29 +152,40 @@ grant_with p r = record { person = p; role_no = r; end_s = Rattle.std.proofs.Com
 abbrev shelf_with : Name → ShelfRow
 shelf_with a = record { tag = a; one_shot = false; start_s = 0; until_s = 0; person = []; words = [] }
 
-pub remove_grant_applies : (u p : Name) (r : Role) (old new : State) → AreBooks old.now → (count : ℕ) → Executes remove_grant_text (Text u ∷ Text p ∷ role r ∷ []) old new (Ok count)
+pub remove_grant_applies : (u p : Name) (r : Role) (old new : State) → AreBooks old.now → (count : ℕ)
+    → Executes remove_grant_text (Text u ∷ Text p ∷ role r ∷ []) old new (Ok count)
     → Applies u (Remove (GrantKey p r) ∷ []) old.now new.now
 unfolding first_key
 remove_grant_applies u p r old new books count h =
     edits_apply Grants u _ (Remove (GrantKey p r) ∷ []) old.now new.now
-    (edits RowOf KeyOf shape books_schema all_listed Grants u _ old.now new.now books (remove_changes (shape Grants) (good Grants) books_schema u (grant_with p r) old.now new.now
-    (removes_row (shape Grants) (good Grants) books_schema free (listed Grants) remove_grant_text by_three remove_grant.is remove_grant.plain (Text u ∷ Text p ∷ role r ∷ []) u (grant_with p r) (λ row. refl) old new books.same_schema (books.tidy Grants).are count h) (books.tidy Grants)))
+    (edits RowOf KeyOf shape books_schema all_listed Grants u _ old.now new.now books
+    (remove_changes (shape Grants) (good Grants) books_schema u (grant_with p r) old.now new.now
+    (removes_row (shape Grants) (good Grants) books_schema free (listed Grants) remove_grant_text by_three remove_grant.is remove_grant.plain (Text u
+    ∷ Text p ∷ role r ∷ []) u (grant_with p r) (λ row. refl) old new books.same_schema (books.tidy Grants).are count h) (books.tidy Grants)))
     (λ rows seen. refl) (λ rows. away Grants _ rows)
-    (λ _. (runs_as remove_grant_text (Text u ∷ Text p ∷ role r ∷ []) old new books_schema books.same_schema _ remove_grant.is remove_grant.plain count h).sound)
+    (λ _. (runs_as remove_grant_text (Text u ∷ Text p ∷ role r
+    ∷ []) old new books_schema books.same_schema _ remove_grant.is remove_grant.plain count h).sound)
 
-pub remove_shelf_applies : (u a : Name) (old new : State) → AreBooks old.now → (count : ℕ) → Executes remove_shelf_text (Text u ∷ Text a ∷ []) old new (Ok count)
+pub remove_shelf_applies : (u a : Name) (old new : State) → AreBooks old.now → (count : ℕ)
+    → Executes remove_shelf_text (Text u ∷ Text a ∷ []) old new (Ok count)
     → Applies u (Remove (ShelfKey a) ∷ []) old.now new.now
 unfolding first_key
 remove_shelf_applies u a old new books count h =
     edits_apply Shelves u _ (Remove (ShelfKey a) ∷ []) old.now new.now
-    (edits RowOf KeyOf shape books_schema all_listed Shelves u _ old.now new.now books (remove_changes (shape Shelves) (good Shelves) books_schema u (shelf_with a) old.now new.now
-    (removes_row (shape Shelves) (good Shelves) books_schema free (listed Shelves) remove_shelf_text by_two remove_shelf.is remove_shelf.plain (Text u ∷ Text a ∷ []) u (shelf_with a) (λ row. refl) old new books.same_schema (books.tidy Shelves).are count h) (books.tidy Shelves)))
+    (edits RowOf KeyOf shape books_schema all_listed Shelves u _ old.now new.now books
+    (remove_changes (shape Shelves) (good Shelves) books_schema u (shelf_with a) old.now new.now
+    (removes_row (shape Shelves) (good Shelves) books_schema free (listed Shelves) remove_shelf_text by_two remove_shelf.is remove_shelf.plain (Text u
+    ∷ Text a ∷ []) u (shelf_with a) (λ row. refl) old new books.same_schema (books.tidy Shelves).are count h) (books.tidy Shelves)))
     (λ rows seen. refl) (λ rows. away Shelves _ rows)
-    (λ _. (runs_as remove_shelf_text (Text u ∷ Text a ∷ []) old new books_schema books.same_schema _ remove_shelf.is remove_shelf.plain count h).sound)
+    (λ _. (runs_as remove_shelf_text (Text u ∷ Text a
+    ∷ []) old new books_schema books.same_schema _ remove_shelf.is remove_shelf.plain count h).sound)
 
-pub shelf_removed : {S V : Type 0} (g : Ghosts S) (before after : Held S) (u a : Name) (cells : List ValueRef) (said : Result V Error) → bound cells ≡ Text u ∷ Text a ∷ [] → AreBooks (state g before).now
-    → OnOk said ((count : ℕ) × Executes remove_shelf_text (bound cells) (state g before) (state g after) (Ok count)) → OnOk said (Applies u (Remove (ShelfKey a) ∷ []) (state g before).now (state g after).now)
-shelf_removed g before after u a cells said is books h = on_ok said (λ it. remove_shelf_applies u a (state g before) (state g after) books it.0 it.1) (rw is at h)
+pub shelf_removed : {S V : Type 0} (g : Ghosts S) (before after : Held S) (u a : Name) (cells : List ValueRef) (said : Result V Error)
+    → bound cells ≡ Text u ∷ Text a ∷ [] → AreBooks (state g before).now
+    → OnOk said ((count : ℕ) × Executes remove_shelf_text (bound cells) (state g before) (state g after) (Ok count))
+    → OnOk said (Applies u (Remove (ShelfKey a) ∷ []) (state g before).now (state g after).now)
+shelf_removed g before after u a cells said is books h =
+    on_ok said (λ it. remove_shelf_applies u a (state g before) (state g after) books it.0 it.1) (rw is at h)
 
 -- ---- several changes
 
@@ -180,12 +209,14 @@ applies_then u xs ys a b c p q = record {
 with_one_more : (kept more : List Event) (e : Event) → with_events kept (more ++ e ∷ []) ≡ put_row nat_cmp event_number e (with_events kept more)
 with_one_more kept more e = fold-append (λ es x. put_row nat_cmp event_number x es) kept more (e ∷ [])
 
-pub applies_event : (u : Name) (xs : List Event) (e : Event) (a b c : Database) → Applies u (PutEvents xs ∷ []) a b → Applies u (Put (EventPut e) ∷ []) b c → Applies u (PutEvents (xs ++ e ∷ []) ∷ []) a c
+pub applies_event : (u : Name) (xs : List Event) (e : Event) (a b c : Database) → Applies u (PutEvents xs ∷ []) a b
+    → Applies u (Put (EventPut e) ∷ []) b c → Applies u (PutEvents (xs ++ e ∷ []) ∷ []) a c
 applies_event u xs e a b c p q = record {
   books = q.books;
   mine = λ rows seen.
       let before : UnitRows = record rows { events = with_events rows.events xs } in
-      subst (λ (es : List Event). AreSeen u c (record rows { events = es })) (sym (with_one_more rows.events xs e)) (q.mine before (p.mine rows seen));
+      subst (λ (es : List Event). AreSeen u c (record rows { events = es })) (sym (with_one_more rows.events xs e))
+          (q.mine before (p.mine rows seen));
   others = λ other apart i. q.others other apart i ∙ p.others other apart i;
   office = q.office ∙ p.office;
   database = λ h. q.database (p.database h);

@@ -35,7 +35,9 @@ both_tie a b h = and_parts _ _ (sym (then_tied a b) ∙ h)
 
 written_over : (i : TableKind) (text : List ℕ) (tests terms : List Term) → Updates (shape i) text tests terms
     → (u : Name) (x : RowOf i)
-    → ((id : Value) (y : Row) → passes (shape i).tree tests terms [] (Text u ∷ (shape i).cells x) y ≡ agree plain (1 ∷ (shape i).keys) y (1 ∷ (shape i).keys) (row_in (shape i) id u x))
+    → ((id : Value) (y : Row)
+    → passes (shape i).tree tests terms [] (Text u ∷ (shape i).cells x) y ≡ agree plain (1 ∷ (shape i).keys) y (1 ∷ (shape i).keys)
+    (row_in (shape i) id u x))
     → ((id : Value) (v : Name) (y : RowOf i) → is_eq (by_columns (1 ∷ (shape i).keys) (row_in (shape i) id u x) (row_in (shape i) id v y)) ≡ true
     → (shows (shape i).tree tests terms [] (Text u ∷ (shape i).cells x) (row_in (shape i) id v y)).1 ≡ id ∷ row_in (shape i) id u x)
     → (old new : State) → AreBooks old.now → (count : ℕ) → nat_eq count 0 ≡ false → Executes text (Text u ∷ (shape i).cells x) old new (Ok count)
@@ -43,13 +45,16 @@ written_over : (i : TableKind) (text : List ℕ) (tests terms : List Term) → U
 written_over i text tests terms over u x same shown old new books count some h =
     edits RowOf KeyOf shape books_schema all_listed i u _ old.now new.now books (set_changes (shape i) (good i) books_schema u x old.now new.now
     (sets_some (shape i) (good i) books_schema free (listed i) text tests terms over.is over.plain (Text u ∷ (shape i).cells x) u x
-    (λ id y. same id y ∙ agree_is (1 ∷ (shape i).keys) y (row_in (shape i) id u x) ((good i).keyed id u x)) shown old new books.same_schema (books.tidy i) count some h) (books.tidy i))
+    (λ id y. same id y
+    ∙ agree_is (1 ∷ (shape i).keys) y (row_in (shape i) id u x)
+    ((good i).keyed id u x)) shown old new books.same_schema (books.tidy i) count some h) (books.tidy i))
 
 none_written : (i : TableKind) (text : List ℕ) (tests terms : List Term) → Updates (shape i) text tests terms
     → (u : Name) (params : Row) (old new : State) → AreBooks old.now → Executes text params old new (Ok 0) → Applies u [] old.now new.now
 none_written i text tests terms over u params old new books h =
     edits_apply i u (λ rows. rows) [] old.now new.now
-    (edits RowOf KeyOf shape books_schema all_listed i u _ old.now new.now books (leaves (shape i) books_schema free (listed i) text tests terms over.is over.plain params old new books.same_schema h (books.tidy i) u))
+    (edits RowOf KeyOf shape books_schema all_listed i u _ old.now new.now books
+    (leaves (shape i) books_schema free (listed i) text tests terms over.is over.plain params old new books.same_schema h (books.tidy i) u))
     (λ rows seen. refl) (λ rows j other. refl)
     (λ _. (runs_as text params old new books_schema books.same_schema _ over.is over.plain 0 h).sound)
 
@@ -58,33 +63,45 @@ not_zero n = grind (arith, nat_tests)
 
 -- if the statement that writes over the row of a key succeeds, that row is replaced, if any
 abbrev pub PutsOver : TableKind → List ℕ → Type 1
-PutsOver i text = (S : Type 0) (g : Ghosts S) (before after : Held S) (u : Name) (x : RowOf i) (cells : List ValueRef) (said : Result ℕ Error) → bound cells ≡ Text u ∷ (shape i).cells x → AreBooks (state g before).now
-    → IfOk said (λ count. Executes text (bound cells) (state g before) (state g after) (Ok count)) → IfOk said (λ count. Applies u (changes_written count (Put (as_row i x))) (state g before).now (state g after).now)
+PutsOver i text = (S : Type 0) (g : Ghosts S) (before after : Held S) (u : Name) (x : RowOf i) (cells : List ValueRef) (said : Result ℕ Error)
+    → bound cells ≡ Text u ∷ (shape i).cells x → AreBooks (state g before).now
+    → IfOk said (λ count. Executes text (bound cells) (state g before) (state g after) (Ok count))
+    → IfOk said (λ count. Applies u (changes_written count (Put (as_row i x))) (state g before).now (state g after).now)
 
 puts_over : (i : TableKind) (text : List ℕ) (tests terms : List Term) → Updates (shape i) text tests terms
-    → ((u : Name) (x : RowOf i) (id : Value) (y : Row) → passes (shape i).tree tests terms [] (Text u ∷ (shape i).cells x) y ≡ agree plain (1 ∷ (shape i).keys) y (1 ∷ (shape i).keys) (row_in (shape i) id u x))
-    → ((u : Name) (x : RowOf i) (id : Value) (v : Name) (y : RowOf i) → is_eq (by_columns (1 ∷ (shape i).keys) (row_in (shape i) id u x) (row_in (shape i) id v y)) ≡ true
+    → ((u : Name) (x : RowOf i) (id : Value) (y : Row)
+    → passes (shape i).tree tests terms [] (Text u ∷ (shape i).cells x) y ≡ agree plain (1 ∷ (shape i).keys) y (1 ∷ (shape i).keys)
+    (row_in (shape i) id u x))
+    → ((u : Name) (x : RowOf i) (id : Value) (v : Name) (y : RowOf i)
+    → is_eq (by_columns (1 ∷ (shape i).keys) (row_in (shape i) id u x) (row_in (shape i) id v y)) ≡ true
     → (shows (shape i).tree tests terms [] (Text u ∷ (shape i).cells x) (row_in (shape i) id v y)).1 ≡ id ∷ row_in (shape i) id u x) → PutsOver i text
 puts_over i text tests terms over same shown S g before after u x cells said is books h = if_ok said each (rw is at h)
   where
-    each : (count : ℕ) → Executes text (Text u ∷ (shape i).cells x) (state g before) (state g after) (Ok count) → Applies u (changes_written count (Put (as_row i x))) (state g before).now (state g after).now
+    each : (count : ℕ) → Executes text (Text u ∷ (shape i).cells x) (state g before) (state g after) (Ok count)
+        → Applies u (changes_written count (Put (as_row i x))) (state g before).now (state g after).now
     each zero done = none_written i text tests terms over u (Text u ∷ (shape i).cells x) (state g before) (state g after) books done
-    each (suc n) done = edited i u x (state g before).now (state g after).now books (written_over i text tests terms over u x (same u x) (shown u x) (state g before) (state g after) books (suc n) (not_zero n) done)
-        (λ _. (runs_as text (Text u ∷ (shape i).cells x) (state g before) (state g after) books_schema books.same_schema _ over.is over.plain (suc n) done).sound)
+    each (suc n) done =
+        edited i u x (state g before).now (state g after).now books
+        (written_over i text tests terms over u x (same u x) (shown u x) (state g before) (state g after) books (suc n) (not_zero n) done)
+        (λ _. (runs_as text (Text u
+        ∷ (shape i).cells x) (state g before) (state g after) books_schema books.same_schema _ over.is over.plain (suc n) done).sound)
 
 is_zero : (n : ℕ) → nat_eq n 0 ≡ true → n ≡ 0
 is_zero n e = grind (arith, nat_tests)
 
-pub one_put : (u : Name) (change : RowEdit) (old new : Database) (count : ℕ) → nat_eq count 0 ≡ false → Applies u (changes_written count change) old new → Applies u (change ∷ []) old new
+pub one_put : (u : Name) (change : RowEdit) (old new : Database) (count : ℕ) → nat_eq count 0 ≡ false
+    → Applies u (changes_written count change) old new → Applies u (change ∷ []) old new
 one_put u change old new zero some it = absurd (true≢false some)
 one_put u change old new (suc n) some it = it
 
-pub none_put : (u : Name) (change : RowEdit) (old new : Database) (count : ℕ) → nat_eq count 0 ≡ true → Applies u (changes_written count change) old new → Applies u [] old new
+pub none_put : (u : Name) (change : RowEdit) (old new : Database) (count : ℕ) → nat_eq count 0 ≡ true
+    → Applies u (changes_written count change) old new → Applies u [] old new
 none_put u change old new count none it = subst (λ (n : ℕ). Applies u (changes_written n change) old new) (is_zero count none) it
 
 -- ---- a unit's own row
 
-unit_shown : (u : Name) (x : UnitRow) (id : Value) (v : Name) (y : UnitRow) → is_eq (by_columns (1 ∷ []) (row_in unit_shape id u x) (row_in unit_shape id v y)) ≡ true
+unit_shown : (u : Name) (x : UnitRow) (id : Value) (v : Name) (y : UnitRow)
+    → is_eq (by_columns (1 ∷ []) (row_in unit_shape id u x) (row_in unit_shape id v y)) ≡ true
     → (shows 1 by_unit over_unit_shows [] (Text u ∷ unit_shape.cells x) (row_in unit_shape id v y)).1 ≡ id ∷ row_in unit_shape id u x
 unit_shown u x id v y tie =
     let unit : v ≡ u = sym (same_text u v (both_tie (value_cmp (Text u) (Text v)) Equal tie).0) in
@@ -97,7 +114,8 @@ unit_over = puts_over Units over_unit_text by_unit _ over_unit (λ u x id y. ref
 -- ---- where the key is the unit and a name or a number
 
 two_shown : {X : Type 0} (cell : X → Value) → ((x y : X) → is_eq (value_cmp (cell x) (cell y)) ≡ true → cell x ≡ cell y) → (rest : X → Row)
-    → (u : Name) (x : X) (id : Value) (v : Name) (y : X) → is_eq (ordering_then (value_cmp (Text u) (Text v)) (ordering_then (value_cmp (cell x) (cell y)) Equal)) ≡ true
+    → (u : Name) (x : X) (id : Value) (v : Name) (y : X)
+    → is_eq (ordering_then (value_cmp (Text u) (Text v)) (ordering_then (value_cmp (cell x) (cell y)) Equal)) ≡ true
     → id ∷ id ∷ Text v ∷ cell y ∷ rest x ≡ id ∷ id ∷ Text u ∷ cell x ∷ rest x
 two_shown cell same rest u x id v y tie =
     let both = both_tie (value_cmp (Text u) (Text v)) (ordering_then (value_cmp (cell x) (cell y)) Equal) tie in
@@ -106,7 +124,8 @@ two_shown cell same rest u x id v y tie =
     λ i. id ∷ id ∷ Text (unit i) ∷ key i ∷ rest x
 
 tag_shown : {X : Type 0} (tag : X → Name) (rest : X → Row)
-    → (u : Name) (x : X) (id : Value) (v : Name) (y : X) → is_eq (ordering_then (value_cmp (Text u) (Text v)) (ordering_then (value_cmp (Text (tag x)) (Text (tag y))) Equal)) ≡ true
+    → (u : Name) (x : X) (id : Value) (v : Name) (y : X)
+    → is_eq (ordering_then (value_cmp (Text u) (Text v)) (ordering_then (value_cmp (Text (tag x)) (Text (tag y))) Equal)) ≡ true
     → id ∷ id ∷ Text v ∷ Text (tag y) ∷ rest x ≡ id ∷ id ∷ Text u ∷ Text (tag x) ∷ rest x
 tag_shown tag rest = two_shown (λ x. Text (tag x)) (λ x y tie. ap Text (same_text (tag x) (tag y) tie)) rest
 
@@ -126,4 +145,6 @@ record_over = puts_over Records over_record_text by_two _ over_record (λ u x id
 
 pub change_over : PutsOver Changes over_change_text
 unfolding first_key
-change_over = puts_over Changes over_change_text by_two _ over_change (λ u x id y. refl) (two_shown (λ x. number x.number) (λ x y tie. ap number (same_number x.number y.number tie)) (λ x. drop 1 (change_shape.cells x)))
+change_over =
+    puts_over Changes over_change_text by_two _ over_change (λ u x id y. refl)
+    (two_shown (λ x. number x.number) (λ x y tie. ap number (same_number x.number y.number tie)) (λ x. drop 1 (change_shape.cells x)))

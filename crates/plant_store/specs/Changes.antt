@@ -9,7 +9,8 @@ use Rattle.plant_types.specs.Names.{Name}
 pub record Applies (unit : Name) (changes : List RowEdit) (old new : Database) : Type 0 where
   pub books : AreBooks new
   pub mine : (rows : UnitRows) → AreSeen unit old rows → AreSeen unit new (changed_by changes rows)
-  pub others : (other : Name) → other ≢ unit → (i : TableKind) → rows_seen other new.trees i ≡ rows_seen other old.trees i
+  pub others : (other : Name) → other ≢ unit → (i : TableKind)
+      → rows_seen other new.trees i ≡ rows_seen other old.trees i
   pub office : new.trees 0 ≡ old.trees 0
   -- what the engine can open stays that
   pub database : IsDatabase old → IsDatabase new

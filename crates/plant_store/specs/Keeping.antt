@@ -37,4 +37,5 @@ LeavesBooks s = (db : Trees) → s.may_leave db → (m : Content) × (d : Databa
 
 -- where the store was open, and on a clean disk, a crash leaves books that are alike to this content, and nothing else
 abbrev pub LeavesAlike : State → State → Content → Type 0
-LeavesAlike before after m = HasCleanDisk after → (HasCleanDisk before → IsTrue before.is_open) → LeavesBooks after × ((x : Content) → LeavesContent after x → Alike x m)
+LeavesAlike before after m = HasCleanDisk after → (HasCleanDisk before → IsTrue before.is_open)
+    → LeavesBooks after × ((x : Content) → LeavesContent after x → Alike x m)

@@ -14,11 +14,14 @@ holding_cells h = Text h.unit ∷ open_number h.end_s ∷ []
 
 -- the codes are those of the units of the grants that have not ended, each once, rising
 abbrev pub AreCodes : ℕ → List Holding → List Name → Type 0
-AreCodes t holdings codes = IsFromIterResult name_cmp (map (λ h. h.unit) (filter (λ h. is_before t h.end_s) holdings)) (record { keys = codes })
+AreCodes t holdings codes =
+    IsFromIterResult name_cmp (map (λ h. h.unit) (filter (λ h. is_before t h.end_s) holdings)) (record { keys = codes })
 
 -- each of these rows of a unit, beside each grant of the person there: unit by unit, and grant by grant
 abbrev pub lines_of : {X L : Type 0} → (Name → GrantRow → X → L) → (UnitRows → List X) → Content → Name → List L
-lines_of line these m p = flat_map (λ u. flat_map (λ g. map (line u g) (these (rows_in m u))) (filter (λ g. same_name p g.person) (rows_in m u).grants)) (keys m.units)
+lines_of line these m p =
+    flat_map (λ u. flat_map (λ g. map (line u g) (these (rows_in m u)))
+    (filter (λ g. same_name p g.person) (rows_in m u).grants)) (keys m.units)
 
 -- ---- beside the last moment of their unit
 
@@ -43,7 +46,8 @@ started l = record { unit = l.unit; roles = l.role_no ∷ []; last = l.last_s }
 -- a unit before others: one with the first of them, if that is the same
 abbrev pub put_run : MineUnit → List MineUnit → List MineUnit
 put_run u [] = u ∷ []
-put_run u (v ∷ vs) = if same_name u.unit v.unit then (record { unit = u.unit; roles = u.roles ++ v.roles; last = u.last }) ∷ vs else u ∷ v ∷ vs
+put_run u (v ∷ vs) = if same_name u.unit v.unit then
+    (record { unit = u.unit; roles = u.roles ++ v.roles; last = u.last }) ∷ vs else u ∷ v ∷ vs
 
 -- each run of lines of one unit as one, with its roles
 abbrev pub runs_of : List UnitLine → List MineUnit
@@ -57,7 +61,8 @@ runs_after (Some u) ls = put_run u (runs_of ls)
 
 -- a line is taken to the unit that is open, or to a new one: whatever lines are left, the units come out the same
 abbrev pub JoinsLine : List MineUnit → Option MineUnit → UnitLine → List MineUnit → MineUnit → Type 0
-JoinsLine units current line after next = (rest : List UnitLine) → after ++ runs_after (Some next) rest ≡ units ++ runs_after current (line ∷ rest)
+JoinsLine units current line after next = (rest : List UnitLine)
+    → after ++ runs_after (Some next) rest ≡ units ++ runs_after current (line ∷ rest)
 
 -- ---- beside the shelves of their unit
 
@@ -73,7 +78,9 @@ shelf_lines m p = lines_of shelf_line (λ rows. rows.shelves) m p
 
 -- lines come by unit, role and tag
 abbrev pub line_cmp : ShelfLine → ShelfLine → Ordering
-line_cmp a b = ordering_then (ordering_then (name_cmp a.unit b.unit) (nat_cmp (role_no a.role_no) (role_no b.role_no))) (name_cmp a.shelf.tag b.shelf.tag)
+line_cmp a b =
+    ordering_then (ordering_then (name_cmp a.unit b.unit) (nat_cmp (role_no a.role_no) (role_no b.role_no)))
+    (name_cmp a.shelf.tag b.shelf.tag)
 
 -- those of grants that have not ended
 abbrev pub standing_shelves : ℕ → List ShelfLine → List ShelfLine

@@ -78,7 +78,8 @@ old_kind_refusals f base (Rationale a s) =
     old_base_changed base (f.revision a) ∷ (not (is_some (row_of f.matrix s.severity)), refused.OutsideMatrix)
     ∷ (was_not_needed (priority_of f.matrix s.severity s.response), refused.NotAnAlarm) ∷ []
 old_kind_refusals f base (Matrix m) =
-    old_base_changed base (matrix_revision_of f) ∷ (list_any (λ r. not (is_some (row_of m r.severity))) f.rationales, refused.OutsideMatrix) ∷ []
+    old_base_changed base (matrix_revision_of f)
+        ∷ (list_any (λ r. not (is_some (row_of m r.severity))) f.rationales, refused.OutsideMatrix) ∷ []
 old_kind_refusals f base (Limit a max) = old_base_changed base (limit_revision_of f a) ∷ []
 
 -- a decision is about a change that is there and not decided yet
@@ -94,25 +95,38 @@ old_of_change (Some c) refusals = (not (was_open c.state), refused.NotProposed c
 
 -- a range of whole periods of ten minutes, from 1 to 1,008 of them
 abbrev pub was_aligned : ℕ → ℕ → Bool
-was_aligned begin until = (begin % 600 == 0) && (until % 600 == 0) && nat_lt begin until && nat_le (until - begin) 604800
+was_aligned begin until =
+    (begin % 600 == 0) && (until % 600 == 0) && nat_lt begin until && nat_le (until - begin) 604800
 
 -- ---- the refusals of each request; shelving is not refused for a quota, nor a grant for its end
 abbrev pub old_own_refusals : Facts → Name → ℕ → Request → List (Bool × Refused)
 old_own_refusals f p t (request.OpenUnit u s m q) = []
-old_own_refusals f p t (request.Grant u q r) = (nat_le old_max_grants f.pairs, refused.UnitFull full.Grants) ∷ (f.stands (q, r.0), refused.AlreadyHeld) ∷ []
-old_own_refusals f p t (request.Withdraw u q r) = (not (f.stands (q, r)), refused.NotHeld) ∷ (same_role r Steward && nat_le f.stewards 1, refused.LastSteward) ∷ []
-old_own_refusals f p t (request.Register u a l m) = (nat_le old_max_alarms f.alarm_count, refused.UnitFull full.Alarms) ∷ (is_some (f.alarm a), refused.AlarmTaken) ∷ []
+old_own_refusals f p t (request.Grant u q r) =
+    (nat_le old_max_grants f.pairs, refused.UnitFull full.Grants) ∷ (f.stands (q, r.0), refused.AlreadyHeld) ∷ []
+old_own_refusals f p t (request.Withdraw u q r) =
+    (not (f.stands (q, r)), refused.NotHeld) ∷ (same_role r Steward && nat_le f.stewards 1, refused.LastSteward) ∷ []
+old_own_refusals f p t (request.Register u a l m) =
+    (nat_le old_max_alarms f.alarm_count, refused.UnitFull full.Alarms) ∷ (is_some (f.alarm a), refused.AlarmTaken) ∷ []
 old_own_refusals f p t (request.Import u file) = old_file_refusals f t file
 old_own_refusals f p t (request.TimedShelve u a d w) =
-    old_unknown f a ∷ (nat_lt (limit_of f a) d, refused.ShelvingTimeOutOfRange (limit_of f a)) ∷ (is_timed (shelf_now f a t), refused.ConditionAlreadyShelved) ∷ []
-old_own_refusals f p t (request.OneShotShelve u a w) = old_unknown f a ∷ (is_one_shot (shelf_now f a t), refused.ConditionAlreadyShelved) ∷ []
-old_own_refusals f p t (request.Unshelve u a) = old_unknown f a ∷ (is_unshelved (shelf_now f a t), refused.ConditionNotShelved) ∷ []
-old_own_refusals f p t (request.RemoveFromService u a w) = old_unknown f a ∷ (is_out f a, refused.AlreadyOutOfService) ∷ []
+    old_unknown f a ∷ (nat_lt (limit_of f a) d, refused.ShelvingTimeOutOfRange (limit_of f a))
+        ∷ (is_timed (shelf_now f a t), refused.ConditionAlreadyShelved) ∷ []
+old_own_refusals f p t (request.OneShotShelve u a w) =
+    old_unknown f a ∷ (is_one_shot (shelf_now f a t), refused.ConditionAlreadyShelved) ∷ []
+old_own_refusals f p t (request.Unshelve u a) =
+    old_unknown f a ∷ (is_unshelved (shelf_now f a t), refused.ConditionNotShelved) ∷ []
+old_own_refusals f p t (request.RemoveFromService u a w) =
+    old_unknown f a ∷ (is_out f a, refused.AlreadyOutOfService) ∷ []
 old_own_refusals f p t (request.PlaceInService u a) = old_unknown f a ∷ (not (is_out f a), refused.NotOutOfService) ∷ []
-old_own_refusals f p t (request.Propose u x) = (nat_le old_max_changes f.change_count, refused.UnitFull full.Changes) ∷ old_kind_unknown f x.kind ++ old_kind_refusals f x.base x.kind
-old_own_refusals f p t (request.WithdrawChange u n) = old_of_change (f.change n) (λ c. (not (same_name p c.proposer), refused.NotProposer) ∷ [])
-old_own_refusals f p t (request.Approve u n) = old_of_change (f.change n) (λ c. (same_name p c.proposer, refused.SamePerson) ∷ old_kind_refusals f c.base c.kind)
-old_own_refusals f p t (request.Reject u n) = old_of_change (f.change n) (λ c. (same_name p c.proposer, refused.SamePerson) ∷ [])
+old_own_refusals f p t (request.Propose u x) =
+    (nat_le old_max_changes f.change_count, refused.UnitFull full.Changes) ∷ old_kind_unknown f x.kind
+    ++ old_kind_refusals f x.base x.kind
+old_own_refusals f p t (request.WithdrawChange u n) =
+    old_of_change (f.change n) (λ c. (not (same_name p c.proposer), refused.NotProposer) ∷ [])
+old_own_refusals f p t (request.Approve u n) =
+    old_of_change (f.change n) (λ c. (same_name p c.proposer, refused.SamePerson) ∷ old_kind_refusals f c.base c.kind)
+old_own_refusals f p t (request.Reject u n) =
+    old_of_change (f.change n) (λ c. (same_name p c.proposer, refused.SamePerson) ∷ [])
 old_own_refusals f p t (request.Status u a) = old_unknown f a ∷ []
 old_own_refusals f p t (request.RecordOf u a) = old_unknown f a ∷ (is_none (f.rationale a), refused.RecordUnknown) ∷ []
 old_own_refusals f p t (request.ChangeOf u n) = (is_none (f.change n), refused.ChangeUnknown) ∷ []
@@ -158,7 +172,8 @@ old_lacks_role f p (Some r) = (not (f.stands (p, r)), refused.RoleLacking r) ∷
 abbrev pub old_refusals : Facts → Call → List (Bool × Refused)
 old_refusals f c =
     (not (list_any (λ r. f.stands (c.person, r)) all_roles), refused.NotGranted)
-    ∷ old_lacks_role f c.person (old_role_needed c.request) ++ (nat_lt c.moment (last_of f), refused.MomentBehind (last_of f)) ∷ old_own_refusals f c.person c.moment c.request
+    ∷ old_lacks_role f c.person (old_role_needed c.request)
+    ++ (nat_lt c.moment (last_of f), refused.MomentBehind (last_of f)) ∷ old_own_refusals f c.person c.moment c.request
 
 -- what a unit of this history answered to the call
 abbrev pub old_verdict : List Call → Call → Result Reply Refused
@@ -177,7 +192,8 @@ is_of_old r = was_said (says r).opening (says r).pair
 abbrev pub WasLegal : List Call → Type 0
 WasLegal [] = ⊥
 WasLegal (c ∷ []) = IsTrue (is_opening c.request) × IsTrue (has_matrix c.request) × IsTrue (is_of_old c.request)
-WasLegal (c ∷ d ∷ before) = IsTrue (not (is_opening c.request) && changes_history (old_verdict (d ∷ before) c) c) × IsTrue (has_matrix c.request) × IsTrue (is_of_old c.request) × WasLegal (d ∷ before)
+WasLegal (c ∷ d ∷ before) = IsTrue (not (is_opening c.request) && changes_history (old_verdict (d ∷ before) c) c)
+    × IsTrue (has_matrix c.request) × IsTrue (is_of_old c.request) × WasLegal (d ∷ before)
 
 -- each of them is a history of today
 abbrev pub OldHistoriesAreLegal : Type 0
@@ -185,7 +201,8 @@ OldHistoriesAreLegal = (h : List Call) → WasLegal h → IsLegal h
 
 -- and a call of then is answered after it as it was
 abbrev pub OldVerdictsStay : Type 0
-OldVerdictsStay = (h : List Call) → WasLegal h → (c : Call) → IsTrue (is_of_old c.request) → verdict h c ≡ old_verdict h c
+OldVerdictsStay = (h : List Call) → WasLegal h → (c : Call) → IsTrue (is_of_old c.request)
+    → verdict h c ≡ old_verdict h c
 
 -- rows with that quota, and whose grants have no end
 pub record AreOldRows (rows : UnitRows) : Type 0 where

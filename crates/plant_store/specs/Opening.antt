@@ -26,7 +26,9 @@ place_named t name = place_of t (unwrap_or (column_named t name) 0)
 
 -- the row of an office, as it is shown
 abbrev pub office_shown : Table → Row → Row
-office_shown t r = column r (place_named t (codes "id")) ∷ column r (place_named t (codes "schema_no")) ∷ column r (place_named t (codes "admin")) ∷ []
+office_shown t r =
+    column r (place_named t (codes "id")) ∷ column r (place_named t (codes "schema_no"))
+    ∷ column r (place_named t (codes "admin")) ∷ []
 
 abbrev pub office_cells : ℕ → Name → Row
 office_cells schema admin = number 1 ∷ number schema ∷ Text admin ∷ []

@@ -38,7 +38,8 @@ events_seen wanted unit trees = events_with wanted (rows_seen unit trees Events)
 -- ---- of a connection before and after, on a clean disk
 
 -- if the list is a person's grants in the unit, the result is these, or all grants of the unit where all are wanted
-abbrev pub LoadsGrants : {S E : Type 0} → Ghosts S → Held S → Held S → Name → List GrantRow → Bool → Result (List GrantRow) E → Type 0
+abbrev pub LoadsGrants : {S E : Type 0} → Ghosts S → Held S → Held S → Name → List GrantRow → Bool
+    → Result (List GrantRow) E → Type 0
 LoadsGrants g before after unit own all said =
     HasCleanDisk (state g after) → AreBooks (state g before).now
     → IfOk said (λ rows. (p : Name) → own ≡ grants_of p unit (state g before).now.trees
@@ -53,14 +54,17 @@ LoadsCount g before after unit request events said =
     → (looks_at_events request ≡ true → rows.events ≡ events) → n ≡ counted_for rows request)
 
 -- for a request that shelves, the result is whether the unit with this row of its own is crowded
-abbrev pub LoadsCrowding : {S E : Type 0} → Ghosts S → Held S → Held S → Name → List UnitRow → Request → Result Bool E → Type 0
+abbrev pub LoadsCrowding : {S E : Type 0} → Ghosts S → Held S → Held S → Name → List UnitRow → Request → Result Bool E
+    → Type 0
 LoadsCrowding g before after unit units request said =
     HasCleanDisk (state g after) → AreBooks (state g before).now
-    → IfOk said (λ crowded. (rows : UnitRows) → rows.units ≡ units → rows.shelves ≡ rows_seen unit (state g before).now.trees Shelves
+    → IfOk said (λ crowded. (rows : UnitRows) → rows.units ≡ units
+    → rows.shelves ≡ rows_seen unit (state g before).now.trees Shelves
     → is_shelving request ≡ true → is_crowded rows ≡ crowded)
 
 -- for a request that approves a change, the result is that change, if the unit has it
-abbrev pub LoadsApproved : {S E : Type 0} → Ghosts S → Held S → Held S → Name → Request → Result (List ChangeEntry) E → Type 0
+abbrev pub LoadsApproved : {S E : Type 0} → Ghosts S → Held S → Held S → Name → Request → Result (List ChangeEntry) E
+    → Type 0
 LoadsApproved g before after unit request said =
     HasCleanDisk (state g after) → AreBooks (state g before).now
     → IfOk said (λ rows. (n : ℕ) → number_approved request ≡ Some n
@@ -69,7 +73,8 @@ LoadsApproved g before after unit request said =
 -- ---- of a connection before and after, on an honest disk
 
 -- where the numbers of the unit's rows do not fall, the result is the rows of these numbers
-abbrev pub LoadsNumbers : {S X E : Type 0} → Ghosts S → Held S → Held S → (Name → Trees → List X) → Name → (X → ℕ) → BTreeSet ℕ → Result (List X) E → Type 0
+abbrev pub LoadsNumbers : {S X E : Type 0} → Ghosts S → Held S → Held S → (Name → Trees → List X) → Name → (X → ℕ)
+    → BTreeSet ℕ → Result (List X) E → Type 0
 LoadsNumbers g before after seen unit number_of numbers said =
     IsHonest (state g after) → AreBooks (state g before).now
     → NumbersRise number_of (seen unit (state g before).now.trees)
@@ -81,14 +86,17 @@ abbrev pub LoadsMatrices : {S X E : Type 0} → Ghosts S → Held S → Held S �
 LoadsMatrices g before after seen unit number_of units scope said =
     IsHonest (state g after) → AreBooks (state g before).now
     → NumbersRise number_of (seen unit (state g before).now.trees) → (rows : UnitRows) → rows.units ≡ units
-    → IfOk said (λ found. found ≡ filter (λ r. (selection_by rows scope).matrix (number_of r)) (seen unit (state g before).now.trees))
+    → IfOk said (λ found. found
+    ≡ filter (λ r. (selection_by rows scope).matrix (number_of r)) (seen unit (state g before).now.trees))
 
 -- the result is the unit's changes that the scope takes in, where it takes in these records
-abbrev pub LoadsChanges : {S E : Type 0} → Ghosts S → Held S → Held S → Name → List RecordEntry → Scope → Result (List ChangeEntry) E → Type 0
+abbrev pub LoadsChanges : {S E : Type 0} → Ghosts S → Held S → Held S → Name → List RecordEntry → Scope
+    → Result (List ChangeEntry) E → Type 0
 LoadsChanges g before after unit records scope said =
     IsHonest (state g after) → AreBooks (state g before).now
     → (rows : UnitRows) → records ≡ filter (λ r. (selection_by rows scope).rationale r.tag) rows.records
-    → IfOk said (λ changes. changes ≡ filter (λ r. (selection_by rows scope).change r.number) (rows_seen unit (state g before).now.trees Changes))
+    → IfOk said (λ changes. changes
+    ≡ filter (λ r. (selection_by rows scope).change r.number) (rows_seen unit (state g before).now.trees Changes))
 
 -- ---- of lists
 

@@ -10,10 +10,13 @@ use Rattle.plant_types.specs.Names.{Name, same_name}
 use Rattle.plant_columns.specs.Codes as codes
 
 -- the text of a query under this schema, whose answers in its databases are decoded to these rows
-pub record ReadsIn (schema : Schema) (AreIts : Database → Type 0) {X : Type 0} (width : ℕ) (cells : X → Line) (rows : Trees → List X) (params : Line) (text : List ℕ) : Type 0 where
+pub record ReadsIn (schema : Schema) (AreIts : Database → Type 0) {X : Type 0} (width : ℕ) (cells : X → Line)
+    (rows : Trees → List X) (params : Line) (text : List ℕ) : Type 0 where
   pub plain : IsPlain (understood schema text)
   pub unlisted : reads_listing schema text ≡ false
-  pub decoded : (db : Database) → AreIts db → (lines : List Line) → Answers (command_of (understood schema text)) db params lines → (read : List X) → map (columns width) lines ≡ map cells read → read ≡ rows db.trees
+  pub decoded : (db : Database) → AreIts db → (lines : List Line)
+      → Answers (command_of (understood schema text)) db params lines → (read : List X)
+      → map (columns width) lines ≡ map cells read → read ≡ rows db.trees
 
 -- under this schema, and under schema 1
 abbrev pub Reads : {X : Type 0} → ℕ → (X → Line) → (Trees → List X) → Line → List ℕ → Type 0
@@ -29,12 +32,15 @@ ReadsUnit width cells seen text = (u : Name) → Reads width cells (seen u) (Tex
 -- the text reads the rows that a unit has of one tag in a table
 abbrev pub ReadsTag : {X : Type 0} → ℕ → (X → Line) → (Name → Trees → List X) → (X → Name) → List ℕ → Type 0
 ReadsTag width cells seen tag_of text =
-    (u tag : Name) → Reads width cells (λ trees. filter (λ r. same_name tag (tag_of r)) (seen u trees)) (Text u ∷ Text tag ∷ []) text
+    (u tag : Name)
+    → Reads width cells (λ trees. filter (λ r. same_name tag (tag_of r)) (seen u trees)) (Text u ∷ Text tag ∷ []) text
 
 -- the text reads the rows that a unit has of one number in a table
 abbrev pub ReadsNumber : {X : Type 0} → ℕ → (X → Line) → (Name → Trees → List X) → (X → ℕ) → List ℕ → Type 0
 ReadsNumber width cells seen number_of text =
-    (u : Name) (n : ℕ) → Reads width cells (λ trees. filter (λ r. same_number n (number_of r)) (seen u trees)) (Text u ∷ codes.number n ∷ []) text
+    (u : Name) (n : ℕ)
+    → Reads width cells (λ trees. filter (λ r. same_number n (number_of r)) (seen u trees))
+    (Text u ∷ codes.number n ∷ []) text
 
 -- the text reads all rows that a unit has in a table of schema 1
 abbrev pub ReadsOldUnit : {X : Type 0} → ℕ → (X → Line) → (Name → Trees → List X) → List ℕ → Type 0

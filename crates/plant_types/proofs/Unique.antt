@@ -10,7 +10,8 @@ use Rattle.plant_types.specs.Moment.{decimal_value, has_form, Civil, civil_of, i
 within : (b : ℕ) → is_digit b ≡ true → (48 ≤ b) × (b ≤ 57)
 within b e = (leb-true 48 b (left _ _ e), leb-true b 57 (right _ _ e))
 
-of_two : (a b : ℕ) → is_digit a ≡ true → is_digit b ≡ true → (a ≡ digit (decimal_value (a ∷ b ∷ []) / 10)) × (b ≡ digit (decimal_value (a ∷ b ∷ []) % 10))
+of_two : (a b : ℕ) → is_digit a ≡ true → is_digit b ≡ true
+    → (a ≡ digit (decimal_value (a ∷ b ∷ []) / 10)) × (b ≡ digit (decimal_value (a ∷ b ∷ []) % 10))
 of_two a b p q =
     let u = within a p in
     let v = within b q in
@@ -20,7 +21,8 @@ abbrev number_of : ℕ → ℕ → ℕ → ℕ → ℕ
 number_of a b c d = decimal_value (a ∷ b ∷ c ∷ d ∷ [])
 
 of_four : (a b c d : ℕ) → is_digit a ≡ true → is_digit b ≡ true → is_digit c ≡ true → is_digit d ≡ true
-    → (a ≡ digit (number_of a b c d / 100 / 10)) × (b ≡ digit (number_of a b c d / 100 % 10)) × (c ≡ digit (number_of a b c d % 100 / 10)) × (d ≡ digit (number_of a b c d % 100 % 10))
+    → (a ≡ digit (number_of a b c d / 100 / 10)) × (b ≡ digit (number_of a b c d / 100 % 10)) × (c ≡ digit (number_of a b c d % 100 / 10))
+    × (d ≡ digit (number_of a b c d % 100 % 10))
 of_four a b c d p q r s =
     let u = within a p in
     let v = within b q in
@@ -55,8 +57,15 @@ spelled_by_parts (a ∷ b ∷ c ∷ d ∷ e ∷ f ∷ g ∷ h ∷ i ∷ j ∷ k 
     let hour = of_two l m jkl.2 mno.0 in
     let minute = of_two o p mno.2 pqr.0 in
     let second = of_two r s pqr.2 (left _ _ pqr.3) in
-    put year.0 (put year.1 (put year.2 (put year.3 (put (eqb-true e 45 def.1) (put month.0 (put month.1 (put (eqb-true h 45 ghi.1) (put day.0 (put day.1 (put (eqb-true k 84 jkl.1)
-    (put hour.0 (put hour.1 (put (eqb-true n 58 mno.1) (put minute.0 (put minute.1 (put (eqb-true q 58 pqr.1) (put second.0 (put second.1 (put (eqb-true t 90 (left _ _ (right _ _ pqr.3))) refl)))))))))))))))))))
+    put year.0
+        (put year.1
+        (put year.2
+        (put year.3 (put (eqb-true e 45 def.1) (put month.0 (put month.1 (put (eqb-true h 45 ghi.1) (put day.0 (put day.1 (put (eqb-true k 84 jkl.1)
+    (put hour.0
+    (put hour.1
+    (put (eqb-true n 58 mno.1)
+    (put minute.0
+    (put minute.1 (put (eqb-true q 58 pqr.1) (put second.0 (put second.1 (put (eqb-true t 90 (left _ _ (right _ _ pqr.3))) refl)))))))))))))))))))
 spelled_by_parts text is = absurd (omega (arith, is_long text is))
 
 -- a day of these years
@@ -67,14 +76,18 @@ record IsDay (y m d : ℕ) : Type 0 where
 day_of : (y m d : ℕ) → is_date y m d ≡ true → IsDay y m d
 day_of y m d e =
     let is = date_is y m d e in
-    record { low = is.low; civil = ((omega (arith, ints, is.low), omega (arith, ints, is.high)), (is.first_month, is.last_month), (is.first_day, is.last_day)) }
+    record { low = is.low;
+        civil = ((omega (arith, ints, is.low), omega (arith, ints, is.high)), (is.first_month, is.last_month), (is.first_day, is.last_day)) }
 
 -- days with one number are the same day
 no_earlier_year : (y m d z n e : ℕ) → IsDay y m d → IsDay z n e → day_count (pos y) m d ≡ day_count (pos z) n e → z ≤ y
-no_earlier_year y m d z n e p q same = ⊎_elim (λ lt. absurd (omega (arith, same, day_count-lt_year (pos y) m d (pos z) n e p.civil q.civil.2.0 (omega (arith, ints))))) (λ le. le) (cases_lt y z)
+no_earlier_year y m d z n e p q same =
+    ⊎_elim (λ lt. absurd (omega (arith, same, day_count-lt_year (pos y) m d (pos z) n e p.civil q.civil.2.0 (omega (arith, ints))))) (λ le. le)
+    (cases_lt y z)
 
 no_earlier_month : (y m d n e : ℕ) → IsDay y m d → IsDay y n e → day_count (pos y) m d ≡ day_count (pos y) n e → n ≤ m
-no_earlier_month y m d n e p q same = ⊎_elim (λ lt. absurd (omega (arith, same, day_count-lt_month (pos y) m d n e p.civil q.civil.2.0 lt))) (λ le. le) (cases_lt m n)
+no_earlier_month y m d n e p q same =
+    ⊎_elim (λ lt. absurd (omega (arith, same, day_count-lt_month (pos y) m d n e p.civil q.civil.2.0 lt))) (λ le. le) (cases_lt m n)
 
 same_year : (y m d z n e : ℕ) → IsDay y m d → IsDay z n e → day_count (pos y) m d ≡ day_count (pos z) n e → y ≡ z
 same_year y m d z n e p q same = omega (arith, no_earlier_year y m d z n e p q same, no_earlier_year z n e y m d q p (sym same))
@@ -100,7 +113,8 @@ same_date y m d z n e p q same =
     let same'' : day_count (pos z) n d ≡ day_count (pos z) n e = ap (λ (v : ℕ). day_count (pos z) v d) (sym month) ∙ same' in
     record { year = year; month = month; day = same_day z n d e p'' q same'' }
 
-since_same : (y m d z n e : ℕ) → IsDay y m d → IsDay z n e → days_since_2000 y m d ≡ days_since_2000 z n e → day_count (pos y) m d ≡ day_count (pos z) n e
+since_same : (y m d z n e : ℕ) → IsDay y m d → IsDay z n e → days_since_2000 y m d ≡ days_since_2000 z n e
+    → day_count (pos y) m d ≡ day_count (pos z) n e
 since_same y m d z n e p q same =
     let from = since-2000 y m d p.low p.civil.2.0 in
     let from' = since-2000 z n e q.low q.civil.2.0 in
@@ -113,7 +127,8 @@ record SameClock (x h m s y i n t : ℕ) : Type 0 where
   minute : m ≡ n
   second : s ≡ t
 
-same_clock : (x h m s y i n t : ℕ) → IsTime h m s → IsTime i n t → 86400 * x + 3600 * h + 60 * m + s ≡ 86400 * y + 3600 * i + 60 * n + t → SameClock x h m s y i n t
+same_clock : (x h m s y i n t : ℕ) → IsTime h m s → IsTime i n t → 86400 * x + 3600 * h + 60 * m + s ≡ 86400 * y + 3600 * i + 60 * n + t
+    → SameClock x h m s y i n t
 same_clock x h m s y i n t p q same =
     record {
       days = omega (arith, p.hour, p.minute, p.second, q.hour, q.minute, q.second);
@@ -127,7 +142,8 @@ same_spelling a b p q same =
     let day = day_of a.year a.month a.day (left _ _ p) in
     let day' = day_of b.year b.month b.day (left _ _ q) in
     let clock = same_clock _ a.hour a.minute a.second _ b.hour b.minute b.second (time_is _ _ _ (right _ _ p)) (time_is _ _ _ (right _ _ q)) same in
-    let date = same_date a.year a.month a.day b.year b.month b.day day day' (since_same a.year a.month a.day b.year b.month b.day day day' clock.days) in
+    let date =
+        same_date a.year a.month a.day b.year b.month b.day day day' (since_same a.year a.month a.day b.year b.month b.day day day' clock.days) in
     rw (date.year, date.month, date.day, clock.hour, clock.minute, clock.second) refl
 
 -- what is read was of the form, a day and a time

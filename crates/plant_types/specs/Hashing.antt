@@ -10,4 +10,5 @@ equal_if Equal h = refl
 equal_if Greater h = cc
 
 pub alike_names : (a b : Name) → same_name a b ≡ true → fed.slice fed.u8 a ≡ fed.slice fed.u8 b
-alike_names a b h = ap (fed.slice fed.u8) (slice_cmp-IsAntisymmetric nat_cmp-IsAntisymmetric a b (equal_if (name_cmp a b) h))
+alike_names a b h =
+    ap (fed.slice fed.u8) (slice_cmp-IsAntisymmetric nat_cmp-IsAntisymmetric a b (equal_if (name_cmp a b) h))

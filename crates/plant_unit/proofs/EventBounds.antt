@@ -17,7 +17,8 @@ length_with es (e ∷ more) =
     let here = length-put nat_cmp event_number e es in
     omega (arith, rest, here)
 
-few_import : (h : List Call) (p : Name) (t : ℕ) (u : Name) (file : Result (List Event) BadFile) → IsLegal h → IsEntry h (made p t (Import u file)) → length (events (made p t (Import u file) ∷ h)) ≤ max_events
+few_import : (h : List Call) (p : Name) (t : ℕ) (u : Name) (file : Result (List Event) BadFile) → IsLegal h → IsEntry h (made p t (Import u file))
+    → length (events (made p t (Import u file) ∷ h)) ≤ max_events
 few_import h p t u (Err fault) legal entry = absurd (import_accepted h p t u (Err fault) entry)
 few_import h p t u (Ok rows) legal entry =
     let file = import_accepted h p t u (Ok rows) entry in
@@ -27,13 +28,18 @@ few_import h p t u (Ok rows) legal entry =
     let long = length_with (events h) (fresh (events h) rows) in
     subst (λ (es : List Event). length es ≤ max_events) put (omega (arith, room, count, long))
 
-few_other : (h : List Call) (p : Name) (t : ℕ) (q : Request) → imported q ≡ [] → length (events h) ≤ max_events → length (events (made p t q ∷ h)) ≤ max_events
+few_other : (h : List Call) (p : Name) (t : ℕ) (q : Request) → imported q ≡ [] → length (events h) ≤ max_events
+    → length (events (made p t q ∷ h)) ≤ max_events
 few_other h p t q none few =
-    subst (λ (rows : List Event). length (filter_map (λ n. or_else (find (has_number n) rows) (event_numbered h n)) (in_order nat_cmp (numbers_of rows ++ numbers_of_events h))) ≤ max_events) (sym none) few
+    subst (λ (rows : List Event). length (filter_map (λ n. or_else (find (has_number n) rows) (event_numbered h n)) (in_order nat_cmp (numbers_of rows
+        ++ numbers_of_events h))) ≤ max_events) (sym none) few
 
-few_next : (h : List Call) (p : Name) (t : ℕ) (q : Request) → IsLegal h → IsEntry h (made p t q) → length (events h) ≤ max_events → length (events (made p t q ∷ h)) ≤ max_events
+few_next : (h : List Call) (p : Name) (t : ℕ) (q : Request) → IsLegal h → IsEntry h (made p t q) → length (events h) ≤ max_events
+    → length (events (made p t q ∷ h)) ≤ max_events
 few_next h p t (Import u file) legal entry few = few_import h p t u file legal entry
 few_next h p t q legal entry few = few_other h p t q refl few
 
 pub few_events : (h : List Call) → IsLegal h → length (events h) ≤ max_events
-few_events = by_legal (λ h. length (events h) ≤ max_events) (λ p t u s m k shape. omega arith) (λ h c f. few_next h c.person c.moment c.request f.legal f.entry)
+few_events =
+    by_legal (λ h. length (events h) ≤ max_events) (λ p t u s m k shape. omega arith)
+    (λ h c f. few_next h c.person c.moment c.request f.legal f.entry)

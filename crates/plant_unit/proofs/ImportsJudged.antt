@@ -22,21 +22,27 @@ first_of [] ys = refl
 first_of ((true, r) ∷ xs) ys = refl
 first_of ((false, r) ∷ xs) ys = first_of xs ys
 
-all_refusals : (f : Facts) (c : Call) → first_refusal (refusals f c) ≡ or_else (first_refusal (holder_refusals f c)) (first_refusal (own_refusals f c.person c.moment c.request))
+all_refusals : (f : Facts) (c : Call)
+    → first_refusal (refusals f c) ≡ or_else (first_refusal (holder_refusals f c)) (first_refusal (own_refusals f c.person c.moment c.request))
 all_refusals f c =
     let own : List (Bool × Refused) = own_refusals f c.person c.moment c.request in
     let behind : List (Bool × Refused) = (nat_lt c.moment f.unit.last_s, MomentBehind f.unit.last_s) ∷ [] in
-    ap (λ (l : List (Bool × Refused)). first_refusal ((not (holds_some f c.moment c.person), NotGranted) ∷ l)) (sym (append_assoc (lacks_role f c.moment c.person (role_needed c.request)) behind own))
+    ap (λ (l : List (Bool × Refused)). first_refusal ((not (holds_some f c.moment c.person), NotGranted) ∷ l))
+        (sym (append_assoc (lacks_role f c.moment c.person (role_needed c.request)) behind own))
     ∙ first_of (holder_refusals f c) own
 
 pub refused_judged : (f : Facts) (c : Call) (r : Refused) → first_refusal (holder_refusals f c) ≡ Some r → IsJudged f c (IsRefused r)
 refused_judged f c r is =
-    let verdict : verdict_of f c ≡ Err r = ap (λ o. refused_or o (reply f c.moment c.request)) (all_refusals f c ∙ ap (λ o. or_else o (first_refusal (own_refusals f c.person c.moment c.request))) is) in
+    let verdict : verdict_of f c ≡ Err r =
+        ap (λ o. refused_or o (reply f c.moment c.request))
+        (all_refusals f c ∙ ap (λ o. or_else o (first_refusal (own_refusals f c.person c.moment c.request))) is) in
     record { answer = sym verdict; changes = sym (ap (λ v. if changes_history v c then changes_for f c else []) verdict) }
 
 pub own_judged : (f : Facts) (c : Call) (v : Verdict) → first_refusal (holder_refusals f c) ≡ None → IsJudgedOwn f c v → IsJudged f c v
 own_judged f c v none j =
-    let verdict : refused_or (first_refusal (own_refusals f c.person c.moment c.request)) (reply f c.moment c.request) ≡ verdict_of f c = sym (ap (λ o. refused_or o (reply f c.moment c.request)) (all_refusals f c ∙ ap (λ o. or_else o (first_refusal (own_refusals f c.person c.moment c.request))) none)) in
+    let verdict : refused_or (first_refusal (own_refusals f c.person c.moment c.request)) (reply f c.moment c.request) ≡ verdict_of f c =
+        sym (ap (λ o. refused_or o (reply f c.moment c.request)) (all_refusals f c
+        ∙ ap (λ o. or_else o (first_refusal (own_refusals f c.person c.moment c.request))) none)) in
     record { answer = j.answer ∙ verdict; changes = j.changes ∙ ap (λ v. if changes_history v c then changes_for f c else []) verdict }
 
 -- what a file adds
@@ -44,15 +50,22 @@ abbrev refused_by : Result Merged BadFile → Result Merged Refused
 refused_by (Ok m) = Ok m
 refused_by (Err fault) = Err (FileRefused fault)
 
-pub full_added : (f : Facts) (t : ℕ) (rows : List Event) → nat_lt max_events (length f.events + length (new_numbers f.events rows)) ≡ true → addition f t rows ≡ Err (UnitFull TooManyEvents)
-full_added f t rows full = ap (λ b. decided_or (first_refusal ((b, UnitFull TooManyEvents) ∷ fault_entries (first_fault (tags_of f) t 2 f.events rows))) (rows_added f.events rows)) full
+pub full_added : (f : Facts) (t : ℕ) (rows : List Event) → nat_lt max_events (length f.events + length (new_numbers f.events rows)) ≡ true
+    → addition f t rows ≡ Err (UnitFull TooManyEvents)
+full_added f t rows full =
+    ap (λ b. decided_or (first_refusal ((b, UnitFull TooManyEvents)
+    ∷ fault_entries (first_fault (tags_of f) t 2 f.events rows))) (rows_added f.events rows)) full
 
-pub merge_added : (f : Facts) (t : ℕ) (rows : List Event) (m : Result Merged BadFile) → nat_lt max_events (length f.events + length (new_numbers f.events rows)) ≡ false → m ≡ merge f.events rows (tags_of f) t → refused_by m ≡ addition f t rows
+pub merge_added : (f : Facts) (t : ℕ) (rows : List Event) (m : Result Merged BadFile)
+    → nat_lt max_events (length f.events + length (new_numbers f.events rows)) ≡ false → m ≡ merge f.events rows (tags_of f) t
+    → refused_by m ≡ addition f t rows
 unfolding merge
 merge_added f t rows m room is =
     ap refused_by is
-    ∙ elim (first_fault (tags_of f) t 2 f.events rows) as (λ o. refused_by (merged_or o f.events rows) ≡ decided_or (first_refusal (fault_entries o)) (rows_added f.events rows)) [ None ↦ refl | Some fault ↦ refl ]
-    ∙ sym (ap (λ b. decided_or (first_refusal ((b, UnitFull TooManyEvents) ∷ fault_entries (first_fault (tags_of f) t 2 f.events rows))) (rows_added f.events rows)) room)
+    ∙ elim (first_fault (tags_of f) t 2 f.events rows) as (λ o. refused_by (merged_or o f.events rows)
+    ≡ decided_or (first_refusal (fault_entries o)) (rows_added f.events rows)) [ None ↦ refl | Some fault ↦ refl ]
+    ∙ sym (ap (λ b. decided_or (first_refusal ((b, UnitFull TooManyEvents)
+    ∷ fault_entries (first_fault (tags_of f) t 2 f.events rows))) (rows_added f.events rows)) room)
 
 -- a file that adds rows has no fault, and there is room for its numbers
 record AddedBy (f : Facts) (t : ℕ) (rows : List Event) (m : Merged) : Type 0 where
@@ -61,7 +74,8 @@ record AddedBy (f : Facts) (t : ℕ) (rows : List Event) (m : Merged) : Type 0 w
   pub few : length (fresh f.events rows) ≤ max_events
   pub is : m ≡ rows_added f.events rows
 
-adds_by : (f : Facts) (t : ℕ) (rows : List Event) (m : Merged) (full : Bool) (fault : Option BadFile) → nat_lt max_events (length f.events + length (new_numbers f.events rows)) ≡ full → first_fault (tags_of f) t 2 f.events rows ≡ fault
+adds_by : (f : Facts) (t : ℕ) (rows : List Event) (m : Merged) (full : Bool) (fault : Option BadFile)
+    → nat_lt max_events (length f.events + length (new_numbers f.events rows)) ≡ full → first_fault (tags_of f) t 2 f.events rows ≡ fault
     → decided_or (first_refusal ((full, UnitFull TooManyEvents) ∷ fault_entries fault)) (rows_added f.events rows) ≡ Ok m → AddedBy f t rows m
 adds_by f t rows m false None ef eo e =
     let room = ltb-false max_events (length f.events + length (new_numbers f.events rows)) ef in
@@ -78,23 +92,29 @@ adds : (f : Facts) (t : ℕ) (rows : List Event) (m : Merged) → addition f t r
 adds f t rows m e = adds_by f t rows m _ _ refl refl e
 
 not_added : (f : Facts) (t : ℕ) (rows : List Event) (r : Refused) → Err r ≡ addition f t rows → Some r ≡ first_refusal (file_refusals f t (Ok rows))
-not_added f t rows r = elim (first_refusal (file_refusals f t (Ok rows))) as (λ o. Err r ≡ decided_or o (rows_added f.events rows) → Some r ≡ o) [ None ↦ λ e. cc | Some x ↦ λ e. cc ]
+not_added f t rows r =
+    elim (first_refusal (file_refusals f t (Ok rows))) as (λ o. Err r ≡ decided_or o (rows_added f.events rows)
+    → Some r ≡ o) [ None ↦ λ e. cc | Some x ↦ λ e. cc ]
 
-pub import_refused : (f : Facts) (c : Call) (u : Name) (rows : List Event) (r : Refused) → c.request ≡ Import u (Ok rows) → Err r ≡ addition f c.moment rows → IsJudgedOwn f c (IsRefused r)
+pub import_refused : (f : Facts) (c : Call) (u : Name) (rows : List Event) (r : Refused) → c.request ≡ Import u (Ok rows)
+    → Err r ≡ addition f c.moment rows → IsJudgedOwn f c (IsRefused r)
 import_refused f c u rows r e is = asked e (refused_own f _ r (not_added f c.moment rows r is))
 
 pub import_fresh : (f : Facts) (t : ℕ) (rows : List Event) (m : Merged) → Ok m ≡ addition f t rows → m.fresh ≡ fresh f.events rows
 import_fresh f t rows m is = ap (λ (x : Merged). x.fresh) ((adds f t rows m (sym is)).is)
 
-pub import_judged : (f : Facts) (c : Call) (u : Name) (rows : List Event) (m : Merged) (r : Reply) (cs : List RowEdit) → c.request ≡ Import u (Ok rows) → Ok m ≡ addition f c.moment rows
-    → (length m.fresh ≤ 4294967295 → r ≡ Imported (length m.fresh) m.repeated) → cs ≡ Put (UnitPut (unit_after f c.moment (Import u (Ok rows)))) ∷ import_changes f rows → IsJudgedOwn f c (IsAccepted r cs)
+pub import_judged : (f : Facts) (c : Call) (u : Name) (rows : List Event) (m : Merged) (r : Reply) (cs : List RowEdit)
+    → c.request ≡ Import u (Ok rows) → Ok m ≡ addition f c.moment rows
+    → (length m.fresh ≤ 4294967295 → r ≡ Imported (length m.fresh) m.repeated)
+    → cs ≡ Put (UnitPut (unit_after f c.moment (Import u (Ok rows)))) ∷ import_changes f rows → IsJudgedOwn f c (IsAccepted r cs)
 import_judged f c u rows m r cs e is er ec =
     let so = adds f c.moment rows m (sym is) in
     let few : length m.fresh ≤ 4294967295 = subst (λ (x : Merged). length x.fresh ≤ 4294967295) (sym so.is) (let n = so.few in omega (arith, n)) in
     asked e (made_own f _ r cs so.none (er few ∙ ap (λ (x : Merged). Imported (length x.fresh) x.repeated) so.is) refl ec)
 
 -- the rows of a file that adds some are new
-pub import_added : (f : Facts) (t : ℕ) (rows : List Event) (m : Merged) → IsRising f.events → Ok m ≡ addition f t rows → AreAdded f.events rows m.fresh
+pub import_added : (f : Facts) (t : ℕ) (rows : List Event) (m : Merged) → IsRising f.events → Ok m ≡ addition f t rows
+    → AreAdded f.events rows m.fresh
 import_added f t rows m rises is =
     record {
       rise = rises;
@@ -105,17 +125,23 @@ import_added f t rows m rises is =
     }
 
 -- what the code finds of a file beside the events that it needs
-pub counted_at : (f : Facts) (rows kept : List Event) (k n : ℕ) (b : Bool) → IsRising f.events → kept ≡ needed f.events rows → k ≡ length f.events → (IsRising kept → n ≡ length (new_numbers kept rows)) → b ≡ nat_lt max_events (k + n) → b ≡ nat_lt max_events (length f.events + length (new_numbers f.events rows))
+pub counted_at : (f : Facts) (rows kept : List Event) (k n : ℕ) (b : Bool) → IsRising f.events → kept ≡ needed f.events rows → k ≡ length f.events
+    → (IsRising kept → n ≡ length (new_numbers kept rows)) → b ≡ nat_lt max_events (k + n)
+    → b ≡ nat_lt max_events (length f.events + length (new_numbers f.events rows))
 counted_at f rows kept k n b rises ek el en eb =
     let rising : IsRising kept = subst (λ (l : List Event). IsRising l) (sym ek) (needed_rises f.events rows rises) in
-    let count : n ≡ length (new_numbers f.events rows) = en rising ∙ ap (λ l. length (new_numbers l rows)) ek ∙ ap length (needed_numbers f.events rows rises) in
+    let count : n ≡ length (new_numbers f.events rows) = en rising ∙ ap (λ l. length (new_numbers l rows)) ek
+        ∙ ap length (needed_numbers f.events rows rises) in
     eb ∙ (λ i. nat_lt max_events (el i + count i))
 
-pub merged_at : (f : Facts) (t : ℕ) (rows kept : List Event) (tags : List Name) (k n : ℕ) (b : Bool) (m x : Result Merged BadFile) → IsRising f.events → kept ≡ needed f.events rows → k ≡ length f.events → (IsRising kept → n ≡ length (new_numbers kept rows))
-    → b ≡ nat_lt max_events (k + n) → b ≡ false → tags ≡ tags_of f → (IsRising kept → m ≡ merge kept rows tags t) → m ≡ x → refused_by x ≡ addition f t rows
+pub merged_at : (f : Facts) (t : ℕ) (rows kept : List Event) (tags : List Name) (k n : ℕ) (b : Bool) (m x : Result Merged BadFile) → IsRising f.events
+    → kept ≡ needed f.events rows → k ≡ length f.events → (IsRising kept → n ≡ length (new_numbers kept rows))
+    → b ≡ nat_lt max_events (k + n) → b ≡ false → tags ≡ tags_of f → (IsRising kept → m ≡ merge kept rows tags t) → m ≡ x
+    → refused_by x ≡ addition f t rows
 merged_at f t rows kept tags k n b m x rises ek el en eb room et em ex =
     let rising : IsRising kept = subst (λ (l : List Event). IsRising l) (sym ek) (needed_rises f.events rows rises) in
-    let free : nat_lt max_events (length f.events + length (new_numbers f.events rows)) ≡ false = sym (counted_at f rows kept k n b rises ek el en eb) ∙ room in
+    let free : nat_lt max_events (length f.events + length (new_numbers f.events rows)) ≡ false = sym (counted_at f rows kept k n b rises ek el en eb)
+        ∙ room in
     merge_added f t rows x free (sym ex ∙ em rising ∙ (λ i. merge (ek i) rows (et i) t) ∙ needed_merge f.events rows (tags_of f) t rises)
 
 -- one who is not refused for want of a role holds one
@@ -123,8 +149,12 @@ none_holds : (b : Bool) (rest : List (Bool × Refused)) → first_refusal ((not 
 none_holds true rest e = refl
 none_holds false rest e = cc
 
-pub holder_holds : (f : Facts) (c : Call) (o : Option Refused) → o ≡ first_refusal (holder_refusals f c) → o ≡ None → holds_some f c.moment c.person ≡ true
-holder_holds f c o is none = none_holds (holds_some f c.moment c.person) (lacks_role f c.moment c.person (role_needed c.request) ++ (nat_lt c.moment f.unit.last_s, MomentBehind f.unit.last_s) ∷ []) (sym is ∙ none)
+pub holder_holds : (f : Facts) (c : Call) (o : Option Refused) → o ≡ first_refusal (holder_refusals f c) → o ≡ None
+    → holds_some f c.moment c.person ≡ true
+holder_holds f c o is none =
+    none_holds (holds_some f c.moment c.person)
+    (lacks_role f c.moment c.person (role_needed c.request) ++ (nat_lt c.moment f.unit.last_s, MomentBehind f.unit.last_s) ∷ []) (sym is ∙ none)
 
-pub own_result : {E : Type 0} (f : Facts) (c : Call) (r : Result Verdict E) (o : Option Refused) → o ≡ first_refusal (holder_refusals f c) → o ≡ None → IfOk r (IsJudgedOwn f c) → IfOk r (IsJudged f c)
+pub own_result : {E : Type 0} (f : Facts) (c : Call) (r : Result Verdict E) (o : Option Refused) → o ≡ first_refusal (holder_refusals f c) → o ≡ None
+    → IfOk r (IsJudgedOwn f c) → IfOk r (IsJudged f c)
 own_result f c r o is none = IfOk-weaker r (IsJudgedOwn f c) (IsJudged f c) (λ v. own_judged f c v (sym is ∙ none))

@@ -29,11 +29,13 @@ use Rattle.plant_ration.specs.declared.change.Sheet.{Sheet}
 use Rattle.plant_import.{specs.Merging.{IsRising}, proofs.public.NeededLaws.{needed_few, needed_rises}}
 
 -- Tests of rows that pass a wider one
-filter-none : {X : Type 0} (narrow wide : X → Bool) → ((x : X) → narrow x ≡ true → wide x ≡ false) → (xs : List X) → filter narrow (filter wide xs) ≡ []
+filter-none : {X : Type 0} (narrow wide : X → Bool) → ((x : X) → narrow x ≡ true → wide x ≡ false) → (xs : List X)
+    → filter narrow (filter wide xs) ≡ []
 filter-none narrow wide never [] = refl
 filter-none narrow wide never (x ∷ xs) =
     elim (wide x) as (λ b. wide x ≡ b → filter narrow (cond b (x ∷ filter wide xs) (filter wide xs)) ≡ []) [
-      | true ↦ λ is. ap (λ b. cond b (x ∷ filter narrow (filter wide xs)) (filter narrow (filter wide xs))) (false_from_ne_true (narrow x) (λ e. let no : true ≡ false = sym is ∙ never x e in cc)) ∙ filter-none narrow wide never xs
+      | true ↦ λ is. ap (λ b. cond b (x ∷ filter narrow (filter wide xs)) (filter narrow (filter wide xs)))
+          (false_from_ne_true (narrow x) (λ e. let no : true ≡ false = sym is ∙ never x e in cc)) ∙ filter-none narrow wide never xs
       | false ↦ λ _. filter-none narrow wide never xs
     ] refl
 
@@ -73,20 +75,28 @@ module _ {K X Y : Type 0} (R : K → K → Ordering) (key : X → K) (row : X �
 
   rows_rise : (xs : List X) → IsInOrder R key xs → IsInOrder R read (map row xs)
   rows_rise [] h = tt
-  rows_rise (x ∷ xs) h = both _ _ (subst (λ k. T (below_all R k (map (λ y. (read y, y)) (map row xs)))) (same x) (below_rows (key x) xs (first _ _ h))) (rows_rise xs (second _ _ h))
+  rows_rise (x ∷ xs) h =
+      both _ _ (subst (λ k. T (below_all R k (map (λ y. (read y, y)) (map row xs)))) (same x) (below_rows (key x) xs (first _ _ h)))
+      (rows_rise xs (second _ _ h))
 
 records_rise : (h : List Call) → IsInOrder name_cmp record_tag (record_rows h)
-records_rise h = rows_rise name_cmp tag_of_record record_entry record_tag (λ r. refl) (records_of h) (IsInOrder-rows (record_of h) (tags_of_records h) (records_told h))
+records_rise h =
+    rows_rise name_cmp tag_of_record record_entry record_tag (λ r. refl) (records_of h)
+    (IsInOrder-rows (record_of h) (tags_of_records h) (records_told h))
 
 -- and the changes in that of their numbers
 changes_rise : (h : List Call) → IsInOrder nat_cmp change_number (change_rows h)
-changes_rise h = rows_rise nat_cmp number_of_change change_entry change_number (λ r. refl) (changes_of h) (IsInOrder-rows (change h) (numbers_of_changes h) (changes_told h))
+changes_rise h =
+    rows_rise nat_cmp number_of_change change_entry change_number (λ r. refl) (changes_of h)
+    (IsInOrder-rows (change h) (numbers_of_changes h) (changes_told h))
 
 -- what holds of the row of each sheet's record holds of the rows of all records
-rows_all : (h : List Call) (P : RecordEntry → Type 0) → ((a : Name) (x : ℕ × Sheet) → sheet h a ≡ Some x → P (record_entry (record_with h a x))) → (tags : List Name) → All P (map record_entry (filter_map (record_of h) tags))
+rows_all : (h : List Call) (P : RecordEntry → Type 0) → ((a : Name) (x : ℕ × Sheet) → sheet h a ≡ Some x → P (record_entry (record_with h a x)))
+    → (tags : List Name) → All P (map record_entry (filter_map (record_of h) tags))
 rows_all h P holds [] = All-nil P
 rows_all h P holds (a ∷ tags) =
-    elim (sheet h a) as (λ o. sheet h a ≡ o → All P (map record_entry (cons_option (option_map (record_with h a) o) (filter_map (record_of h) tags)))) [
+    elim (sheet h a) as (λ o. sheet h a ≡ o
+        → All P (map record_entry (cons_option (option_map (record_with h a) o) (filter_map (record_of h) tags)))) [
       | None ↦ λ _. rows_all h P holds tags
       | Some x ↦ λ is. All-cons P (record_entry (record_with h a x)) _ (holds a x is) (rows_all h P holds tags)
     ] refl
@@ -95,12 +105,15 @@ rows_all h P holds (a ∷ tags) =
 module _ (h : List Call) (n : ℕ) (m : Grid) (is : kind_of_change h n ≡ Some (Matrix m)) where
   not_source : (tags : Name → Bool) (a : Name) (x : ℕ × Sheet) → sheet h a ≡ Some x → (tags a && same_number n x.0) ≡ false
   not_source tags a x e = false_from_ne_true _ (λ here.
-      let clash : Some (Matrix m) ≡ Some (Rationale a x.1) = sym is ∙ ap (kind_of_change h) (same_number_of n x.0 (and_parts (tags a) _ here).1) ∙ sheet_source h a x.0 x.1 e in
+      let clash : Some (Matrix m) ≡ Some (Rationale a x.1) = sym is ∙ ap (kind_of_change h) (same_number_of n x.0 (and_parts (tags a) _ here).1)
+          ∙ sheet_source h a x.0 x.1 e in
       let no : Matrix m ≡ Rationale a x.1 = cc in
       cc)
 
   no_source : (tags : Name → Bool) → is_source (rows_of h) tags n ≡ false
-  no_source tags = list_any_none _ _ (rows_all h (λ r. (tags r.tag && same_number n r.change_no) ≡ false) (not_source tags) (in_order name_cmp (tags_of_records h)))
+  no_source tags =
+      list_any_none _ _ (rows_all h (λ r. (tags r.tag && same_number n r.change_no)
+      ≡ false) (not_source tags) (in_order name_cmp (tags_of_records h)))
 
   -- a matrix that is selected is there with its rows
   no_source_named : (tags : Name → Bool) (A : Type 0) → is_source (rows_of h) tags n ≡ true → A
@@ -127,7 +140,10 @@ module _ (h : List Call) (n : ℕ) (m : Grid) (is : kind_of_change h n ≡ Some 
 
 -- the columns of a sheet are there where the change is of a record
 abbrev has_sheet_of : ChangeKind → Bool
-has_sheet_of k = is_some (option_map (λ (s : Sheet). s.cause) (sheet_of_kind k)) && is_some (option_map (λ (s : Sheet). s.consequence) (sheet_of_kind k)) && is_some (option_map (λ (s : Sheet). s.action) (sheet_of_kind k)) && is_some (option_map (λ (s : Sheet). s.severity) (sheet_of_kind k)) && is_some (option_map (λ (s : Sheet). s.response) (sheet_of_kind k))
+has_sheet_of k =
+    is_some (option_map (λ (s : Sheet). s.cause) (sheet_of_kind k)) && is_some (option_map (λ (s : Sheet). s.consequence) (sheet_of_kind k))
+    && is_some (option_map (λ (s : Sheet). s.action) (sheet_of_kind k)) && is_some (option_map (λ (s : Sheet). s.severity) (sheet_of_kind k))
+    && is_some (option_map (λ (s : Sheet). s.response) (sheet_of_kind k))
 
 module _ (h : List Call) (legal : IsLegal h) (p : Name) (t : ℕ) (q : Request) where
   abbrev c : Call
@@ -149,20 +165,25 @@ module _ (h : List Call) (legal : IsLegal h) (p : Name) (t : ℕ) (q : Request) 
   cells_gone n out severity =
       ap (map (λ (c : CellRow). c.cell_no))
       (filter-none (λ (c : CellRow). same_number n c.matrix_no && same_number severity c.severity) (λ (c : CellRow). s.matrix c.matrix_no)
-      (λ c e. ap s.matrix (sym (same_number_of n c.matrix_no (and_parts (same_number n c.matrix_no) (same_number severity c.severity) e).0)) ∙ out) (cell_rows h))
+      (λ c e. ap s.matrix (sym (same_number_of n c.matrix_no (and_parts (same_number n c.matrix_no) (same_number severity c.severity) e).0)) ∙ out)
+      (cell_rows h))
 
   left_out : (n : ℕ) → s.matrix n ≡ false → is_left_out part n ≡ true
-  left_out n out = λ i. length (filter has_cells (cells_gone n out 1 i ∷ cells_gone n out 2 i ∷ cells_gone n out 3 i ∷ cells_gone n out 4 i ∷ cells_gone n out 5 i ∷ [])) == 0
+  left_out n out =
+      λ i. length (filter has_cells (cells_gone n out 1 i ∷ cells_gone n out 2 i ∷ cells_gone n out 3 i ∷ cells_gone n out 4 i ∷ cells_gone n out 5 i
+      ∷ [])) == 0
 
   matrix_whole : (is_left_out part (matrix h).0 || is_matrix_at part (matrix h).0) ≡ true
-  matrix_whole = elim (s.matrix (matrix h).0) as (λ b. s.matrix (matrix h).0 ≡ b → (is_left_out part (matrix h).0 || is_matrix_at part (matrix h).0) ≡ true) [
+  matrix_whole =
+      elim (s.matrix (matrix h).0) as (λ b. s.matrix (matrix h).0 ≡ b → (is_left_out part (matrix h).0 || is_matrix_at part (matrix h).0) ≡ true) [
     | true ↦ λ holds. or_right _ _ (matrix_is (matrix h).0 (matrix h).1 (in_force_numbered h legal) holds)
     | false ↦ λ out. or_left _ _ (left_out (matrix h).0 out)
   ] refl
 
   -- a change of the part is one of the history
   change_left : (n : ℕ) → change_found part n ≡ cond (s.change n) (option_map change_entry (change h n)) None
-  change_left n = row_at-left nat_cmp change_number number_total same_numbers s.change n (change_rows h) ∙ ap (λ o. cond (s.change n) o None) (change_entry_in h n)
+  change_left n = row_at-left nat_cmp change_number number_total same_numbers s.change n (change_rows h)
+      ∙ ap (λ o. cond (s.change n) o None) (change_entry_in h n)
 
   kind_whole : (n : ℕ) (d : Draft) → draft h n ≡ Some d → s.change n ≡ true → has_kind part (change_entry (change_with h n d)) (topic d.kind) ≡ true
   kind_whole n d known there = by d.kind refl where
@@ -174,9 +195,12 @@ module _ (h : List Call) (legal : IsLegal h) (p : Name) (t : ℕ) (q : Request) 
     by (Limit a max) e = ap (λ k. is_some (tag_of_kind k) && is_some (max_of_kind k)) e
 
   -- a change of the part is that of a draft
-  drafted : (n : ℕ) (c : ChangeEntry) → change_found part n ≡ Some c → (d : Draft) × (draft h n ≡ Some d) × (s.change n ≡ true) × (change_entry (change_with h n d) ≡ c)
+  drafted : (n : ℕ) (c : ChangeEntry) → change_found part n ≡ Some c
+      → (d : Draft) × (draft h n ≡ Some d) × (s.change n ≡ true) × (change_entry (change_with h n d) ≡ c)
   drafted n c found = by (s.change n) (draft h n) refl refl (sym (change_left n) ∙ found) where
-    by : (b : Bool) (o : Option Draft) → s.change n ≡ b → draft h n ≡ o → cond b (option_map change_entry (option_map (change_with h n) o)) None ≡ Some c → (d : Draft) × (draft h n ≡ Some d) × (s.change n ≡ true) × (change_entry (change_with h n d) ≡ c)
+    by : (b : Bool) (o : Option Draft) → s.change n ≡ b → draft h n ≡ o
+        → cond b (option_map change_entry (option_map (change_with h n) o)) None ≡ Some c
+        → (d : Draft) × (draft h n ≡ Some d) × (s.change n ≡ true) × (change_entry (change_with h n d) ≡ c)
     by true (Some d) there is e = (d, is, there, cc)
     by true None there is e = cc
     by false o there is e = cc
@@ -188,7 +212,9 @@ module _ (h : List Call) (legal : IsLegal h) (p : Name) (t : ℕ) (q : Request) 
 
   -- the row of a change is that of the change that is read from it
   entry_read : (n : ℕ) (d : Draft) → change_entry (change_read part (change_entry (change_with h n d))) ≡ change_entry (change_with h n d)
-  entry_read n d = elim d.kind as (λ k. change_entry (change_read part (change_entry (record (change_with h n d) { kind = k }))) ≡ change_entry (record (change_with h n d) { kind = k })) [ Rationale a sheet ↦ refl | Matrix m ↦ refl | Limit a max ↦ refl ]
+  entry_read n d =
+      elim d.kind as (λ k. change_entry (change_read part (change_entry (record (change_with h n d) { kind = k })))
+      ≡ change_entry (record (change_with h n d) { kind = k })) [ Rationale a sheet ↦ refl | Matrix m ↦ refl | Limit a max ↦ refl ]
 
   changes_read : (n : ℕ) (c : ChangeEntry) → change_found part n ≡ Some c → change_entry (change_read part c) ≡ c
   changes_read n c found =
@@ -208,7 +234,8 @@ module _ (h : List Call) (legal : IsLegal h) (p : Name) (t : ℕ) (q : Request) 
   records_whole : list_all (has_its_sheet part) part.records ≡ true
   records_whole =
       let whole : RecordEntry → Type 0 = λ r. has_its_sheet part r ≡ true in
-      list_all-from_AllPass (has_its_sheet part) _ (All-filter (λ r. s.rationale r.tag) whole (record_rows h) (rows_all h whole source_whole (in_order name_cmp (tags_of_records h))))
+      list_all-from_AllPass (has_its_sheet part) _
+          (All-filter (λ r. s.rationale r.tag) whole (record_rows h) (rows_all h whole source_whole (in_order name_cmp (tags_of_records h))))
 
   -- there is a next number of each kind
   counted : counted_for (rows_of h) q ≤ max_events
@@ -220,13 +247,19 @@ module _ (h : List Call) (legal : IsLegal h) (p : Name) (t : ℕ) (q : Request) 
     by _ = omega arith
 
   revision_left : (a : Name) → unwrap_or (option_map (λ (r : RecordEntry). r.rev) (record_found part a)) 0 ≤ max_changes
-  revision_left a = subst (λ o. unwrap_or (option_map (λ (r : RecordEntry). r.rev) o) 0 ≤ max_changes) (sym (row_at-left name_cmp record_tag name_total same_names s.rationale a (record_rows h)))
-      (elim (s.rationale a) as (λ b. unwrap_or (option_map (λ (r : RecordEntry). r.rev) (cond b (record_found (rows_of h) a) None)) 0 ≤ max_changes) [ true ↦ subst (λ n. n ≤ max_changes) (sym (revision_in h a)) (few_records h legal a) | false ↦ omega arith ])
+  revision_left a =
+      subst (λ o. unwrap_or (option_map (λ (r : RecordEntry). r.rev) o) 0 ≤ max_changes)
+      (sym (row_at-left name_cmp record_tag name_total same_names s.rationale a (record_rows h)))
+      (elim (s.rationale a) as (λ b. unwrap_or (option_map (λ (r : RecordEntry). r.rev) (cond b (record_found (rows_of h) a) None)) 0 ≤ max_changes)
+      [ true ↦ subst (λ n. n ≤ max_changes) (sym (revision_in h a)) (few_records h legal a) | false ↦ omega arith ])
 
   limit_left : (a : Name) → revision_of_limit (row_at name_cmp alarm_tag a part.alarms) ≤ max_changes
-  limit_left a = subst (λ o. revision_of_limit o ≤ max_changes) (sym (row_at-left name_cmp alarm_tag name_total same_names s.alarm a (alarm_rows h) ∙ ap (λ o. cond (s.alarm a) o None) (alarm_in h a)))
+  limit_left a =
+      subst (λ o. revision_of_limit o ≤ max_changes)
+      (sym (row_at-left name_cmp alarm_tag name_total same_names s.alarm a (alarm_rows h) ∙ ap (λ o. cond (s.alarm a) o None) (alarm_in h a)))
       (elim (s.alarm a) as (λ b. revision_of_limit (cond b (alarm_row h a) None) ≤ max_changes) [
-        | true ↦ elim (latching h a) as (λ o. revision_of_limit (option_map (alarm_of h a) o) ≤ max_changes) [ None ↦ omega arith | Some l ↦ few_limits h legal a ]
+        | true ↦ elim (latching h a) as (λ o. revision_of_limit (option_map (alarm_of h a) o) ≤ max_changes)
+            [ None ↦ omega arith | Some l ↦ few_limits h legal a ]
         | false ↦ omega arith
       ])
 
@@ -235,8 +268,10 @@ module _ (h : List Call) (legal : IsLegal h) (p : Name) (t : ℕ) (q : Request) 
       record {
         events_rise = (few_of (rows_of h) (scope_of q) (events h) (events_rise h legal) (few_events h legal)).0;
         events_few = (few_of (rows_of h) (scope_of q) (events h) (events_rise h legal) (few_events h legal)).1;
-        alarms_in_order = left_in_order name_cmp alarm_tag (λ r. s.alarm r.tag) (alarm_rows h) (IsInOrder-rows (alarm_row h) (tags_of_alarms h) (alarms_told h));
-        shelves_in_order = left_in_order name_cmp shelf_tag (λ r. s.shelf r.tag) (shelf_rows h) (IsInOrder-rows (shelf h) (tags_of_shelves h) (shelves_told h));
+        alarms_in_order =
+            left_in_order name_cmp alarm_tag (λ r. s.alarm r.tag) (alarm_rows h) (IsInOrder-rows (alarm_row h) (tags_of_alarms h) (alarms_told h));
+        shelves_in_order =
+            left_in_order name_cmp shelf_tag (λ r. s.shelf r.tag) (shelf_rows h) (IsInOrder-rows (shelf h) (tags_of_shelves h) (shelves_told h));
         records_in_order = left_in_order name_cmp record_tag (λ r. s.rationale r.tag) (record_rows h) (records_rise h);
         changes_in_order = left_in_order nat_cmp change_number (λ r. s.change r.number) (change_rows h) (changes_rise h);
         matrix_whole = matrix_whole;
@@ -269,15 +304,21 @@ module _ (h : List Call) (legal : IsLegal h) (p : Name) (t : ℕ) (q : Request) 
       }
 
   pub part_kept_of : AreKept (part_of c (rows_of h))
-  part_kept_of = elim (holds_by (rows_of h).grants t p) as (λ b. AreKept (if b then part_of_holder c (rows_of h) else part_of_stranger c (rows_of h))) [ true ↦ holder_kept | false ↦ stranger_kept ]
+  part_kept_of =
+      elim (holds_by (rows_of h).grants t p) as (λ b. AreKept (if b then
+      part_of_holder c (rows_of h) else part_of_stranger c (rows_of h))) [ true ↦ holder_kept | false ↦ stranger_kept ]
 
 -- ---- the events that a holder's call sees
 
-summaries_told : (h : List Call) (tags : List Name) → map summary_in (filter (λ (r : AlarmRow). true) (filter_map (alarm_row h) tags)) ≡ map (summary_of (events h)) (filter (λ (r : AlarmRow). true) (filter_map (alarm_row h) tags))
+summaries_told : (h : List Call) (tags : List Name)
+    → map summary_in (filter (λ (r : AlarmRow). true) (filter_map (alarm_row h) tags)) ≡ map (summary_of (events h))
+    (filter (λ (r : AlarmRow). true) (filter_map (alarm_row h) tags))
 unfolding summary
 summaries_told h [] = refl
 summaries_told h (a ∷ tags) =
-    elim (latching h a) as (λ o. map summary_in (filter (λ (r : AlarmRow). true) (cons_option (option_map (alarm_of h a) o) (filter_map (alarm_row h) tags))) ≡ map (summary_of (events h)) (filter (λ (r : AlarmRow). true) (cons_option (option_map (alarm_of h a) o) (filter_map (alarm_row h) tags)))) [
+    elim (latching h a) as
+        (λ o. map summary_in (filter (λ (r : AlarmRow). true) (cons_option (option_map (alarm_of h a) o) (filter_map (alarm_row h) tags)))
+        ≡ map (summary_of (events h)) (filter (λ (r : AlarmRow). true) (cons_option (option_map (alarm_of h a) o) (filter_map (alarm_row h) tags)))) [
       | None ↦ summaries_told h tags
       | Some l ↦ ap (λ ss. summary_of (events h) (alarm_of h a l) ∷ ss) (summaries_told h tags)
     ]
@@ -286,14 +327,20 @@ proposal_events : (part : UnitPart) (es : List Event) (k : ChangeKind) → AreEv
 proposal_events part es (Matrix m) = tt
 proposal_events part es _ = tt
 
-holder_events : (h : List Call) (legal : IsLegal h) (p : Name) (t : ℕ) (q : Request) → AreEventsFor (part_of_holder (record { person = p; moment = t; request = q }) (rows_of h)) q (events h)
-holder_events h legal p t (Import u file) = record { rise = events_rise h legal; needed_are = refl; count_is = refl; summaries = summaries_told h (in_order name_cmp (tags_of_alarms h)) }
+holder_events : (h : List Call) (legal : IsLegal h) (p : Name) (t : ℕ) (q : Request)
+    → AreEventsFor (part_of_holder (record { person = p; moment = t; request = q }) (rows_of h)) q (events h)
+holder_events h legal p t (Import u file) =
+    record { rise = events_rise h legal; needed_are = refl; count_is = refl; summaries = summaries_told h (in_order name_cmp (tags_of_alarms h)) }
 holder_events h legal p t (Floods u begin until) = refl
-holder_events h legal p t (Propose u x) = proposal_events (part_of_holder (record { person = p; moment = t; request = Propose u x }) (rows_of h)) (events h) x.kind
+holder_events h legal p t (Propose u x) =
+    proposal_events (part_of_holder (record { person = p; moment = t; request = Propose u x }) (rows_of h)) (events h) x.kind
 holder_events h legal p t _ = tt
 
-pub part_events : (h : List Call) (legal : IsLegal h) (c : Call) → holds_by (part_of c (rows_of h)).rows.grants c.moment c.person ≡ true → AreEventsFor (part_of c (rows_of h)) c.request (events h)
+pub part_events : (h : List Call) (legal : IsLegal h) (c : Call) → holds_by (part_of c (rows_of h)).rows.grants c.moment c.person ≡ true
+    → AreEventsFor (part_of c (rows_of h)) c.request (events h)
 part_events h legal c some = by (holds_by (rows_of h).grants c.moment c.person) refl some where
-  by : (b : Bool) → holds_by (rows_of h).grants c.moment c.person ≡ b → holds_by (if b then part_of_holder c (rows_of h) else part_of_stranger c (rows_of h)).rows.grants c.moment c.person ≡ true → AreEventsFor (if b then part_of_holder c (rows_of h) else part_of_stranger c (rows_of h)) c.request (events h)
+  by : (b : Bool) → holds_by (rows_of h).grants c.moment c.person ≡ b
+      → holds_by (if b then part_of_holder c (rows_of h) else part_of_stranger c (rows_of h)).rows.grants c.moment c.person ≡ true
+      → AreEventsFor (if b then part_of_holder c (rows_of h) else part_of_stranger c (rows_of h)) c.request (events h)
   by true e holds = holder_events h legal c.person c.moment c.request
   by false none holds = absurd (let no : true ≡ false = sym holds ∙ own_holds (rows_of h) c.person c.moment ∙ none in cc)

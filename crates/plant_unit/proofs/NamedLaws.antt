@@ -15,35 +15,46 @@ covered false true h = h refl
 covered _ _ h = refl
 
 -- a tag that the set has already
-pub named_before : (s : BTreeSet Name) (events : List Event) (i : ℕ) (e : Event) → i < length events → e ≡ get_or events i e → contains name_cmp s e.tag ≡ true → AreNamed s (take i events) → AreNamed s (take (i + 1) events)
+pub named_before : (s : BTreeSet Name) (events : List Event) (i : ℕ) (e : Event) → i < length events → e ≡ get_or events i e
+    → contains name_cmp s e.tag ≡ true → AreNamed s (take i events) → AreNamed s (take (i + 1) events)
 named_before s events i e lt is has are a =
     are a
-    ∙ covered (list_any (λ x. same_name a x.tag) (take i events)) (same_name a e.tag) (λ same. sym (are a) ∙ ap (contains name_cmp s) (same_names a e.tag (tied _ true same refl)) ∙ has)
-    ∙ sym (list_any_more (λ x. same_name a x.tag) events i e lt ∙ ap (λ x. list_any (λ y. same_name a y.tag) (take i events) || same_name a x.tag) (sym is))
+    ∙ covered (list_any (λ x. same_name a x.tag) (take i events)) (same_name a e.tag)
+    (λ same. sym (are a) ∙ ap (contains name_cmp s) (same_names a e.tag (tied _ true same refl)) ∙ has)
+    ∙ sym (list_any_more (λ x. same_name a x.tag) events i e lt
+    ∙ ap (λ x. list_any (λ y. same_name a y.tag) (take i events) || same_name a x.tag) (sym is))
 
 -- summaries of alarms through more events
-pub added_on : (alarms : List AlarmRow) (es events : List Event) (i : ℕ) (e : Event) (new : List Summary) → i < length events → e ≡ get_or events i e → new ≡ summaries alarms ((es ++ take i events) ++ e ∷ []) → new ≡ summaries alarms (es ++ take (i + 1) events)
+pub added_on : (alarms : List AlarmRow) (es events : List Event) (i : ℕ) (e : Event) (new : List Summary) → i < length events → e ≡ get_or events i e
+    → new ≡ summaries alarms ((es ++ take i events) ++ e ∷ []) → new ≡ summaries alarms (es ++ take (i + 1) events)
 added_on alarms es events i e new lt is so =
-    so ∙ ap (summaries alarms) (append_assoc es (take i events) (e ∷ []) ∙ ap (λ l. es ++ l) (sym (take_more events i e lt ∙ ap (λ x. take i events ++ x ∷ []) (sym is))))
+    so ∙ ap (summaries alarms)
+        (append_assoc es (take i events) (e ∷ []) ∙ ap (λ l. es ++ l) (sym (take_more events i e lt ∙ ap (λ x. take i events ++ x ∷ []) (sym is))))
 
 -- where no row is late, the kept events of an alarm with its new ones behind them are all its events
-pub go_on : (alarms : List AlarmRow) (es rows fresh : List Event) → AreAdded es rows fresh → has_late es rows ≡ false → summaries alarms (es ++ with_events [] fresh) ≡ summaries alarms (with_events es fresh)
+pub go_on : (alarms : List AlarmRow) (es rows fresh : List Event) → AreAdded es rows fresh → has_late es rows ≡ false
+    → summaries alarms (es ++ with_events [] fresh) ≡ summaries alarms (with_events es fresh)
 go_on [] es rows fresh added late = refl
 go_on (r ∷ alarms) es rows fresh added late =
     let own : of_alarm r.tag (es ++ with_events [] fresh) ≡ of_alarm r.tag (with_events es fresh) =
-    filter-append (λ x. same_name r.tag x.tag) es (with_events [] fresh) ∙ ap (λ l. of_alarm r.tag es ++ of_alarm r.tag (with_events [] l)) added.fresh_are
-    ∙ sym (fresh_after r.tag added.tags added.now 2 es rows added.rise added.no_fault late) ∙ ap (λ l. of_alarm r.tag (with_events es l)) (sym added.fresh_are) in
+    filter-append (λ x. same_name r.tag x.tag) es (with_events [] fresh)
+        ∙ ap (λ l. of_alarm r.tag es ++ of_alarm r.tag (with_events [] l)) added.fresh_are
+    ∙ sym (fresh_after r.tag added.tags added.now 2 es rows added.rise added.no_fault late)
+    ∙ ap (λ l. of_alarm r.tag (with_events es l)) (sym added.fresh_are) in
     λ i. summary r.latching (own i) ∷ go_on alarms es rows fresh added late i
 
 -- the needed events are all where a row is late
-pub late_all : (kept es rows fresh : List Event) (b : Bool) → kept ≡ needed es rows → AreAdded es rows fresh → b ≡ has_late kept rows → b ≡ true → kept ≡ es
+pub late_all : (kept es rows fresh : List Event) (b : Bool) → kept ≡ needed es rows → AreAdded es rows fresh → b ≡ has_late kept rows → b ≡ true
+    → kept ≡ es
 late_all kept es rows fresh b is added eb t =
     let late : has_late es rows ≡ true = sym (needed_late es rows added.rise) ∙ ap (λ l. has_late l rows) (sym is) ∙ sym eb ∙ t in
     is ∙ ap (λ x. if x then es else from_last_before es rows) late
 
-pub none_late : (kept es rows fresh : List Event) (b : Bool) → kept ≡ needed es rows → AreAdded es rows fresh → b ≡ has_late kept rows → b ≡ false → has_late es rows ≡ false
+pub none_late : (kept es rows fresh : List Event) (b : Bool) → kept ≡ needed es rows → AreAdded es rows fresh → b ≡ has_late kept rows → b ≡ false
+    → has_late es rows ≡ false
 none_late kept es rows fresh b is added eb f = sym (needed_late es rows added.rise) ∙ ap (λ l. has_late l rows) (sym is) ∙ sym eb ∙ f
 
 -- what a file needs of events in rising number stands in their order
 pub needed_ordered : (kept es rows fresh : List Event) → kept ≡ needed es rows → AreAdded es rows fresh → IsInOrder nat_cmp event_number kept
-needed_ordered kept es rows fresh is added = subst (λ (l : List Event). IsInOrder nat_cmp event_number l) (sym is) (in_number_order (needed es rows) (needed_rises es rows added.rise))
+needed_ordered kept es rows fresh is added =
+    subst (λ (l : List Event). IsInOrder nat_cmp event_number l) (sym is) (in_number_order (needed es rows) (needed_rises es rows added.rise))

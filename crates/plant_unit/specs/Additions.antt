@@ -39,7 +39,8 @@ pub record AreEventsOf (part : UnitPart) (rows es : List Event) : Type 0 where
 
 -- by all events of the unit: what a file's rows add at a moment, or why they are refused
 abbrev pub GivesAddition : {E : Type 0} → UnitPart → ℕ → List Event → Result (Result Merged Refused) E → Type 0
-GivesAddition part t rows said = (es : List Event) → AreEventsOf part rows es → Gives said (addition (facts_among part es) t rows)
+GivesAddition part t rows said = (es : List Event) → AreEventsOf part rows es
+    → Gives said (addition (facts_among part es) t rows)
 
 -- the events that a request sees in a part: an import those of which it has some, a list of floods those that it has
 abbrev pub AreEventsIn : UnitPart → Scope → List Event → Type 0
@@ -71,8 +72,10 @@ pub record AreAdded (es rows added : List Event) : Type 0 where
 -- by all events of the unit: the changes of an import that adds these of a file's rows at a moment
 abbrev pub GivesImport : {E : Type 0} → UnitPart → ℕ → List Event → List Event → Result (List RowEdit) E → Type 0
 GivesImport part t rows added said =
-    IsInOrder name_cmp alarm_tag part.rows.alarms → (u : Name) (es : List Event) → AreEventsOf part rows es → AreAdded es rows added
-    → Gives said (Put (UnitPut (unit_after (facts_among part es) t (Import u (Ok rows)))) ∷ import_changes (facts_among part es) rows)
+    IsInOrder name_cmp alarm_tag part.rows.alarms → (u : Name) (es : List Event) → AreEventsOf part rows es
+        → AreAdded es rows added
+    → Gives said (Put (UnitPut (unit_after (facts_among part es) t (Import u (Ok rows))))
+    ∷ import_changes (facts_among part es) rows)
 
 -- what the parts of a legal history keep
 pub record AreKept (part : UnitPart) : Type 0 where
@@ -84,11 +87,14 @@ pub record AreKept (part : UnitPart) : Type 0 where
   pub records_in_order : IsInOrder name_cmp record_tag part.rows.records
   pub changes_in_order : IsInOrder nat_cmp change_number part.rows.changes
   -- the matrix in force, where the part has cells of it, is a matrix
-  pub matrix_whole : (is_left_out part.rows (unit_read part.rows).matrix_no || is_matrix_at part.rows (unit_read part.rows).matrix_no) ≡ true
+  pub matrix_whole : (is_left_out part.rows (unit_read part.rows).matrix_no
+      || is_matrix_at part.rows (unit_read part.rows).matrix_no) ≡ true
   -- a change has what its kind needs: the columns, or the rows of a matrix
-  pub changes_whole : (n : ℕ) (c : ChangeEntry) → change_found part.rows n ≡ Some c → has_kind part.rows c c.kind_no ≡ true
+  pub changes_whole : (n : ℕ) (c : ChangeEntry) → change_found part.rows n ≡ Some c
+      → has_kind part.rows c c.kind_no ≡ true
   -- and nothing else: its row is that of the change that is read from it
-  pub changes_read : (n : ℕ) (c : ChangeEntry) → change_found part.rows n ≡ Some c → change_entry (change_read part.rows c) ≡ c
+  pub changes_read : (n : ℕ) (c : ChangeEntry) → change_found part.rows n ≡ Some c
+      → change_entry (change_read part.rows c) ≡ c
   -- the change that a record came from, where the part has it, has the columns of a sheet
   pub records_whole : list_all (has_its_sheet part.rows) part.rows.records ≡ true
   -- there is a next number of each kind

@@ -22,7 +22,9 @@ kind_columns k =
 
 -- the row of a change with this number that is proposed by a call
 abbrev pub proposed_entry : ℕ → Call → Proposal → ChangeEntry
-proposed_entry number c x = change_entry (change_as number None (record { proposer = c.person; proposed = c.moment; kind = x.kind; base = x.base }))
+proposed_entry number c x =
+    change_entry (change_as number None (record { proposer = c.person; proposed = c.moment; kind = x.kind;
+    base = x.base }))
 
 -- puts the row of a change that the caller decides
 abbrev pub decided_put : ChangeState → Call → ChangeEntry → RowEdit
@@ -30,7 +32,8 @@ decided_put state c e = Put (ChangePut (decided_row state c.person c.moment e))
 
 -- from a part of a legal history: the record of a row, which has its sheet, with its priority by a matrix
 abbrev pub GivesRerated : {E : Type 0} → UnitPart → Grid → RecordEntry → Result (Option RecordEntry) E → Type 0
-GivesRerated part matrix row said = AreKept part → has_its_sheet part.rows row ≡ true → Gives said (option_map (rerated matrix) (record_read part.rows row))
+GivesRerated part matrix row said = AreKept part → has_its_sheet part.rows row ≡ true
+    → Gives said (option_map (rerated matrix) (record_read part.rows row))
 
 -- puts the records of all alarms, with their priorities by a matrix
 abbrev pub rerated_puts : Grid → Facts → List RowEdit

@@ -6,7 +6,8 @@ use Rattle.plant_types.specs.Moment.{is_moment}
 
 -- the line of a run, if it starts and ends at moments
 abbrev pub IsLineOf : ℕ → Run → FloodLine → Type 0
-IsLineOf begin run line = IsTrue (is_moment (begin + 600 * run.first)) → IsTrue (is_moment (begin + 600 * run.last + 600)) → line ≡ flood_line begin run
+IsLineOf begin run line = IsTrue (is_moment (begin + 600 * run.first))
+    → IsTrue (is_moment (begin + 600 * run.last + 600)) → line ≡ flood_line begin run
 
 -- a run of periods of ten minutes from the first moment on ends by the second
 abbrev pub EndsBy : ℕ → ℕ → Run → Type 0

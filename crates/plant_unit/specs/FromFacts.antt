@@ -15,12 +15,15 @@ abbrev pub GivesFrom : {A E : Type 0} → UnitPart → Result A E → (Facts →
 GivesFrom part said this = AreKept part → IfOk said (λ x. x ≡ this (facts_in part))
 
 -- from a part of a legal history: if it succeeds, it adds these changes by the part's facts
-abbrev pub AddsFrom : {A E : Type 0} → UnitPart → Result A E → List RowEdit → List RowEdit → (Facts → List RowEdit) → Type 0
+abbrev pub AddsFrom : {A E : Type 0} → UnitPart → Result A E → List RowEdit → List RowEdit → (Facts → List RowEdit)
+    → Type 0
 AddsFrom part said before after these = AreKept part → OnOk said (after ≡ before ++ these (facts_in part))
 
 -- from a part of a legal history: if it succeeds, it adds the changes of a proposal
-abbrev pub AddsProposal : {A E : Type 0} → UnitPart → Call → Proposal → List RowEdit → List RowEdit → Result A E → Type 0
-AddsProposal part c proposal before after said = AreKept part → (u : Name) → OnOk said (after ≡ before ++ own_changes (facts_in part) c.person c.moment (Propose u proposal))
+abbrev pub AddsProposal : {A E : Type 0} → UnitPart → Call → Proposal → List RowEdit → List RowEdit → Result A E
+    → Type 0
+AddsProposal part c proposal before after said = AreKept part → (u : Name)
+    → OnOk said (after ≡ before ++ own_changes (facts_in part) c.person c.moment (Propose u proposal))
 
 -- the first refusal of a change of a kind with this base, if any
 abbrev pub refusal_of_kind : UnitPart → ℕ → ChangeKind → Option Refused
@@ -32,7 +35,8 @@ RefusesFrom part base kind said = AreKept part → Gives said (refusal_of_kind p
 
 -- from a part of a legal history: the first refusal of a request on any unit, whoever makes it and when, if any
 abbrev pub RefusesAlways : {E : Type 0} → UnitPart → (Name → Request) → Result (Option Refused) E → Type 0
-RefusesAlways part request said = AreKept part → (t : ℕ) (p u : Name) → Gives said (first_refusal (own_refusals (facts_in part) p t (request u)))
+RefusesAlways part request said = AreKept part → (t : ℕ) (p u : Name)
+    → Gives said (first_refusal (own_refusals (facts_in part) p t (request u)))
 
 -- the one change that is decided, or its refusal
 abbrev pub GivesOne : {E : Type 0} → Result (Result RowEdit Refused) E → Result (List RowEdit) Refused → Type 0
@@ -68,12 +72,15 @@ AnswersAlways part request said = (t : ℕ) (p u : Name) → Answers part p t (r
 
 -- from a part of a legal history: the verdict on a change that the caller may approve
 abbrev pub ApprovesFrom : {E : Type 0} → UnitPart → Call → ChangeRow → ChangeEntry → Result Verdict E → Type 0
-ApprovesFrom part c change entry said = AreKept part → IfOk said (IsApproved (facts_in part) c.person c.moment change entry)
+ApprovesFrom part c change entry said = AreKept part
+    → IfOk said (IsApproved (facts_in part) c.person c.moment change entry)
 
 -- from a part of a legal history: the verdict on a call that makes this request
 abbrev pub JudgesFrom : {E : Type 0} → UnitPart → Call → (Name → Request) → Result Verdict E → Type 0
-JudgesFrom part c request said = AreKept part → (u : Name) → c.request ≡ request u → IfOk said (IsJudgedOwn (facts_in part) c)
+JudgesFrom part c request said = AreKept part → (u : Name) → c.request ≡ request u
+    → IfOk said (IsJudgedOwn (facts_in part) c)
 
 -- from a part of a legal history: the verdict on an import of this file, by all events of the unit
 abbrev pub JudgesImport : {E : Type 0} → UnitPart → Call → Result (List Event) BadFile → Result Verdict E → Type 0
-JudgesImport part c file said = AreKept part → (u : Name) (es : List Event) → c.request ≡ Import u file → AreEventsFor part c.request es → IfOk said (IsJudgedOwn (facts_among part es) c)
+JudgesImport part c file said = AreKept part → (u : Name) (es : List Event) → c.request ≡ Import u file
+    → AreEventsFor part c.request es → IfOk said (IsJudgedOwn (facts_among part es) c)

@@ -35,7 +35,8 @@ own_answer f p t r = refused_or (first_refusal (own_refusals f p t r)) (reply f 
 
 -- of a change whose row is this: the first of the refusals of a call on it, if any
 abbrev pub IsRefusalOf : ChangeEntry → (ChangeRow → List (Bool × Refused)) → Option Refused → Type 0
-IsRefusalOf e refusals refused = (rows : UnitRows) → refused ≡ first_refusal (of_change (Some (change_read rows e)) refusals)
+IsRefusalOf e refusals refused = (rows : UnitRows)
+    → refused ≡ first_refusal (of_change (Some (change_read rows e)) refusals)
 
 -- refused to a person who did not propose the change
 abbrev pub if_not_proposer : Name → ChangeRow → List (Bool × Refused)
@@ -51,14 +52,17 @@ base_refusal base revision = first_refusal (base_changed base revision ∷ [])
 
 -- the refusals of a sheet by a matrix
 abbrev pub sheet_refusals : Grid → ℕ → ℕ → List (Bool × Refused)
-sheet_refusals m severity response = (not (has_row m severity), OutsideMatrix) ∷ (is_not_needed (priority_of m severity response), NotAnAlarm) ∷ []
+sheet_refusals m severity response =
+    (not (has_row m severity), OutsideMatrix) ∷ (is_not_needed (priority_of m severity response), NotAnAlarm) ∷ []
 
 -- the priority of a sheet by a matrix, and that of a record with this base by the matrix in force, or the first refusal
 abbrev pub sheet_decision : Grid → ℕ → ℕ → Result Cell Refused
-sheet_decision m severity response = decided_or (first_refusal (sheet_refusals m severity response)) (priority_by m severity response)
+sheet_decision m severity response =
+    decided_or (first_refusal (sheet_refusals m severity response)) (priority_by m severity response)
 
 abbrev pub record_decision : Facts → ℕ → Name → Sheet → Result Cell Refused
-record_decision f base a s = decided_or (first_refusal (kind_refusals f base (Rationale a s))) (priority_by f.matrix s.severity s.response)
+record_decision f base a s =
+    decided_or (first_refusal (kind_refusals f base (Rationale a s))) (priority_by f.matrix s.severity s.response)
 
 -- a verdict that makes the change of a decision and that of the unit's row, and one that only answers
 abbrev pub done_as : UnitRow → Result RowEdit Refused → Verdict
@@ -98,7 +102,8 @@ pub record IsJudged (f : Facts) (c : Call) (v : Verdict) : Type 0 where
 -- the verdict that the facts give to one who may make the call: by the request's own refusals
 pub record IsJudgedOwn (f : Facts) (c : Call) (v : Verdict) : Type 0 where
   pub answer : answer_in v ≡ own_answer f c.person c.moment c.request
-  pub changes : changes_in v ≡ (if changes_history (own_answer f c.person c.moment c.request) c then changes_for f c else [])
+  pub changes : changes_in v
+      ≡ (if changes_history (own_answer f c.person c.moment c.request) c then changes_for f c else [])
 
 -- the row of a change that a person decides at a moment
 abbrev pub decided_row : ChangeState → Name → ℕ → ChangeEntry → ChangeEntry
@@ -107,13 +112,17 @@ decided_row state p t e = record e { state_no = state; decider = Some p; decided
 -- what is answered where a change may be approved: the refusals of its base and its content, else it comes into force
 pub record IsApproved (f : Facts) (p : Name) (t : ℕ) (c : ChangeRow) (e : ChangeEntry) (v : Verdict) : Type 0 where
   pub answer : answer_in v ≡ refused_or (first_refusal (kind_refusals f c.base c.kind)) Done
-  pub changes : changes_in v ≡ (if is_ok (answer_in v) then Put (UnitPut (kind_row t f.unit c.number c.kind)) ∷ Put (ChangePut (decided_row Approved p t e)) ∷ in_force f c.number c.kind else [])
+  pub changes : changes_in v
+      ≡ (if is_ok (answer_in v) then
+      Put (UnitPut (kind_row t f.unit c.number c.kind)) ∷ Put (ChangePut (decided_row Approved p t e))
+      ∷ in_force f c.number c.kind else [])
 
 -- the refusals of one who may not make the call, or not any more at its moment
 abbrev pub holder_refusals : Facts → Call → List (Bool × Refused)
 holder_refusals f c =
     (not (holds_some f c.moment c.person), NotGranted)
-    ∷ (lacks_role f c.moment c.person (role_needed c.request) ++ (nat_lt c.moment (last_of f), MomentBehind (last_of f)) ∷ [])
+    ∷ (lacks_role f c.moment c.person (role_needed c.request) ++ (nat_lt c.moment (last_of f), MomentBehind (last_of f))
+    ∷ [])
 
 -- the verdict on a unit of this history; the changes turn its rows into those of the history with the call, and put the unit's row
 pub record IsVerdictOn (h : List Call) (c : Call) (v : Verdict) : Type 0 where

@@ -24,7 +24,8 @@ shelf_change a p words (OneShot start until) = Put (ShelfPut (shelf_row_as true 
 
 -- what is decided about a shelving whose alarm allows it: its change, unless the unit's quota is used up
 abbrev pub shelf_decision : UnitPart → Call → Name → Name → Shelf → Result (List RowEdit) Refused
-shelf_decision part c a words shelf = decided_or (first_refusal (over_quota (facts_in part) a c.moment ∷ [])) (shelf_change a c.person words shelf ∷ [])
+shelf_decision part c a words shelf =
+    decided_or (first_refusal (over_quota (facts_in part) a c.moment ∷ [])) (shelf_change a c.person words shelf ∷ [])
 
 -- the row is the shelf of another alarm, and that alarm is shelved at the moment
 abbrev pub is_other_shelved : Facts → Name → ShelfRow → ℕ → Bool

@@ -15,7 +15,8 @@ summaries alarms es = map (summary_of es) alarms
 
 -- the row with a summary in its columns
 abbrev pub with_summary : AlarmRow → Summary → AlarmRow
-with_summary r s = record r { state_no = s.state; suppressed = s.suppressed; active_s = s.active_since; return_s = s.last_return }
+with_summary r s =
+    record r { state_no = s.state; suppressed = s.suppressed; active_s = s.active_since; return_s = s.last_return }
 
 -- one of the events is the alarm's
 abbrev pub is_named : List Event → AlarmRow → Bool
@@ -23,7 +24,8 @@ is_named es r = list_any (λ e. same_name r.tag e.tag) es
 
 -- what a row's columns say
 abbrev pub summary_in : AlarmRow → Summary
-summary_in r = record { state = r.state_no; suppressed = r.suppressed; active_since = r.active_s; last_return = r.return_s }
+summary_in r =
+    record { state = r.state_no; suppressed = r.suppressed; active_since = r.active_s; last_return = r.return_s }
 
 -- the columns of each alarm are computed from its events
 abbrev pub HaveSummaries : List AlarmRow → List Event → Type 0

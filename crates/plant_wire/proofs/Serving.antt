@@ -41,13 +41,15 @@ parsed_more a b r ms ns first later =
     subst (λ (x : List Item). Parsed a x r) (sym (map-append item_of ms ns)) (Parsed-trans a b r (map item_of ms) (map item_of ns) first later)
 
 module _ {first second both : List Call → List Answer → Type 0} (joins : Joins first second both) where
-  ran_more : (ms ns : List Mark) → first (calls_of ms) (answers_of ms) → second (calls_of ns) (answers_of ns) → both (calls_of (ms ++ ns)) (answers_of (ms ++ ns))
+  ran_more : (ms ns : List Mark) → first (calls_of ms) (answers_of ms) → second (calls_of ns) (answers_of ns)
+      → both (calls_of (ms ++ ns)) (answers_of (ms ++ ns))
   ran_more ms ns a b =
       subst (λ (x : List Call). both x (answers_of (ms ++ ns))) (sym (filter_map-append call_in ms ns))
       (subst (λ (y : List Answer). both (calls_of ms ++ calls_of ns) y) (sym (filter_map-append answer_in ms ns))
       (joins.join (calls_of ms) (calls_of ns) (answers_of ms) (answers_of ns) a b))
 
-  pub serves_more : (bytes mid rest : List ℕ) (u v w : Option (List ℕ)) → AnswersFront bytes u v first mid → AnswersFront mid v w second rest → AnswersFront bytes u w both rest
+  pub serves_more : (bytes mid rest : List ℕ) (u v w : Option (List ℕ)) → AnswersFront bytes u v first mid → AnswersFront mid v w second rest
+      → AnswersFront bytes u w both rest
   serves_more bytes mid rest u v w a b = record {
     marks = a.marks ++ b.marks;
     parses = parsed_more bytes mid rest a.marks b.marks a.parses b.parses;
@@ -55,7 +57,8 @@ module _ {first second both : List Call → List Answer → Type 0} (joins : Joi
     served = ran_more a.marks b.marks a.served b.served;
   }
 
-  pub serves_then_broken : (bytes mid : List ℕ) (u v w : Option (List ℕ)) → AnswersFront bytes u v first mid → ServesBroken mid v w second → ServesBroken bytes u w both
+  pub serves_then_broken : (bytes mid : List ℕ) (u v w : Option (List ℕ)) → AnswersFront bytes u v first mid → ServesBroken mid v w second
+      → ServesBroken bytes u w both
   serves_then_broken bytes mid u v w a b =
       let all : Appends u w (out_of a.marks ++ (out_of b.marks ++ cause_text b.cause)) = Appends-trans u v w _ _ a.writes b.writes in
       record {
@@ -68,7 +71,8 @@ module _ {first second both : List Call → List Answer → Type 0} (joins : Joi
         served = ran_more a.marks b.marks a.served b.served;
       }
 
-  pub serves_then_part : (bytes mid : List ℕ) (u v w : Option (List ℕ)) (stop : Stop) → AnswersFront bytes u v first mid → IsStopped mid v w second stop
+  pub serves_then_part : (bytes mid : List ℕ) (u v w : Option (List ℕ)) (stop : Stop) → AnswersFront bytes u v first mid
+      → IsStopped mid v w second stop
       → IsStopped bytes u w both stop
   serves_then_part bytes mid u v w stop a (b, why) =
       let all : Appends u w (out_of a.marks ++ (out_of b.marks ++ take b.part (last_text b.last))) = Appends-trans u v w _ _ a.writes b.writes in
@@ -108,7 +112,8 @@ module _ {ran : List Call → List Answer → Type 0} where
 
   pub serves_stopped : (bytes : List ℕ) (o o' : Option (List ℕ)) (stop : Stop) → AnswersPart bytes o o' ran stop → IsStopped bytes o o' ran stop
   serves_stopped bytes o o' stop it =
-      (record { marks = []; rest = bytes; last = it.last; part = it.part; parses = refl; stands = it.stands; writes = it.writes; served = it.served }, it.why)
+      (record { marks = []; rest = bytes; last = it.last; part = it.part; parses = refl; stands = it.stands; writes = it.writes;
+      served = it.served }, it.why)
 
   -- nothing of an answer was written
   pub part_none : (bytes : List ℕ) (o : Option (List ℕ)) → ran [] [] → AnswersPart bytes o o ran Fault
@@ -119,7 +124,8 @@ module _ {ran : List Call → List Answer → Type 0} where
 
   -- a part of the answer to one request
   pub part_one : (bytes : List ℕ) (o o' : Option (List ℕ)) (m : Mark) (n part : ℕ) (stop : Stop) → StandsAtFront bytes (whole (item_of m) n)
-      → Appends o o' (take part (mark_text m)) → ran (calls_of (m ∷ [])) (answers_of (m ∷ [])) → StopsFor (begun m) stop → AnswersPart bytes o o' ran stop
+      → Appends o o' (take part (mark_text m)) → ran (calls_of (m ∷ [])) (answers_of (m ∷ [])) → StopsFor (begun m) stop
+      → AnswersPart bytes o o' ran stop
   part_one bytes o o' m n part stop front writes ran_it why =
       record { last = begun m; part = part; stands = (n, front); writes = writes; served = ran_it; why = why }
 
@@ -149,7 +155,9 @@ module _ {first second both : List Call → List Answer → Type 0} (joins : Joi
   pub one_from : (bytes : List ℕ) (at n : ℕ) (mid : List ℕ) (u v w : Option (List ℕ)) → mid ≡ drop at bytes
       → AnswersFront bytes u v first (drop at bytes) → AnswersOne mid v w second n → AnswersFront bytes u w both (drop (at + n) bytes)
   one_from bytes at n mid u v w is a b =
-      let more = serves_more joins bytes (drop at bytes) (drop n mid) u v w a (subst (λ (x : List ℕ). AnswersFront x v w second (drop n mid)) is (serves_one mid v w n b)) in
+      let more =
+          serves_more joins bytes (drop at bytes)
+          (drop n mid) u v w a (subst (λ (x : List ℕ). AnswersFront x v w second (drop n mid)) is (serves_one mid v w n b)) in
       subst (λ (x : List ℕ). AnswersFront bytes u w both x) (ap (drop n) is ∙ sym (drop-add at n bytes)) more
 
   pub broken_from : (bytes : List ℕ) (at : ℕ) (mid : List ℕ) (u v w : Option (List ℕ)) → mid ≡ drop at bytes
@@ -160,19 +168,22 @@ module _ {first second both : List Call → List Answer → Type 0} (joins : Joi
   pub part_from : (bytes : List ℕ) (at : ℕ) (mid : List ℕ) (u v w : Option (List ℕ)) (stop : Stop) → mid ≡ drop at bytes
       → AnswersFront bytes u v first (drop at bytes) → AnswersPart mid v w second stop → IsStopped bytes u w both stop
   part_from bytes at mid u v w stop is a b =
-      serves_then_part joins bytes (drop at bytes) u v w stop a (subst (λ (x : List ℕ). IsStopped x v w second stop) is (serves_stopped mid v w stop b))
+      serves_then_part joins bytes (drop at bytes) u v w stop a
+          (subst (λ (x : List ℕ). IsStopped x v w second stop) is (serves_stopped mid v w stop b))
 
   pub waits_from : (bytes : List ℕ) (at more : ℕ) (mid : List ℕ) (u v w : Option (List ℕ)) → mid ≡ drop at bytes
       → AnswersFront bytes u v first (drop at bytes) → IsUnfinished mid v w second more
       → StandsAtFront (drop at bytes) waits × AnswersFront bytes u w both (drop at bytes) × WaitsBelow (drop at bytes) more
   waits_from bytes at more mid u v w is a b = (
     subst (λ (x : List ℕ). StandsAtFront x waits) is b.stands,
-    serves_more joins bytes (drop at bytes) (drop at bytes) u v w a (subst (λ (x : List ℕ). AnswersFront x v w second x) is (serves_still mid v w b.writes b.served)),
+    serves_more joins bytes (drop at bytes)
+        (drop at bytes) u v w a (subst (λ (x : List ℕ). AnswersFront x v w second x) is (serves_still mid v w b.writes b.served)),
     subst (λ (x : List ℕ). WaitsBelow x more) is b.wanted_is,
   )
 
 -- the answer to a call was put
 pub answer_put : (o o' : Option (List ℕ)) (ran : List Call → List Answer → Type 0) (call : Call) (answer : Answer) (r : Result (Unit {0}) Stop)
-    → IsPut o o' (text_of answer) r → IfErr r (λ stop. StopsFor (begun (said call answer)) stop) → ran (call ∷ []) (answer ∷ []) → IsAnswer o o' ran call r
+    → IsPut o o' (text_of answer) r → IfErr r (λ stop. StopsFor (begun (said call answer)) stop) → ran (call ∷ []) (answer ∷ [])
+    → IsAnswer o o' ran call r
 answer_put o o' ran call answer (Ok u) put why ran_it = (answer, put, ran_it)
 answer_put o o' ran call answer (Err stop) put why ran_it = (answer, put.0, put.1, ran_it, why)

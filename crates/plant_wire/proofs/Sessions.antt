@@ -40,7 +40,8 @@ module _ {r r' o o' : Option (List ℕ)} {ran : List Call → List Answer → Ty
   pub ends_cut : (r'' : Option (List ℕ)) (e : Bool) → IsTrue e → IsAtEnd r'' → Consumes r' r'' [] → 0 < length buffer
       → (bytes : List ℕ) × Consumes r r'' bytes × (ServesBroken bytes o o' ran ⊎ IsCutShort bytes r'' e o o' ran)
   ends_cut r'' e seen left none some =
-      (at.bytes, no_more r'' none, inr (record { seen = seen; nothing_left = left; rest = buffer; some = some; waiting = waiting at.idle; serves = at.serves }))
+      (at.bytes, no_more r'' none, inr (record { seen = seen; nothing_left = left; rest = buffer; some = some; waiting = waiting at.idle;
+      serves = at.serves }))
     where
       waiting : IsIdle buffer → StandsAtFront buffer waits
       waiting (inl is) = let e = ap length is in absurd (omega arith)

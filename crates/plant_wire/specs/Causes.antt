@@ -54,7 +54,8 @@ cause_status NotOrdered = 400
 
 -- the body of the answer: name and number
 unfoldable pub cause_body : Cause → List ℕ
-cause_body cause = codes "{\"cause\":" ++ quoted (cause_name cause) ++ codes ",\"malformed\":" ++ decimal (cause_no cause) ++ codes "}"
+cause_body cause =
+    codes "{\"cause\":" ++ quoted (cause_name cause) ++ codes ",\"malformed\":" ++ decimal (cause_no cause) ++ codes "}"
 
 -- the whole answer
 unfoldable pub cause_text : Cause → List ℕ

@@ -14,12 +14,17 @@ RanOn b before after = Ran (books_state b before) (books_state b after) (b.store
 -- one read, and what waits for the next request before and after it
 abbrev pub ReadsOn : {I : Type 0} → inlet.Ghosts I → I → I → List ℕ → List ℕ → Read → Type 0
 ReadsOn i from to before after read =
-    IsRead (i.remaining from) (i.remaining to) (i.ended from) (i.ended to) (i.failures from) (i.failures to) (i.reads from) (i.reads to) before after read
+    IsRead (i.remaining from) (i.remaining to) (i.ended from) (i.ended to) (i.failures from) (i.failures to)
+        (i.reads from) (i.reads to) before after read
 
 -- a session from a reader to a writer
-abbrev pub IsSessionOn : {I O : Type 0} → inlet.Ghosts I → outlet.Ghosts O → I → I → O → O → (List Call → List Answer → Type 0) → End → Type 0
-IsSessionOn i o from to before after ran end = IsSession (i.remaining from) (i.remaining to) (i.ended to) (o.written before) (o.written after) ran end
+abbrev pub IsSessionOn : {I O : Type 0} → inlet.Ghosts I → outlet.Ghosts O → I → I → O → O
+    → (List Call → List Answer → Type 0) → End → Type 0
+IsSessionOn i o from to before after ran end =
+    IsSession (i.remaining from) (i.remaining to) (i.ended to) (o.written before) (o.written after) ran end
 
 -- which of its reads and writes failed, by its end
 abbrev pub StopsOn : {I O : Type 0} → inlet.Ghosts I → outlet.Ghosts O → I → I → O → O → End → Type 0
-StopsOn i o from to before after end = StopsAs (i.ended from) (i.ended to) (i.failures from) (i.failures to) (i.reads from) (i.reads to) (o.failures before) (o.failures after) end
+StopsOn i o from to before after end =
+    StopsAs (i.ended from) (i.ended to) (i.failures from) (i.failures to) (i.reads from) (i.reads to)
+    (o.failures before) (o.failures after) end

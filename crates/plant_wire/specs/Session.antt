@@ -12,11 +12,14 @@ use Rattle.plant_wire.specs.declared.reads.Read.TheVariants as read
 -- how one read went, and the buffer before and after
 abbrev pub IsRead : Option (List ℕ) → Option (List ℕ) → Bool → Bool → ℕ → ℕ → ℕ → ℕ → List ℕ → List ℕ → Read → Type 0
 IsRead unread unread_after ended ended_after failed failed_after reads reads_after old new read.More =
-    (bytes : List ℕ) × Consumes unread unread_after bytes × (new ≡ old ++ bytes) × (failed_after ≡ failed) × (reads_after ≡ reads + 1) × (ended_after ≡ ended)
+    (bytes : List ℕ) × Consumes unread unread_after bytes × (new ≡ old ++ bytes) × (failed_after ≡ failed)
+    × (reads_after ≡ reads + 1) × (ended_after ≡ ended)
 IsRead unread unread_after ended ended_after failed failed_after reads reads_after old new read.Finished =
-    Consumes unread unread_after [] × (new ≡ old) × (failed_after ≡ failed) × IsTrue ended_after × IsAtEnd unread_after × (reads_after ≡ reads + 1)
+    Consumes unread unread_after [] × (new ≡ old) × (failed_after ≡ failed) × IsTrue ended_after × IsAtEnd unread_after
+        × (reads_after ≡ reads + 1)
 IsRead unread unread_after ended ended_after failed failed_after reads reads_after old new read.Failed =
-    Consumes unread unread_after [] × (new ≡ old) × (failed_after ≡ 1) × (reads ≤ reads_after) × (reads_after ≤ reads + 1) × (ended_after ≡ ended)
+    Consumes unread unread_after [] × (new ≡ old) × (failed_after ≡ 1) × (reads ≤ reads_after)
+        × (reads_after ≤ reads + 1) × (ended_after ≡ ended)
 IsRead unread unread_after ended ended_after failed failed_after reads reads_after old new read.Fault =
     (bytes : List ℕ) × Consumes unread unread_after bytes × (failed_after ≡ failed) × (reads_after ≡ reads + 1)
 
@@ -25,7 +28,8 @@ abbrev pub IsIdle : List ℕ → Type 0
 IsIdle rest = (rest ≡ []) ⊎ StandsAtFront rest waits
 
 -- the input ended, and what was left is not a whole request
-pub record IsCutShort (bytes : List ℕ) (unread_after : Option (List ℕ)) (ended : Bool) (written written_after : Option (List ℕ)) (ran : List Call → List Answer → Type 0) : Type 0 where
+pub record IsCutShort (bytes : List ℕ) (unread_after : Option (List ℕ)) (ended : Bool)
+    (written written_after : Option (List ℕ)) (ran : List Call → List Answer → Type 0) : Type 0 where
   pub seen : IsTrue ended
   pub nothing_left : IsAtEnd unread_after
   pub rest : List ℕ
@@ -37,7 +41,8 @@ pub record IsCutShort (bytes : List ℕ) (unread_after : Option (List ℕ)) (end
 -- input ended within a request. ReadFailed: each whole request was answered. WriteFailed, Fault: the requests at the front
 -- were answered whole, and of at most one more a part of its answer was written; those behind it were not answered. At
 -- Fault that one is not a call that got a fault of the office.
-abbrev pub EndsAs : List ℕ → Option (List ℕ) → Bool → Option (List ℕ) → Option (List ℕ) → (List Call → List Answer → Type 0) → End → Type 0
+abbrev pub EndsAs : List ℕ → Option (List ℕ) → Bool → Option (List ℕ) → Option (List ℕ)
+    → (List Call → List Answer → Type 0) → End → Type 0
 EndsAs bytes unread_after ended written written_after ran Closed =
     IsTrue ended × IsAtEnd unread_after × AnswersFront bytes written written_after ran []
 EndsAs bytes unread_after ended written written_after ran BrokenInput =
@@ -49,20 +54,26 @@ EndsAs bytes unread_after ended written written_after ran Fault =
     (s : ServesPart bytes written written_after ran) × IsFaultless s.last
 
 -- the bytes received, and what was done with them
-abbrev pub IsSession : Option (List ℕ) → Option (List ℕ) → Bool → Option (List ℕ) → Option (List ℕ) → (List Call → List Answer → Type 0) → End → Type 0
+abbrev pub IsSession : Option (List ℕ) → Option (List ℕ) → Bool → Option (List ℕ) → Option (List ℕ)
+    → (List Call → List Answer → Type 0) → End → Type 0
 IsSession unread unread_after ended written written_after ran end =
-    (bytes : List ℕ) × Consumes unread unread_after bytes × EndsAs bytes unread_after ended written written_after ran end
+    (bytes : List ℕ) × Consumes unread unread_after bytes
+    × EndsAs bytes unread_after ended written written_after ran end
 
 -- which reads and writes failed, by the end: none but at ReadFailed, where one did or 1,000,000 were made, of which none saw the
 -- input's end, and at WriteFailed
 abbrev pub StopsAs : Bool → Bool → ℕ → ℕ → ℕ → ℕ → ℕ → ℕ → End → Type 0
-StopsAs ended ended_after failed failed_after reads reads_after lost lost_after Closed = (failed_after ≡ failed) × (lost_after ≡ lost)
+StopsAs ended ended_after failed failed_after reads reads_after lost lost_after Closed = (failed_after ≡ failed)
+    × (lost_after ≡ lost)
 StopsAs ended ended_after failed failed_after reads reads_after lost lost_after BrokenInput =
     (failed_after ≡ failed) × (lost_after ≡ lost)
 StopsAs ended ended_after failed failed_after reads reads_after lost lost_after ReadFailed =
-    ((failed_after ≡ 1) ⊎ ((failed_after ≡ failed) × (reads_after ≡ reads + max_reads))) × (lost_after ≡ lost) × (ended_after ≡ ended)
-StopsAs ended ended_after failed failed_after reads reads_after lost lost_after WriteFailed = (failed_after ≡ failed) × (lost_after ≡ 1)
-StopsAs ended ended_after failed failed_after reads reads_after lost lost_after Fault = (failed_after ≡ failed) × (lost_after ≡ lost)
+    ((failed_after ≡ 1) ⊎ ((failed_after ≡ failed) × (reads_after ≡ reads + max_reads))) × (lost_after ≡ lost)
+    × (ended_after ≡ ended)
+StopsAs ended ended_after failed failed_after reads reads_after lost lost_after WriteFailed = (failed_after ≡ failed)
+    × (lost_after ≡ 1)
+StopsAs ended ended_after failed failed_after reads reads_after lost lost_after Fault = (failed_after ≡ failed)
+    × (lost_after ≡ lost)
 
 -- how many reads were made, whatever the end
 abbrev pub IsFewReads : ℕ → ℕ → Type 0

@@ -26,21 +26,25 @@ StopsFor last WriteFailed = Unit {0}
 StopsFor last Fault = IsFaultless last
 
 -- the call was made, and its answer written whole or in part
-abbrev pub IsAnswer : Option (List ℕ) → Option (List ℕ) → (List Call → List Answer → Type 0) → Call → Result (Unit {0}) Stop → Type 0
+abbrev pub IsAnswer : Option (List ℕ) → Option (List ℕ) → (List Call → List Answer → Type 0) → Call
+    → Result (Unit {0}) Stop → Type 0
 IsAnswer written written_after ran call (Ok u) =
     (answer : Answer) × Appends written written_after (text_of answer) × ran (call ∷ []) (answer ∷ [])
 IsAnswer written written_after ran call (Err stop) =
-    (answer : Answer) × (part : ℕ) × Appends written written_after (take part (text_of answer)) × ran (call ∷ []) (answer ∷ []) × StopsFor (begun (said call answer)) stop
+    (answer : Answer) × (part : ℕ) × Appends written written_after (take part (text_of answer))
+    × ran (call ∷ []) (answer ∷ []) × StopsFor (begun (said call answer)) stop
 
 -- the requests at the front of the bytes were answered, each once and in order, and this is left
-pub record AnswersFront (bytes : List ℕ) (written written_after : Option (List ℕ)) (ran : List Call → List Answer → Type 0) (rest : List ℕ) : Type 0 where
+pub record AnswersFront (bytes : List ℕ) (written written_after : Option (List ℕ))
+    (ran : List Call → List Answer → Type 0) (rest : List ℕ) : Type 0 where
   pub marks : List Mark
   pub parses : Parsed bytes (map item_of marks) rest
   pub writes : Appends written written_after (out_of marks)
   pub served : ran (calls_of marks) (answers_of marks)
 
 -- the requests at the front were answered, and then the cause that breaks the stream
-pub record ServesBroken (bytes : List ℕ) (written written_after : Option (List ℕ)) (ran : List Call → List Answer → Type 0) : Type 0 where
+pub record ServesBroken (bytes : List ℕ) (written written_after : Option (List ℕ))
+    (ran : List Call → List Answer → Type 0) : Type 0 where
   pub marks : List Mark
   pub rest : List ℕ
   pub cause : Cause
@@ -56,7 +60,8 @@ StandsLast rest (begun m) = (n : ℕ) × StandsAtFront rest (whole (item_of m) n
 StandsLast rest (breaking cause) = StandsAtFront rest (broken cause)
 
 -- the requests at the front were answered, and of the next answer only a part was written
-pub record ServesPart (bytes : List ℕ) (written written_after : Option (List ℕ)) (ran : List Call → List Answer → Type 0) : Type 0 where
+pub record ServesPart (bytes : List ℕ) (written written_after : Option (List ℕ))
+    (ran : List Call → List Answer → Type 0) : Type 0 where
   pub marks : List Mark
   pub rest : List ℕ
   pub last : Last
@@ -72,28 +77,32 @@ IsStopped bytes written written_after ran stop =
     (s : ServesPart bytes written written_after ran) × StopsFor s.last stop
 
 -- no request is whole, so nothing was answered, and none is with fewer bytes than these
-pub record IsUnfinished (bytes : List ℕ) (written written_after : Option (List ℕ)) (ran : List Call → List Answer → Type 0) (wanted : ℕ) : Type 0 where
+pub record IsUnfinished (bytes : List ℕ) (written written_after : Option (List ℕ))
+    (ran : List Call → List Answer → Type 0) (wanted : ℕ) : Type 0 where
   pub stands : StandsAtFront bytes waits
   pub writes : Appends written written_after []
   pub served : ran [] []
   pub wanted_is : WaitsBelow bytes wanted
 
 -- the request at the front, of so many bytes, was answered, and no other
-pub record AnswersOne (bytes : List ℕ) (written written_after : Option (List ℕ)) (ran : List Call → List Answer → Type 0) (n : ℕ) : Type 0 where
+pub record AnswersOne (bytes : List ℕ) (written written_after : Option (List ℕ))
+    (ran : List Call → List Answer → Type 0) (n : ℕ) : Type 0 where
   pub mark : Mark
   pub stands : StandsAtFront bytes (whole (item_of mark) n)
   pub writes : Appends written written_after (mark_text mark)
   pub served : ran (calls_of (mark ∷ [])) (answers_of (mark ∷ []))
 
 -- what breaks the stream stands at the front, and its cause was answered
-pub record AnswersBroken (bytes : List ℕ) (written written_after : Option (List ℕ)) (ran : List Call → List Answer → Type 0) : Type 0 where
+pub record AnswersBroken (bytes : List ℕ) (written written_after : Option (List ℕ))
+    (ran : List Call → List Answer → Type 0) : Type 0 where
   pub cause : Cause
   pub stands : StandsAtFront bytes (broken cause)
   pub writes : Appends written written_after (cause_text cause)
   pub served : ran [] []
 
 -- of the answer to what stands at the front only a part was written
-pub record AnswersPart (bytes : List ℕ) (written written_after : Option (List ℕ)) (ran : List Call → List Answer → Type 0) (stop : Stop) : Type 0 where
+pub record AnswersPart (bytes : List ℕ) (written written_after : Option (List ℕ))
+    (ran : List Call → List Answer → Type 0) (stop : Stop) : Type 0 where
   pub last : Last
   pub part : ℕ
   pub stands : StandsLast bytes last
@@ -102,15 +111,19 @@ pub record AnswersPart (bytes : List ℕ) (written written_after : Option (List 
   pub why : StopsFor last stop
 
 -- one step: it waits for more bytes, has answered one request or the cause that breaks the stream, or has stopped
-abbrev pub IsStep : List ℕ → Option (List ℕ) → Option (List ℕ) → (List Call → List Answer → Type 0) → Result Step Stop → Type 0
+abbrev pub IsStep : List ℕ → Option (List ℕ) → Option (List ℕ) → (List Call → List Answer → Type 0) → Result Step Stop
+    → Type 0
 IsStep bytes written written_after ran (Ok (Waits n)) = IsUnfinished bytes written written_after ran n
-IsStep bytes written written_after ran (Ok (Took n)) = (0 < n) × (n ≤ length bytes) × AnswersOne bytes written written_after ran n
+IsStep bytes written written_after ran (Ok (Took n)) = (0 < n) × (n ≤ length bytes)
+    × AnswersOne bytes written written_after ran n
 IsStep bytes written written_after ran (Ok Broken) = AnswersBroken bytes written written_after ran
 IsStep bytes written written_after ran (Err stop) = AnswersPart bytes written written_after ran stop
 
 -- the same of all whole requests at the front
-abbrev pub IsRest : List ℕ → Option (List ℕ) → Option (List ℕ) → (List Call → List Answer → Type 0) → Result Rest Stop → Type 0
+abbrev pub IsRest : List ℕ → Option (List ℕ) → Option (List ℕ) → (List Call → List Answer → Type 0) → Result Rest Stop
+    → Type 0
 IsRest bytes written written_after ran (Ok (left.Waits n more)) =
-    (n ≤ length bytes) × StandsAtFront (drop n bytes) waits × AnswersFront bytes written written_after ran (drop n bytes) × WaitsBelow (drop n bytes) more
+    (n ≤ length bytes) × StandsAtFront (drop n bytes) waits
+    × AnswersFront bytes written written_after ran (drop n bytes) × WaitsBelow (drop n bytes) more
 IsRest bytes written written_after ran (Ok left.Broken) = ServesBroken bytes written written_after ran
 IsRest bytes written written_after ran (Err stop) = IsStopped bytes written written_after ran stop

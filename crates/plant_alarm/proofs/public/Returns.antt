@@ -18,7 +18,8 @@ within b [] h = refl
 within b (x ∷ es) h = grind (arith, nat_tests, h 0 x, within b es (λ k d lt. h (suc k) d (omega arith)))
 
 -- what passes is among the events
-passing_within : (b : ℕ) (test : List Event → Event → Bool) (before es : List Event) → list_all (is_within b) es ≡ true → list_all (is_within b) (passing test before es) ≡ true
+passing_within : (b : ℕ) (test : List Event → Event → Bool) (before es : List Event) → list_all (is_within b) es ≡ true
+    → list_all (is_within b) (passing test before es) ≡ true
 passing_within b test before [] h = refl
 passing_within b test before (x ∷ es) h = grind (arith, passing_within b test (before ++ x ∷ []) es)
 
@@ -34,13 +35,16 @@ front_in_time es e h = subst IsInTime (take-append_seam es (e ∷ [])) (IsNonDec
 front_within : (es : List Event) (e : Event) → IsInTime (es ++ e ∷ []) → list_all (is_within e.moment) es ≡ true
 front_within es e h =
     within e.moment es (λ k d lt.
-    let last : (get_or (es ++ e ∷ []) k d).moment ≤ (get_or (es ++ e ∷ []) (length es) d).moment = h k (length es) d (omega arith) (omega (arith, length-append es (e ∷ []))) in
-    subst (λ (x : Event). x.moment ≤ e.moment) (get_or-append es (e ∷ []) d k lt) (subst (λ (y : Event). (get_or (es ++ e ∷ []) k d).moment ≤ y.moment) (get_or-append_seam es e [] d) last))
+    let last : (get_or (es ++ e ∷ []) k d).moment ≤ (get_or (es ++ e ∷ []) (length es) d).moment =
+        h k (length es) d (omega arith) (omega (arith, length-append es (e ∷ []))) in
+    subst (λ (x : Event). x.moment ≤ e.moment) (get_or-append es (e ∷ []) d k lt)
+        (subst (λ (y : Event). (get_or (es ++ e ∷ []) k d).moment ≤ y.moment) (get_or-append_seam es e [] d) last))
 
 abbrev Agrees : List Event → Type 0
 Agrees es = IsInTime es → (s : ℕ) → returns_after s es ≡ is_after s (last_return es)
 
-one_more : (es xs : List Event) (e : Event) (s : ℕ) (r : Bool) → list_all (is_within e.moment) xs ≡ true → list_any (is_late s) xs ≡ is_after s (last_moment xs)
+one_more : (es xs : List Event) (e : Event) (s : ℕ) (r : Bool) → list_all (is_within e.moment) xs ≡ true
+    → list_any (is_late s) xs ≡ is_after s (last_moment xs)
     → list_any (is_late s) (xs ++ cond r (e ∷ []) []) ≡ is_after s (last_moment (xs ++ cond r (e ∷ []) []))
 one_more es xs e s r in_bound agrees =
     grind (arith, nat_tests, list_any-push (is_late s) xs e, last_moment-push xs e, below_bound s e.moment xs, append-nil xs)
@@ -56,6 +60,7 @@ all_agree : (es : List Event) → Agrees es
 all_agree es = by_last Agrees (λ h s. refl) agrees_more es
 
 -- the shelf by the last return is that by the events
-pub shelf_by_events : (shelf : Shelf) (es : List Event) (returned : Option ℕ) (t : ℕ) → IsInTime es → returned ≡ last_return es → shelf_state shelf returned t ≡ shelf_of shelf es t
+pub shelf_by_events : (shelf : Shelf) (es : List Event) (returned : Option ℕ) (t : ℕ) → IsInTime es → returned ≡ last_return es
+    → shelf_state shelf returned t ≡ shelf_of shelf es t
 shelf_by_events shelf es returned t h e =
     ap (λ o. shelf_state shelf o t) e ∙ ap (λ b. shelf_while shelf b t) (sym (all_agree es h (start_of shelf)))

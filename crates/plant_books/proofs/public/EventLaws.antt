@@ -49,7 +49,8 @@ counted_without (Import u file) rows none = absurd (let no : true ≡ false = no
 counted_without (Floods u begin until) rows none = absurd (let no : true ≡ false = none in cc)
 counted_without _ rows none = refl
 
-holders_part_without : (c : Call) (rows : UnitRows) → looks_at_events c.request ≡ false → part_of_holder c (without_events rows) ≡ part_of_holder c rows
+holders_part_without : (c : Call) (rows : UnitRows) → looks_at_events c.request ≡ false
+    → part_of_holder c (without_events rows) ≡ part_of_holder c rows
 holders_part_without c rows none =
     let q = c.request in
     let nothing = none_asked rows q [] none ∙ sym (none_asked rows q rows.events none) in
@@ -60,7 +61,8 @@ holders_part_without c rows none =
 
 -- the part of a call that does not look at events
 pub part_without : (c : Call) (rows : UnitRows) → looks_at_events c.request ≡ false → part_of c (without_events rows) ≡ part_of c rows
-part_without c rows none = ap (λ part. cond (holds_by rows.grants c.moment c.person) part (part_of_stranger c rows)) (holders_part_without c rows none)
+part_without c rows none =
+    ap (λ part. cond (holds_by rows.grants c.moment c.person) part (part_of_stranger c rows)) (holders_part_without c rows none)
 
 -- ---- changes that put no event
 
@@ -70,10 +72,12 @@ put_no_event (PutEvents es) rows none = absurd (let no : true ≡ false = none i
 put_no_event (Remove (GrantKey p r)) rows none = refl
 put_no_event _ rows none = refl
 
-pub changed_without : (cs : List RowEdit) (rows : UnitRows) → puts_event cs ≡ false → changed_by cs (without_events rows) ≡ without_events (changed_by cs rows)
+pub changed_without : (cs : List RowEdit) (rows : UnitRows) → puts_event cs ≡ false
+    → changed_by cs (without_events rows) ≡ without_events (changed_by cs rows)
 changed_without [] rows none = refl
 changed_without (c ∷ cs) rows none =
-    elim (is_event_put c) as (λ b. is_event_put c ≡ b → (b || puts_event cs) ≡ false → changed_by (c ∷ cs) (without_events rows) ≡ without_events (changed_by (c ∷ cs) rows)) [
+    elim (is_event_put c) as (λ b. is_event_put c ≡ b → (b || puts_event cs) ≡ false
+        → changed_by (c ∷ cs) (without_events rows) ≡ without_events (changed_by (c ∷ cs) rows)) [
       | true ↦ λ is no. absurd (let wrong : true ≡ false = no in cc)
       | false ↦ λ is no. ap (changed_by cs) (put_no_event c rows is) ∙ changed_without cs (changed c rows) no
     ] refl none

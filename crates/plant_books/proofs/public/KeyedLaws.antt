@@ -12,7 +12,8 @@ module _ {X : Type 0} (o : X → X → Ordering) where
   abbrev pub ComesAfter : X → List X → ℕ → Type 0
   ComesAfter r rows i = put_in r rows ≡ take i rows ++ put_in r (drop i rows)
 
-  pub put_over : (r e : X) (rows : List X) (i : ℕ) → i < length rows → e ≡ get_or rows i e → o r e ≡ Equal → ComesAfter r rows i → set rows i r ≡ put_in r rows
+  pub put_over : (r e : X) (rows : List X) (i : ℕ) → i < length rows → e ≡ get_or rows i e → o r e ≡ Equal → ComesAfter r rows i
+      → set rows i r ≡ put_in r rows
   put_over r e rows i h is eq after =
       let rest = drop-cons rows i e h ∙ ap (λ x. x ∷ drop (suc i) rows) (sym is) in
       set_split rows i r h
@@ -20,7 +21,8 @@ module _ {X : Type 0} (o : X → X → Ordering) where
       ∙ ap (λ xs. take i rows ++ put_in r xs) (sym rest) ∙ sym after
 
   -- it is put before the first row that comes after it
-  pub put_before : (r e : X) (rows : List X) (i : ℕ) → i < length rows → e ≡ get_or rows i e → o r e ≡ Less → ComesAfter r rows i → insert rows i r ≡ put_in r rows
+  pub put_before : (r e : X) (rows : List X) (i : ℕ) → i < length rows → e ≡ get_or rows i e → o r e ≡ Less → ComesAfter r rows i
+      → insert rows i r ≡ put_in r rows
   put_before r e rows i h is lt after =
       let rest = drop-cons rows i e h ∙ ap (λ x. x ∷ drop (suc i) rows) (sym is) in
       ap (λ xs. take i rows ++ r ∷ xs) rest
@@ -46,7 +48,8 @@ module _ {X : Type 0} (o : X → X → Ordering) where
         ∙ ap (λ xs. x ∷ xs) (comes_after r rows p (later o (λ x. x) r x rows p h))
 
     -- a row at the place that has another key comes after
-    pub other_after : (r e : X) (rows : List X) (p : ℕ) → Parts r rows p → p < length rows → e ≡ get_or rows p e → is_eq (o r e) ≡ false → o r e ≡ Less
+    pub other_after : (r e : X) (rows : List X) (p : ℕ) → Parts r rows p → p < length rows → e ≡ get_or rows p e → is_eq (o r e) ≡ false
+        → o r e ≡ Less
     other_after r e rows p h within is other = by (o r e) refl other
       where
         by : (v : Ordering) → o r e ≡ v → is_eq v ≡ false → v ≡ Less

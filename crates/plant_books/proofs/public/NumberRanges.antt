@@ -20,12 +20,15 @@ module _ {X : Type 0} (q : X → Bool) where
   later_all x xs h = ((λ k d low high. absurd (omega (arith, high))), (λ k d low high. h.1 (suc k) d (omega arith) (omega (arith, high))))
 
   later_one : (x : X) (xs : List X) (p : ℕ) → Parted (x ∷ xs) (suc p) → Parted xs p
-  later_one x xs p h = ((λ k d low high. h.0 (suc k) d (omega arith) (omega (arith, high))), (λ k d low high. h.1 (suc k) d (omega (arith, low)) (omega (arith, high))))
+  later_one x xs p h =
+      ((λ k d low high. h.0 (suc k) d (omega arith) (omega (arith, high))), (λ k d low high. h.1 (suc k) d (omega (arith, low))
+      (omega (arith, high))))
 
   passes : (x : X) (xs : List X) (b : Bool) → q x ≡ b → cond b (x ∷ filter q xs) (filter q xs) ≡ filter q (x ∷ xs)
   passes x xs b is = ap (λ c. cond c (x ∷ filter q xs) (filter q xs)) (sym is)
 
-  fails : (x : X) (xs : List X) (b : Bool) → q x ≡ b → cond (not b) (x ∷ filter (λ y. not (q y)) xs) (filter (λ y. not (q y)) xs) ≡ filter (λ y. not (q y)) (x ∷ xs)
+  fails : (x : X) (xs : List X) (b : Bool) → q x ≡ b
+      → cond (not b) (x ∷ filter (λ y. not (q y)) xs) (filter (λ y. not (q y)) xs) ≡ filter (λ y. not (q y)) (x ∷ xs)
   fails x xs b is = ap (λ c. cond (not c) (x ∷ filter (λ y. not (q y)) xs) (filter (λ y. not (q y)) xs)) (sym is)
 
   pub before_place : (xs : List X) (p : ℕ) → Parted xs p → take p xs ≡ filter q xs
@@ -54,7 +57,8 @@ exact m n = elim (cases_order m n) [
 filter-filter : {X : Type 0} (p q : X → Bool) (xs : List X) → filter q (filter p xs) ≡ filter (λ x. p x && q x) xs
 filter-filter p q [] = refl
 filter-filter p q (x ∷ xs) =
-    elim (p x) as (λ b. filter q (cond b (x ∷ filter p xs) (filter p xs)) ≡ cond (b && q x) (x ∷ filter (λ x. p x && q x) xs) (filter (λ x. p x && q x) xs)) [
+    elim (p x) as (λ b. filter q (cond b (x ∷ filter p xs) (filter p xs))
+        ≡ cond (b && q x) (x ∷ filter (λ x. p x && q x) xs) (filter (λ x. p x && q x) xs)) [
       | true ↦ ap (λ ys. cond (q x) (x ∷ ys) ys) (filter-filter p q xs)
       | false ↦ filter-filter p q xs
     ]
@@ -75,7 +79,9 @@ module _ {X : Type 0} (number : X → ℕ) where
 
   pub climb : (xs : List X) → IsNonDecreasingBy number xs → Climb xs
   climb [] h = tt
-  climb (x ∷ xs) h = (from_all (number x) xs (λ k d lt. h 0 (suc k) d (omega arith) (omega (arith, lt))), climb xs (λ i j d le lt. h (suc i) (suc j) d (omega (arith, le)) (omega (arith, lt))))
+  climb (x ∷ xs) h =
+      (from_all (number x) xs (λ k d lt. h 0 (suc k) d (omega arith) (omega (arith, lt))), climb xs
+      (λ i j d le lt. h (suc i) (suc j) d (omega (arith, le)) (omega (arith, lt))))
 
   rest_rises : (k : ℕ) (xs : List X) → IsNonDecreasingBy number xs → IsNonDecreasingBy number (drop k xs)
   rest_rises zero xs h = h
@@ -101,8 +107,10 @@ module _ {X : Type 0} (number : X → ℕ) where
   middle : (n : ℕ) (xs : List X) → upto n (from_on n xs) ≡ those_of n xs
   middle n xs = filter-filter (λ x. not (nat_lt (number x) n)) (λ x. nat_le (number x) n) xs ∙ filter_agree _ _ (λ x. exact (number x) n) xs
 
-  pub cut_out : (n : ℕ) (xs : List X) (p e : ℕ) → Parted (λ x. nat_lt (number x) n) xs p → Parted (λ x. nat_le (number x) n) (drop p xs) e → take e (drop p xs) ≡ those_of n xs
-  cut_out n xs p e low high = before_place (λ x. nat_le (number x) n) (drop p xs) e high ∙ ap (upto n) (from_place (λ x. nat_lt (number x) n) xs p low) ∙ middle n xs
+  pub cut_out : (n : ℕ) (xs : List X) (p e : ℕ) → Parted (λ x. nat_lt (number x) n) xs p → Parted (λ x. nat_le (number x) n) (drop p xs) e
+      → take e (drop p xs) ≡ those_of n xs
+  cut_out n xs p e low high = before_place (λ x. nat_le (number x) n) (drop p xs) e high
+      ∙ ap (upto n) (from_place (λ x. nat_lt (number x) n) xs p low) ∙ middle n xs
 
   -- ---- the rows of several numbers, one number after another
 
@@ -115,38 +123,48 @@ module _ {X : Type 0} (number : X → ℕ) where
 
   none_from : (ks : List ℕ) (n : ℕ) (xs : List X) → AllBelow (λ k. k) n ks → From n xs → those_among ks xs ≡ []
   none_from ks n [] low h = refl
-  none_from ks n (x ∷ xs) low h = ap (λ b. cond b (x ∷ those_among ks xs) (those_among ks xs)) (none_among ks n (number x) low h.0) ∙ none_from ks n xs low h.1
+  none_from ks n (x ∷ xs) low h = ap (λ b. cond b (x ∷ those_among ks xs) (those_among ks xs)) (none_among ks n (number x) low h.0)
+      ∙ none_from ks n xs low h.1
 
-  one_more : (ks : List ℕ) (n : ℕ) (xs : List X) → AllBelow (λ k. k) n ks → Climb xs → those_among (ks ++ n ∷ []) xs ≡ those_among ks xs ++ those_of n xs
+  one_more : (ks : List ℕ) (n : ℕ) (xs : List X) → AllBelow (λ k. k) n ks → Climb xs
+      → those_among (ks ++ n ∷ []) xs ≡ those_among ks xs ++ those_of n xs
   one_more ks n [] low h = refl
   one_more ks n (x ∷ xs) low h = by (cases_order (number x) n) (one_more ks n xs low h.1)
     where
       more : List X
       more = those_among (ks ++ n ∷ []) xs
 
-      by : (number x ≡ n) ⊎ ((number x < n) ⊎ (n < number x)) → more ≡ those_among ks xs ++ those_of n xs → those_among (ks ++ n ∷ []) (x ∷ xs) ≡ those_among ks (x ∷ xs) ++ those_of n (x ∷ xs)
+      by : (number x ≡ n) ⊎ ((number x < n) ⊎ (n < number x)) → more ≡ those_among ks xs ++ those_of n xs
+          → those_among (ks ++ n ∷ []) (x ∷ xs) ≡ those_among ks (x ∷ xs) ++ those_of n (x ∷ xs)
       by (inl same) rest =
           let none : those_among ks xs ≡ [] = none_from ks n xs low (subst (λ m. From m xs) same h.0) in
-          ap (λ b. cond b (x ∷ more) more) (among_more ks n (number x) ∙ ap (λ b. among ks (number x) || (b || false)) (tied_numbers (number x) n same) ∙ or_right (among ks (number x)) true refl)
+          ap (λ b. cond b (x ∷ more) more)
+              (among_more ks n (number x) ∙ ap (λ b. among ks (number x) || (b || false)) (tied_numbers (number x) n same)
+              ∙ or_right (among ks (number x)) true refl)
           ∙ ap (λ l. x ∷ l) (rest ∙ ap (λ l. l ++ those_of n xs) none)
-          ∙ sym (ap (λ b. cond b (x ∷ those_among ks xs) (those_among ks xs) ++ those_of n (x ∷ xs)) (none_among ks n (number x) low (omega (arith, same)))
+          ∙ sym (ap (λ b. cond b (x ∷ those_among ks xs) (those_among ks xs)
+          ++ those_of n (x ∷ xs)) (none_among ks n (number x) low (omega (arith, same)))
           ∙ (λ i. none i ++ cond (tied_numbers (number x) n same i) (x ∷ those_of n xs) (those_of n xs)))
       by (inr (inl lt)) rest =
-          ap (λ b. cond b (x ∷ more) more) (among_more ks n (number x) ∙ ap (λ b. among ks (number x) || (b || false)) (other_above (number x) n lt) ∙ or_none (among ks (number x)))
+          ap (λ b. cond b (x ∷ more) more)
+              (among_more ks n (number x) ∙ ap (λ b. among ks (number x) || (b || false)) (other_above (number x) n lt)
+              ∙ or_none (among ks (number x)))
           ∙ elim (among ks (number x)) as (λ b. cond b (x ∷ more) more ≡ cond b (x ∷ those_among ks xs) (those_among ks xs) ++ those_of n xs) [
             | true ↦ ap (λ l. x ∷ l) rest
             | false ↦ rest
           ]
           ∙ ap (λ b. those_among ks (x ∷ xs) ++ cond b (x ∷ those_of n xs) (those_of n xs)) (sym (other_above (number x) n lt))
       by (inr (inr gt)) rest =
-          ap (λ b. cond b (x ∷ more) more) (among_more ks n (number x) ∙ ap (λ b. among ks (number x) || (b || false)) (other (number x) n gt) ∙ or_none (among ks (number x)))
+          ap (λ b. cond b (x ∷ more) more)
+              (among_more ks n (number x) ∙ ap (λ b. among ks (number x) || (b || false)) (other (number x) n gt) ∙ or_none (among ks (number x)))
           ∙ elim (among ks (number x)) as (λ b. cond b (x ∷ more) more ≡ cond b (x ∷ those_among ks xs) (those_among ks xs) ++ those_of n xs) [
             | true ↦ ap (λ l. x ∷ l) rest
             | false ↦ rest
           ]
           ∙ ap (λ b. those_among ks (x ∷ xs) ++ cond b (x ∷ those_of n xs) (those_of n xs)) (sym (other (number x) n gt))
 
-  pub goes_on : (xs : List X) (keys before t : List ℕ) (n : ℕ) (these so_far : List X) → IsStrictlySortedBy nat_cmp keys → before ++ n ∷ t ≡ keys → IsNonDecreasingBy number xs → so_far ≡ those_among before xs → these ≡ those_of n xs
+  pub goes_on : (xs : List X) (keys before t : List ℕ) (n : ℕ) (these so_far : List X) → IsStrictlySortedBy nat_cmp keys → before ++ n ∷ t ≡ keys
+      → IsNonDecreasingBy number xs → so_far ≡ those_among before xs → these ≡ those_of n xs
       → so_far ++ these ≡ those_among (before ++ n ∷ []) xs
   goes_on xs keys before t n these so_far rising cut rise is here =
       let low = smaller before n t (subst (IsStrictlySortedBy nat_cmp) (sym cut) rising) in
@@ -175,7 +193,8 @@ module _ {K X : Type 0} (R : K → K → Ordering) (key : X → K) (lead : K →
   rise (x ∷ xs) h (suc i) (suc j) d le' lt = rise xs (second _ _ h) i j d (omega (arith, le')) (omega (arith, lt))
 
 -- the rows of some numbers, of all rows as they are handed on
-pub taken : {X : Type 0} (number : X → ℕ) (numbers : BTreeSet ℕ) (all rows these : List X) → all ≡ rows → NumbersRise number rows → (NumbersRise number all → these ≡ of_numbers number numbers all) → these ≡ of_numbers number numbers rows
+pub taken : {X : Type 0} (number : X → ℕ) (numbers : BTreeSet ℕ) (all rows these : List X) → all ≡ rows → NumbersRise number rows
+    → (NumbersRise number all → these ≡ of_numbers number numbers all) → these ≡ of_numbers number numbers rows
 taken number numbers all rows these same rises value = value (subst (NumbersRise number) (sym same) rises) ∙ ap (of_numbers number numbers) same
 
 pub bands_rise : (rows : List BandRow) → IsInOrder band_cmp band_key rows → NumbersRise (λ r. r.matrix_no) rows

@@ -22,22 +22,29 @@ module _ {X : Type 0} (R : X → X → Ordering) (total : IsTotalOrder R) where
   below_more : (x y : X) (rows : List X) → R x y ≡ Less → T (below_all R y (pairs rows)) → T (below_all R x (pairs rows))
   below_more x y [] e h = tt
   below_more x y (z ∷ rows) e h =
-      both (is_lt (R x z)) (below_all R x (pairs rows)) (subst (λ (o : Ordering). T (is_lt o)) (sym (total.trans x y z e (less (R y z) (first _ _ h)))) tt)
+      both (is_lt (R x z)) (below_all R x (pairs rows))
+          (subst (λ (o : Ordering). T (is_lt o)) (sym (total.trans x y z e (less (R y z) (first _ _ h)))) tt)
       (below_more x y rows e (second _ _ h))
 
-  pub neighbours_rise : (rows : List X) → ((k : ℕ) (d : X) → k + 1 < length rows → is_lt (R (get_or rows k d) (get_or rows (k + 1) d)) ≡ true) → IsInOrder R (λ r. r) rows
+  pub neighbours_rise : (rows : List X) → ((k : ℕ) (d : X) → k + 1 < length rows → is_lt (R (get_or rows k d) (get_or rows (k + 1) d)) ≡ true)
+      → IsInOrder R (λ r. r) rows
   neighbours_rise [] h = tt
   neighbours_rise (x ∷ []) h = tt
   neighbours_rise (x ∷ y ∷ rows) h =
-      let rest = neighbours_rise (y ∷ rows) (λ k d within. subst (λ n. is_lt (R (get_or (y ∷ rows) k d) (get_or (x ∷ y ∷ rows) n d)) ≡ true) (let e : suc k + 1 ≡ suc (k + 1) = omega arith in e) (h (suc k) d (omega (arith, within)))) in
+      let rest =
+          neighbours_rise (y ∷ rows)
+          (λ k d within. subst (λ n. is_lt (R (get_or (y ∷ rows) k d) (get_or (x ∷ y ∷ rows) n d)) ≡ true) (let e : suc k + 1
+          ≡ suc (k + 1) = omega arith in e) (h (suc k) d (omega (arith, within)))) in
       let now : R x y ≡ Less = lesser (R x y) (h 0 x (omega arith)) in
       both (below_all R x (pairs (y ∷ rows))) (is_sorted R (pairs (y ∷ rows)))
-      (both (is_lt (R x y)) (below_all R x (pairs rows)) (subst (λ (o : Ordering). T (is_lt o)) (sym now) tt) (below_more x y rows now (first _ _ rest)))
+      (both (is_lt (R x y)) (below_all R x (pairs rows)) (subst (λ (o : Ordering). T (is_lt o)) (sym now) tt)
+      (below_more x y rows now (first _ _ rest)))
       rest
 
 -- the order of rows is that of their keys
 module _ {K X : Type 0} (cmp : K → K → Ordering) (key : X → K) where
-  below_keys : (x : X) (rows : List X) → below_all (λ a b. cmp (key a) (key b)) x (map (λ r. (r, r)) rows) ≡ below_all cmp (key x) (map (λ r. (key r, r)) rows)
+  below_keys : (x : X) (rows : List X)
+      → below_all (λ a b. cmp (key a) (key b)) x (map (λ r. (r, r)) rows) ≡ below_all cmp (key x) (map (λ r. (key r, r)) rows)
   below_keys x [] = refl
   below_keys x (r ∷ rows) = ap (λ b. is_lt (cmp (key x) (key r)) && b) (below_keys x rows)
 
@@ -56,7 +63,8 @@ module _ {K X : Type 0} (cmp : K → K → Ordering) (key : X → K) where
   put_keys x (r ∷ rows) = ap (λ rest. by_order (cmp (key x) (key r)) (x ∷ r ∷ rows) (x ∷ rows) (r ∷ rest)) (put_keys x rows)
 
   -- what is put by the order of the rows is put by that of their keys
-  pub put_by_keys : {E Q : Type 0} (said : Result (Unit {0}) E) (after rows : List X) (x : X) → (after ≡ put_row cmp key x rows → Q) → OnOk said (after ≡ put_row (λ a b. cmp (key a) (key b)) (λ r. r) x rows) → OnOk said Q
+  pub put_by_keys : {E Q : Type 0} (said : Result (Unit {0}) E) (after rows : List X) (x : X) → (after ≡ put_row cmp key x rows → Q)
+      → OnOk said (after ≡ put_row (λ a b. cmp (key a) (key b)) (λ r. r) x rows) → OnOk said Q
   put_by_keys (Ok u) after rows x to is = to (is ∙ put_keys x rows)
   put_by_keys (Err e) after rows x to is = tt
 
@@ -66,26 +74,49 @@ pub none_in_order : AreInOrder no_rows
 none_in_order = record { alarms = tt; shelves = tt; events = tt; bands = tt; cells = tt; records = tt; changes = tt }
 
 put_in_order : (r : Row) (rows : UnitRows) → AreInOrder rows → AreInOrder (put r rows)
-put_in_order (AlarmPut r) rows h = record { alarms = IsInOrder-put_row name_cmp alarm_tag name_total same_names r rows.alarms h.alarms; shelves = h.shelves; events = h.events; bands = h.bands; cells = h.cells; records = h.records; changes = h.changes }
-put_in_order (ShelfPut r) rows h = record { alarms = h.alarms; shelves = IsInOrder-put_row name_cmp shelf_tag name_total same_names r rows.shelves h.shelves; events = h.events; bands = h.bands; cells = h.cells; records = h.records; changes = h.changes }
-put_in_order (EventPut r) rows h = record { alarms = h.alarms; shelves = h.shelves; events = IsInOrder-put_row nat_cmp event_number nat_cmp_total nat_cmp-IsAntisymmetric r rows.events h.events; bands = h.bands; cells = h.cells; records = h.records; changes = h.changes }
-put_in_order (BandPut r) rows h = record { alarms = h.alarms; shelves = h.shelves; events = h.events; bands = IsInOrder-put_row band_cmp band_key band_total same_bands r rows.bands h.bands; cells = h.cells; records = h.records; changes = h.changes }
-put_in_order (CellPut r) rows h = record { alarms = h.alarms; shelves = h.shelves; events = h.events; bands = h.bands; cells = IsInOrder-put_row cell_cmp cell_key cell_total same_cells r rows.cells h.cells; records = h.records; changes = h.changes }
-put_in_order (RecordPut r) rows h = record { alarms = h.alarms; shelves = h.shelves; events = h.events; bands = h.bands; cells = h.cells; records = IsInOrder-put_row name_cmp record_tag name_total same_names r rows.records h.records; changes = h.changes }
-put_in_order (ChangePut r) rows h = record { alarms = h.alarms; shelves = h.shelves; events = h.events; bands = h.bands; cells = h.cells; records = h.records; changes = IsInOrder-put_row nat_cmp change_number nat_cmp_total nat_cmp-IsAntisymmetric r rows.changes h.changes }
-put_in_order _ rows h = record { alarms = h.alarms; shelves = h.shelves; events = h.events; bands = h.bands; cells = h.cells; records = h.records; changes = h.changes }
+put_in_order (AlarmPut r) rows h =
+    record { alarms = IsInOrder-put_row name_cmp alarm_tag name_total same_names r rows.alarms h.alarms; shelves = h.shelves; events = h.events;
+    bands = h.bands; cells = h.cells; records = h.records; changes = h.changes }
+put_in_order (ShelfPut r) rows h =
+    record { alarms = h.alarms; shelves = IsInOrder-put_row name_cmp shelf_tag name_total same_names r rows.shelves h.shelves; events = h.events;
+    bands = h.bands; cells = h.cells; records = h.records; changes = h.changes }
+put_in_order (EventPut r) rows h =
+    record { alarms = h.alarms; shelves = h.shelves;
+    events = IsInOrder-put_row nat_cmp event_number nat_cmp_total nat_cmp-IsAntisymmetric r rows.events h.events; bands = h.bands; cells = h.cells;
+    records = h.records; changes = h.changes }
+put_in_order (BandPut r) rows h =
+    record { alarms = h.alarms; shelves = h.shelves; events = h.events;
+    bands = IsInOrder-put_row band_cmp band_key band_total same_bands r rows.bands h.bands; cells = h.cells; records = h.records;
+    changes = h.changes }
+put_in_order (CellPut r) rows h =
+    record { alarms = h.alarms; shelves = h.shelves; events = h.events; bands = h.bands;
+    cells = IsInOrder-put_row cell_cmp cell_key cell_total same_cells r rows.cells h.cells; records = h.records; changes = h.changes }
+put_in_order (RecordPut r) rows h =
+    record { alarms = h.alarms; shelves = h.shelves; events = h.events; bands = h.bands; cells = h.cells;
+    records = IsInOrder-put_row name_cmp record_tag name_total same_names r rows.records h.records; changes = h.changes }
+put_in_order (ChangePut r) rows h =
+    record { alarms = h.alarms; shelves = h.shelves; events = h.events; bands = h.bands; cells = h.cells; records = h.records;
+    changes = IsInOrder-put_row nat_cmp change_number nat_cmp_total nat_cmp-IsAntisymmetric r rows.changes h.changes }
+put_in_order _ rows h =
+    record { alarms = h.alarms; shelves = h.shelves; events = h.events; bands = h.bands; cells = h.cells; records = h.records; changes = h.changes }
 
 removed_in_order : (k : Key) (rows : UnitRows) → AreInOrder rows → AreInOrder (removed k rows)
-removed_in_order (GrantKey p r) rows h = record { alarms = h.alarms; shelves = h.shelves; events = h.events; bands = h.bands; cells = h.cells; records = h.records; changes = h.changes }
-removed_in_order (ShelfKey a) rows h = record { alarms = h.alarms; shelves = IsInOrder-remove_row name_cmp shelf_tag name_total same_names a rows.shelves h.shelves; events = h.events; bands = h.bands; cells = h.cells; records = h.records; changes = h.changes }
+removed_in_order (GrantKey p r) rows h =
+    record { alarms = h.alarms; shelves = h.shelves; events = h.events; bands = h.bands; cells = h.cells; records = h.records; changes = h.changes }
+removed_in_order (ShelfKey a) rows h =
+    record { alarms = h.alarms; shelves = IsInOrder-remove_row name_cmp shelf_tag name_total same_names a rows.shelves h.shelves; events = h.events;
+    bands = h.bands; cells = h.cells; records = h.records; changes = h.changes }
 
 events_in_order : (more es : List Event) → EventsRise es → EventsRise (with_events es more)
 events_in_order [] es h = h
-events_in_order (e ∷ more) es h = events_in_order more (put_row nat_cmp event_number e es) (IsInOrder-put_row nat_cmp event_number nat_cmp_total nat_cmp-IsAntisymmetric e es h)
+events_in_order (e ∷ more) es h =
+    events_in_order more (put_row nat_cmp event_number e es) (IsInOrder-put_row nat_cmp event_number nat_cmp_total nat_cmp-IsAntisymmetric e es h)
 
 pub one_in_order : (c : RowEdit) (rows : UnitRows) → AreInOrder rows → AreInOrder (changed c rows)
 one_in_order (Put r) rows h = put_in_order r rows h
-one_in_order (PutEvents es) rows h = record { alarms = h.alarms; shelves = h.shelves; events = events_in_order es rows.events h.events; bands = h.bands; cells = h.cells; records = h.records; changes = h.changes }
+one_in_order (PutEvents es) rows h =
+    record { alarms = h.alarms; shelves = h.shelves; events = events_in_order es rows.events h.events; bands = h.bands; cells = h.cells;
+    records = h.records; changes = h.changes }
 one_in_order (Remove k) rows h = removed_in_order k rows h
 
 pub changed_in_order : (cs : List RowEdit) (rows : UnitRows) → AreInOrder rows → AreInOrder (changed_by cs rows)
@@ -121,13 +152,17 @@ put_all_in_order o (e ∷ es) is h =
 module _ {X : Type 0} (key : X → Name) where
   none_passes : (t : Name) (rows : List X) → After name_cmp key t rows → filter (λ r. same_name t (key r)) rows ≡ []
   none_passes t [] h = refl
-  none_passes t (r ∷ rows) h = ap (λ o. cond (is_eq o) (r ∷ filter (λ x. same_name t (key x)) rows) (filter (λ x. same_name t (key x)) rows)) h.0 ∙ none_passes t rows h.1
+  none_passes t (r ∷ rows) h = ap (λ o. cond (is_eq o) (r ∷ filter (λ x. same_name t (key x)) rows) (filter (λ x. same_name t (key x)) rows)) h.0
+      ∙ none_passes t rows h.1
 
-  pub one_passes : (t : Name) (rows : List X) → Ordered name_cmp key rows → filter (λ r. same_name t (key r)) rows ≡ option_to_list (row_at name_cmp key t rows)
+  pub one_passes : (t : Name) (rows : List X) → Ordered name_cmp key rows
+      → filter (λ r. same_name t (key r)) rows ≡ option_to_list (row_at name_cmp key t rows)
   one_passes t [] h = refl
   one_passes t (r ∷ rows) h = by (name_cmp t (key r)) refl (one_passes t rows h.1)
     where
-      by : (o : Ordering) → name_cmp t (key r) ≡ o → filter (λ x. same_name t (key x)) rows ≡ option_to_list (row_at name_cmp key t rows) → cond (is_eq o) (r ∷ filter (λ x. same_name t (key x)) rows) (filter (λ x. same_name t (key x)) rows) ≡ option_to_list (cond (is_eq o) (Some r) (row_at name_cmp key t rows))
+      by : (o : Ordering) → name_cmp t (key r) ≡ o → filter (λ x. same_name t (key x)) rows ≡ option_to_list (row_at name_cmp key t rows)
+          → cond (is_eq o) (r ∷ filter (λ x. same_name t (key x)) rows)
+          (filter (λ x. same_name t (key x)) rows) ≡ option_to_list (cond (is_eq o) (Some r) (row_at name_cmp key t rows))
       by Less e rest = rest
       by Equal e rest = ap (λ xs. r ∷ xs) (none_passes t rows (subst (λ (n : Name). After name_cmp key n rows) (sym (same_names t (key r) e)) h.0))
       by Greater e rest = rest

@@ -12,7 +12,8 @@ module _ {X Y : Type 0} (f : List X → List Y) (listed all : List Y) (xs : List
   all_listed none end so_far = sym (append-nil listed) ∙ ap (λ ys. listed ++ ys) (sym none) ∙ sym (at_drop_all (λ l. listed ++ f l) xs i end) ∙ so_far
 
   -- and so it stays when more is listed
-  pub more_listed : (more after : List Y) (x : X) → i < length xs → x ≡ get_or xs i x → f (x ∷ drop (i + 1) xs) ≡ more ++ f (drop (i + 1) xs) → after ≡ listed ++ more → listed ++ f (drop i xs) ≡ all → after ++ f (drop (i + 1) xs) ≡ all
+  pub more_listed : (more after : List Y) (x : X) → i < length xs → x ≡ get_or xs i x → f (x ∷ drop (i + 1) xs) ≡ more ++ f (drop (i + 1) xs)
+      → after ≡ listed ++ more → listed ++ f (drop i xs) ≡ all → after ++ f (drop (i + 1) xs) ≡ all
   more_listed more after x inside at is pushed so_far =
       let rest = drop (i + 1) xs in
       ap (λ ys. ys ++ f rest) pushed
@@ -22,7 +23,9 @@ module _ {X Y : Type 0} (f : List X → List Y) (listed all : List Y) (xs : List
       ∙ so_far
 
 -- the shelves of the units held are those that the person may see
-pub held_shelves : (there : Name → Option UnitRows) (t : ℕ) (p : Name) (us : List Name) → flat_map (λ u. shelves_there u (there u)) (filter_map (λ u. when (is_held_in t p (there u)) u) us) ≡ flat_map (λ u. shelves_mine t p u (there u)) us
+pub held_shelves : (there : Name → Option UnitRows) (t : ℕ) (p : Name) (us : List Name)
+    → flat_map (λ u. shelves_there u (there u))
+    (filter_map (λ u. when (is_held_in t p (there u)) u) us) ≡ flat_map (λ u. shelves_mine t p u (there u)) us
 held_shelves there t p [] = refl
 held_shelves there t p (u ∷ us) = by (there u) refl (held_shelves there t p us)
   where
@@ -38,7 +41,8 @@ held_shelves there t p (u ∷ us) = by (there u) refl (held_shelves there t p us
     by : (o : Option UnitRows) → there u ≡ o → seen rest ≡ mine → seen (cons_option (when (is_held_in t p o) u) rest) ≡ shelves_mine t p u o ++ mine
     by None e same = same
     by (Some rows) e same =
-        elim (list_any (is_held_by t p) rows.grants) as (λ b. seen (cons_option (when b u) rest) ≡ cond b (map (mine_row u rows) rows.shelves) [] ++ mine) [
+        elim (list_any (is_held_by t p) rows.grants) as (λ b. seen (cons_option (when b u) rest) ≡ cond b (map (mine_row u rows) rows.shelves) []
+            ++ mine) [
           | true ↦ λ i. shelves_there u (e i) ++ same i
           | false ↦ same
         ]

@@ -57,7 +57,8 @@ module _ (body_length : RequestHead → Result ℕ Cause) (item_of : RequestHead
   with_length-append (Err cause) head after more ready = refl
   with_length-append (Ok n) head after more ready = go (ltb (length after) n) refl
     where
-      go : (b : Bool) → ltb (length after) n ≡ b → with_length body_length item_of (Ok n) head (after ++ more) ≡ with_length body_length item_of (Ok n) head after
+      go : (b : Bool) → ltb (length after) n ≡ b
+          → with_length body_length item_of (Ok n) head (after ++ more) ≡ with_length body_length item_of (Ok n) head after
       go true e = absurd (ready (rw e))
       go false e =
           let fits : n ≤ length after = ltb-false (length after) n e in
@@ -70,7 +71,8 @@ module _ (body_length : RequestHead → Result ℕ Cause) (item_of : RequestHead
   of_head-append head after more ready = with_length-append (body_length head) head after more ready
 
   -- A front that doesn't wait stays, whatever follows.
-  pub front-stays : (bytes more : List ℕ) (f : Front) → f ≢ waits → IsFront body_length item_of bytes f → IsFront body_length item_of (bytes ++ more) f
+  pub front-stays : (bytes more : List ℕ) (f : Front) → f ≢ waits → IsFront body_length item_of bytes f
+      → IsFront body_length item_of (bytes ++ more) f
   front-stays bytes more f ready (inl (head, begins, is)) =
       let n = length (print_request head) in
       let e = drop-append-le n bytes more (head_fits bytes head begins) in
@@ -87,7 +89,8 @@ module _ (body_length : RequestHead → Result ℕ Cause) (item_of : RequestHead
           inr (inr (unfinished_full bytes more long open_still, is ∙ rw (e, le-ltb (length (bytes ++ more)) max_head longer) refl))
 
   -- what a whole request takes: its head, and no more than there is
-  whole_takes : (r : Result ℕ Cause) (head : RequestHead) (after : List ℕ) (x : Item) (n : ℕ) → whole x n ≡ with_length body_length item_of r head after
+  whole_takes : (r : Result ℕ Cause) (head : RequestHead) (after : List ℕ) (x : Item) (n : ℕ)
+      → whole x n ≡ with_length body_length item_of r head after
       → (length (print_request head) ≤ n) × (n ≤ length (print_request head) + length after)
   whole_takes (Err cause) head after x n e = cc
   whole_takes (Ok m) head after x n e = go (ltb (length after) m) refl

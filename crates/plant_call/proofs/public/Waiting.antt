@@ -20,7 +20,8 @@ waits_on bytes more head n begins is few =
 pub waits_none : (bytes : List ℕ) → WaitsBelow bytes 0
 waits_none bytes more few = absurd (omega arith)
 
-pub waits_read : (bytes : List ℕ) (headers : List HeaderSpan) (spans : RequestSpans) (head : RequestHead) (n : ℕ) → IsRequestAt (front bytes) headers spans head
+pub waits_read : (bytes : List ℕ) (headers : List HeaderSpan) (spans : RequestSpans) (head : RequestHead) (n : ℕ)
+    → IsRequestAt (front bytes) headers spans head
     → (0 < n → IsLengthOf head n) → WaitsBelow bytes n
 waits_read bytes headers spans head n at wants more few =
     let some : 0 < n = omega arith in

@@ -15,7 +15,8 @@ module _ {K X : Type 0} (R : K → K → Ordering) (key : X → K) where
   none_tied x [] all = refl
   none_tied x (y ∷ ys) all = rw all.0 (ap (λ l. y ∷ l) (none_tied x ys all.1))
 
-  at_front : (x : X) (rows : List X) → AllByRecursion (λ y. R (key x) (key y) ≡ Less) rows → insert_sorted (λ a b. R (key a) (key b)) x rows ≡ x ∷ rows
+  at_front : (x : X) (rows : List X) → AllByRecursion (λ y. R (key x) (key y) ≡ Less) rows
+      → insert_sorted (λ a b. R (key a) (key b)) x rows ≡ x ∷ rows
   at_front x [] all = refl
   at_front x (y ∷ ys) all = rw all.0 refl
 
@@ -28,12 +29,16 @@ module _ {K X : Type 0} (R : K → K → Ordering) (key : X → K) where
     put_is x (e ∷ es) up = go (R (key x) (key e)) refl (put_is x es up.1)
       where
         go : (o : Ordering) → R (key x) (key e) ≡ o → put_in (λ a b. R (key a) (key b)) x es ≡ put_row R key x es
-            → insert_sorted (λ a b. R (key a) (key b)) x (cond (not (is_eq o)) (e ∷ taken_out (λ a b. R (key a) (key b)) x es) (taken_out (λ a b. R (key a) (key b)) x es)) ≡ by_order o (x ∷ e ∷ es) (x ∷ es) (e ∷ put_row R key x es)
+            → insert_sorted (λ a b. R (key a) (key b)) x (cond (not (is_eq o)) (e
+            ∷ taken_out (λ a b. R (key a) (key b)) x es) (taken_out (λ a b. R (key a) (key b)) x es))
+            ≡ by_order o (x ∷ e ∷ es) (x ∷ es) (e ∷ put_row R key x es)
         go Less h more =
-            let above : AllByRecursion (λ y. R (key x) (key y) ≡ Less) es = all_weaker _ (λ y. R (key x) (key y) ≡ Less) (λ y. total.trans (key x) (key e) (key y) h) es up.0 in
+            let above : AllByRecursion (λ y. R (key x) (key y) ≡ Less) es =
+                all_weaker _ (λ y. R (key x) (key y) ≡ Less) (λ y. total.trans (key x) (key e) (key y) h) es up.0 in
             ap (λ l. insert_sorted (λ a b. R (key a) (key b)) x (e ∷ l)) (none_tied x es above) ∙ at_front x (e ∷ es) (h, above)
         go Equal h more =
-            let above : AllByRecursion (λ y. R (key x) (key y) ≡ Less) es = all_weaker _ (λ y. R (key x) (key y) ≡ Less) (λ y k. alike_left (key x) (key e) (key y) h ∙ k) es up.0 in
+            let above : AllByRecursion (λ y. R (key x) (key y) ≡ Less) es =
+                all_weaker _ (λ y. R (key x) (key y) ≡ Less) (λ y k. alike_left (key x) (key e) (key y) h ∙ k) es up.0 in
             ap (insert_sorted (λ a b. R (key a) (key b)) x) (none_tied x es above) ∙ at_front x es above
         go Greater h more = rw h (ap (λ l. e ∷ l) more)
 

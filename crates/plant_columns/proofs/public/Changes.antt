@@ -29,13 +29,18 @@ HasNoReferences schema = AllByRecursion (λ t. t.references ≡ []) schema.table
 no_works : (schema : Schema) (keys : Keys) (tree : ℕ) (olds news : List Row) → HasNoReferences schema → works schema keys 0 tree olds news ≡ []
 no_works schema keys tree olds news free = each schema.tables free
   where
-    each : (ts : List Table) → AllByRecursion (λ t. t.references ≡ []) ts → flat_map (λ child. filter_map (work_for schema keys 0 tree olds news child) child.references) ts ≡ []
+    each : (ts : List Table) → AllByRecursion (λ t. t.references ≡ []) ts
+        → flat_map (λ child. filter_map (work_for schema keys 0 tree olds news child) child.references) ts ≡ []
     each [] all = refl
-    each (t ∷ ts) all = ap (λ rs. filter_map (work_for schema keys 0 tree olds news t) rs ++ flat_map (λ child. filter_map (work_for schema keys 0 tree olds news child) child.references) ts) all.0 ∙ each ts all.1
+    each (t ∷ ts) all =
+        ap (λ rs. filter_map (work_for schema keys 0 tree olds news t) rs
+        ++ flat_map (λ child. filter_map (work_for schema keys 0 tree olds news child) child.references) ts) all.0 ∙ each ts all.1
 
 -- so a step on one table writes no other
-pub lone_step : (schema : Schema) → HasNoReferences schema → (keys : Keys) (db next : Trees) (edit : Edit) → Edits schema keys db edit (Ok next) → Applies schema keys db edit next
-lone_step schema free keys db next edit h = one_step schema keys db next edit (no_works schema keys edit.table.tree (taken_by db edit) edit.news free) h
+pub lone_step : (schema : Schema) → HasNoReferences schema → (keys : Keys) (db next : Trees) (edit : Edit) → Edits schema keys db edit (Ok next)
+    → Applies schema keys db edit next
+lone_step schema free keys db next edit h =
+    one_step schema keys db next edit (no_works schema keys edit.table.tree (taken_by db edit) edit.news free) h
 
 -- the answer names the rowids that are taken out
 pub record HasDeleted (schema : Schema) (table : Table) (q : Query) (params : Row) (old new : Database) : Type 0 where
@@ -45,7 +50,8 @@ pub record HasDeleted (schema : Schema) (table : Table) (q : Query) (params : Ro
   pub others : KeepsOthers schema table.tree old.trees new.trees
   pub same_schema : new.schema ≡ schema
 
-pub deletes : (schema : Schema) → HasNoReferences schema → (text : List ℕ) (params : Row) (old new : State) (at : ℕ) (table : Table) (q : Query) → old.now.schema ≡ schema → slice_get schema.tables at ≡ Some table
+pub deletes : (schema : Schema) → HasNoReferences schema → (text : List ℕ) (params : Row) (old new : State) (at : ℕ) (table : Table) (q : Query)
+    → old.now.schema ≡ schema → slice_get schema.tables at ≡ Some table
     → command_of (understood schema text) ≡ Delete at (record { lets = []; body = q }) → IsPlain (understood schema text)
     → (count : ℕ) → Executes text params old new (Ok count) → HasDeleted schema table q params old.now new.now
 deletes schema free text params old new at table q has listed is plain count h =
@@ -53,8 +59,12 @@ deletes schema free text params old new at table q has listed is plain count h =
     let db = old.now.trees in
     let w = runs_as text params old new schema has command is plain count h in
     let sql = statement_of text (understood schema text) in
-    let does = subst (λ s. Does old.step_limit (mode_of old) params (record old.now { schema = s }) sql None command (Ok (w.tally, new.now))) has w.changed in
-    let on = subst (λ o. AtPlace (λ t. OnRows (record { limit = old.step_limit; keys = (mode_of old).keys; schema = schema; table = t; params = params }) (mode_of old) None command db) o (Ok (w.tally, new.now))) listed does in
+    let does =
+        subst (λ s. Does old.step_limit (mode_of old) params (record old.now { schema = s }) sql None command (Ok (w.tally, new.now))) has
+        w.changed in
+    let on = subst
+        (λ o. AtPlace (λ t. OnRows (record { limit = old.step_limit; keys = (mode_of old).keys; schema = schema; table = t;
+        params = params }) (mode_of old) None command db) o (Ok (w.tally, new.now))) listed does in
     let done = went on in
     let now = ap (λ (p : Tally × Database). p.1) (same_value (went (went done.2).2).2) in
     let got = went done.1 in
@@ -93,8 +103,10 @@ creates text before after made tree old new has is whole plain defined is_after 
     let now : new.now ≡ first.0 = ap (λ (p : Tally × Database). p.1) (same_value all.2) ∙ same_value (rw none at first.2) in
     record {
       schema = ap (λ (d : Database). d.schema) now ∙ schema;
-      empty = ap (λ (d : Database). d.trees tree) now ∙ subst (λ t. first.0.trees t ≡ []) at (subst (λ s. first.0.trees (next_tree s) ≡ []) has it.empty);
-      kept = subst (λ (d : Database). KeepsRows before.tables old.now.trees d.trees) (sym now) (subst (λ s. KeepsRows s.tables old.now.trees first.0.trees) has it.others);
+      empty = ap (λ (d : Database). d.trees tree) now
+          ∙ subst (λ t. first.0.trees t ≡ []) at (subst (λ s. first.0.trees (next_tree s) ≡ []) has it.empty);
+      kept = subst (λ (d : Database). KeepsRows before.tables old.now.trees d.trees) (sym now)
+          (subst (λ s. KeepsRows s.tables old.now.trees first.0.trees) has it.others);
     }
 
 pub record HasIndexed (before after : Schema) (old new : Database) : Type 0 where
@@ -107,9 +119,14 @@ pub indexes : (text : List ℕ) (before after : Schema) (place : ℕ) (table : T
     → index_defined_by table text ≡ Ok made → indexed before table made ≡ after
     → (count : ℕ) → Executes text [] old new (Ok count) → HasIndexed before after old.now new.now
 indexes text before after place table made old new has listed is whole plain defined is_after count h =
-    let w = subst (λ t. Writes old new None (CreateIndex place) t [] count) whole (runs_as text [] old new before has (CreateIndex place) is plain count h) in
-    let does = subst (λ s. Does old.step_limit (mode_of old) [] (record old.now { schema = s }) text None (CreateIndex place) (Ok (w.tally, new.now))) has w.changed in
-    let on = subst (λ o. AtPlace (λ t. Defines (mode_of old) (MakesIndex text (record { schema = before; trees = old.now.trees }) t)) o (Ok (w.tally, new.now))) listed does in
+    let w = subst (λ t. Writes old new None (CreateIndex place) t [] count) whole
+        (runs_as text [] old new before has (CreateIndex place) is plain count h) in
+    let does =
+        subst (λ s. Does old.step_limit (mode_of old) [] (record old.now { schema = s }) text None (CreateIndex place) (Ok (w.tally, new.now))) has
+        w.changed in
+    let on = subst
+        (λ o. AtPlace (λ t. Defines (mode_of old) (MakesIndex text (record { schema = before; trees = old.now.trees }) t)) o (Ok (w.tally, new.now)))
+        listed does in
     let all = went on in
     let it = all.1 in
     let both : Ok it.index ≡ Ok made = sym it.defined ∙ defined in

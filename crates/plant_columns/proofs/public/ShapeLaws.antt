@@ -114,15 +114,19 @@ good Alarms = record {
   };
   agrees = λ id jd u v x y. sym (one (value_cmp-Text x.tag y.tag));
   keyed = λ id u x. (refl, (refl, tt));
-  fits = λ u x i. Text u ∷ Text x.tag ∷ cast_int (pos (cond x.latching 1 0)) i ∷ cast_number x.max_s i ∷ cast_number x.max_rev i ∷ cast_number (state_no x.state_no) i ∷ cast_int (pos (cond x.suppressed 1 0)) i
-      ∷ cast_open_number x.active_s i ∷ cast_open_number x.return_s i ∷ cast_open_number x.out_s i ∷ cast_open_text x.out_by i ∷ cast_open_text x.out_words i ∷ [];
+  fits = λ u x i. Text u ∷ Text x.tag ∷ cast_int (pos (cond x.latching 1 0)) i ∷ cast_number x.max_s i ∷ cast_number x.max_rev i
+      ∷ cast_number (state_no x.state_no) i ∷ cast_int (pos (cond x.suppressed 1 0)) i
+      ∷ cast_open_number x.active_s i ∷ cast_open_number x.return_s i ∷ cast_open_number x.out_s i ∷ cast_open_text x.out_by i
+      ∷ cast_open_text x.out_words i ∷ [];
 }
 good Shelves = record {
   total = nat_list_cmp_total;
-  back = λ id u x i. record { tag = x.tag; one_shot = flag_back x.one_shot i; start_s = x.start_s; until_s = x.until_s; person = x.person; words = x.words };
+  back = λ id u x i. record { tag = x.tag; one_shot = flag_back x.one_shot i; start_s = x.start_s; until_s = x.until_s; person = x.person;
+      words = x.words };
   agrees = λ id jd u v x y. sym (one (value_cmp-Text x.tag y.tag));
   keyed = λ id u x. (refl, (refl, tt));
-  fits = λ u x i. Text u ∷ Text x.tag ∷ cast_int (pos (cond x.one_shot 1 0)) i ∷ cast_number x.start_s i ∷ cast_number x.until_s i ∷ Text x.person ∷ Text x.words ∷ [];
+  fits = λ u x i. Text u ∷ Text x.tag ∷ cast_int (pos (cond x.one_shot 1 0)) i ∷ cast_number x.start_s i ∷ cast_number x.until_s i ∷ Text x.person
+      ∷ Text x.words ∷ [];
 }
 good Bands = record {
   total = band_total;
@@ -134,7 +138,8 @@ good Bands = record {
 good Cells = record {
   total = cell_total;
   back = λ id u x i. record { matrix_no = x.matrix_no; severity = x.severity; band_no = x.band_no; cell_no = cell_back x.cell_no i };
-  agrees = λ id jd u v x y. sym (ap₂ ordering_then (numbers x.matrix_no y.matrix_no) (ap₂ ordering_then (numbers x.severity y.severity) (one (numbers x.band_no y.band_no))));
+  agrees = λ id jd u v x y. sym
+      (ap₂ ordering_then (numbers x.matrix_no y.matrix_no) (ap₂ ordering_then (numbers x.severity y.severity) (one (numbers x.band_no y.band_no))));
   keyed = λ id u x. (refl, (refl, (refl, (refl, tt))));
   fits = λ u x i. Text u ∷ cast_number x.matrix_no i ∷ cast_number x.severity i ∷ cast_number x.band_no i ∷ cast_number (cell_no x.cell_no) i ∷ [];
 }
@@ -173,8 +178,10 @@ good Changes = record {
   };
   agrees = λ id jd u v x y. sym (one (numbers x.number y.number));
   keyed = λ id u x. (refl, (refl, tt));
-  fits = λ u x i. Text u ∷ cast_number x.number i ∷ Text x.proposer ∷ cast_number x.proposed_s i ∷ cast_number (topic_no x.kind_no) i ∷ cast_open_text x.tag i ∷ cast_number x.base i
-      ∷ cast_open_text x.cause i ∷ cast_open_text x.consequence i ∷ cast_open_text x.remedy i ∷ cast_open_number x.severity i ∷ cast_open_number x.response_s i ∷ cast_open_number x.max_s i
+  fits = λ u x i. Text u ∷ cast_number x.number i ∷ Text x.proposer ∷ cast_number x.proposed_s i ∷ cast_number (topic_no x.kind_no) i
+      ∷ cast_open_text x.tag i ∷ cast_number x.base i
+      ∷ cast_open_text x.cause i ∷ cast_open_text x.consequence i ∷ cast_open_text x.remedy i ∷ cast_open_number x.severity i
+      ∷ cast_open_number x.response_s i ∷ cast_open_number x.max_s i
       ∷ cast_number (decision_no x.state_no) i ∷ cast_open_text x.decider i ∷ cast_open_number x.decided_s i ∷ [];
 }
 

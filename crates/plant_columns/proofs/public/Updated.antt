@@ -28,11 +28,13 @@ pub record HasUpdated (schema : Schema) (table : Table) (q : Query) (params : Ro
   pub found : List Row
   pub counted : count ≡ length found
   pub answer : IsAnswer q (overlay old.trees []) params found
-  pub rows : new.trees table.tree ≡ put_all (without_all (old.trees table.tree) (ids_of found)) (map (λ s. cast_row table (Rattle.std.proofs.Common.drop 1 s)) found)
+  pub rows : new.trees table.tree ≡ put_all (without_all (old.trees table.tree) (ids_of found))
+      (map (λ s. cast_row table (Rattle.std.proofs.Common.drop 1 s)) found)
   pub others : KeepsOthers schema table.tree old.trees new.trees
   pub same_schema : new.schema ≡ schema
 
-pub updates : (schema : Schema) → HasNoReferences schema → (text : List ℕ) (params : Row) (old new : State) (at : ℕ) (table : Table) (q : Query) → old.now.schema ≡ schema → slice_get schema.tables at ≡ Some table
+pub updates : (schema : Schema) → HasNoReferences schema → (text : List ℕ) (params : Row) (old new : State) (at : ℕ) (table : Table) (q : Query)
+    → old.now.schema ≡ schema → slice_get schema.tables at ≡ Some table
     → command_of (understood schema text) ≡ Update at (record { lets = []; body = q }) → IsPlain (understood schema text)
     → (count : ℕ) → Executes text params old new (Ok count) → HasUpdated schema table q params count old.now new.now
 updates schema free text params old new at table q has listed is plain count h =
@@ -40,8 +42,12 @@ updates schema free text params old new at table q has listed is plain count h =
     let db = old.now.trees in
     let w = runs_as text params old new schema has command is plain count h in
     let sql = statement_of text (understood schema text) in
-    let does = subst (λ s. Does old.step_limit (mode_of old) params (record old.now { schema = s }) sql None command (Ok (w.tally, new.now))) has w.changed in
-    let on = subst (λ o. AtPlace (λ t. OnRows (record { limit = old.step_limit; keys = (mode_of old).keys; schema = schema; table = t; params = params }) (mode_of old) None command db) o (Ok (w.tally, new.now))) listed does in
+    let does =
+        subst (λ s. Does old.step_limit (mode_of old) params (record old.now { schema = s }) sql None command (Ok (w.tally, new.now))) has
+        w.changed in
+    let on = subst
+        (λ o. AtPlace (λ t. OnRows (record { limit = old.step_limit; keys = (mode_of old).keys; schema = schema; table = t;
+        params = params }) (mode_of old) None command db) o (Ok (w.tally, new.now))) listed does in
     let done = went on in
     let now = ap (λ (p : Tally × Database). p.1) (same_value (went (went done.2).2).2) in
     let got = went done.1 in
@@ -56,7 +62,8 @@ updates schema free text params old new at table q has listed is plain count h =
     let shown : done.0.rows ≡ news = ap (λ (it : Written). it.rows) (same_value written.2) ∙ given left news in
     record {
       found = got.0;
-      counted = w.counted ∙ ap (λ r. unwrap_or r 0) told ∙ ap length shown ∙ length-map got.0 (λ (s : Row). cast_row table (Rattle.std.proofs.Common.drop 1 s));
+      counted = w.counted ∙ ap (λ r. unwrap_or r 0) told ∙ ap length shown
+          ∙ length-map got.0 (λ (s : Row). cast_row table (Rattle.std.proofs.Common.drop 1 s));
       answer = got.1.answer Null;
       rows = ap (λ (t : Trees). t table.tree) all ∙ step.rows ∙ placed;
       others = subst (KeepsOthers schema table.tree db) (sym all) step.tables;
@@ -66,35 +73,44 @@ updates schema free text params old new at table q has listed is plain count h =
 -- ---- a row put where its rowid says
 
 module _ (cmp : Row → Row → Ordering) (total : IsTotalOrder cmp) (p : Row → Bool) (x : Row) where
-  pushed : (l : List Row) → AllByRecursion (λ z. is_eq (cmp x z) ≡ false) l → (b : Bool) → sort_by cmp (cond b (x ∷ filter p l) (filter p l)) ≡ sort_by cmp (filter p l ++ cond b (x ∷ []) [])
+  pushed : (l : List Row) → AllByRecursion (λ z. is_eq (cmp x z) ≡ false) l → (b : Bool)
+      → sort_by cmp (cond b (x ∷ filter p l) (filter p l)) ≡ sort_by cmp (filter p l ++ cond b (x ∷ []) [])
   pushed l apart true = sym (sort_push cmp total x (filter p l) (all-filter _ p l apart))
   pushed l apart false = ap (sort_by cmp) (sym (append-nil (filter p l)))
 
   -- sorted, a row that lies elsewhere lies in its place all the same
-  pub kept-placed : (zs : List Row) → AllByRecursion (λ z. is_eq (value_cmp (rowid z) (rowid x)) ≡ false) zs → AllByRecursion (λ z. is_eq (cmp x z) ≡ false) zs → kept cmp p (put_row x zs) ≡ kept cmp p (zs ++ x ∷ [])
+  pub kept-placed : (zs : List Row) → AllByRecursion (λ z. is_eq (value_cmp (rowid z) (rowid x)) ≡ false) zs
+      → AllByRecursion (λ z. is_eq (cmp x z) ≡ false) zs → kept cmp p (put_row x zs) ≡ kept cmp p (zs ++ x ∷ [])
   kept-placed [] far apart = refl
   kept-placed (z ∷ zs) far apart = go (value_cmp (rowid z) (rowid x)) refl (kept-placed zs far.1 apart.1)
     where
       go : (o : Ordering) → value_cmp (rowid z) (rowid x) ≡ o → kept cmp p (put_row x zs) ≡ kept cmp p (zs ++ x ∷ [])
           → kept cmp p (match_ordering o (z ∷ put_row x zs) (x ∷ zs) (x ∷ z ∷ zs)) ≡ kept cmp p (z ∷ zs ++ x ∷ [])
-      go Less e more = elim (p z) as (λ b. sort_by cmp (cond b (z ∷ filter p (put_row x zs)) (filter p (put_row x zs))) ≡ sort_by cmp (cond b (z ∷ filter p (zs ++ x ∷ [])) (filter p (zs ++ x ∷ []))))
+      go Less e more =
+          elim (p z) as (λ b. sort_by cmp (cond b (z ∷ filter p (put_row x zs)) (filter p (put_row x zs)))
+          ≡ sort_by cmp (cond b (z ∷ filter p (zs ++ x ∷ [])) (filter p (zs ++ x ∷ []))))
           [ true ↦ ap (insert_sorted cmp z) more | false ↦ more ]
       go Equal e more = absurd (true≢false (sym (ap is_eq e) ∙ far.0))
       go Greater e more = pushed (z ∷ zs) apart (p x) ∙ sym (ap (sort_by cmp) (filter-append p (z ∷ zs) (x ∷ [])))
 
   -- those that tie with x are one
-  pub lone : (rows : List Row) → HasNoTies cmp total rows → (r : Row) → Has rows r → is_eq (cmp x r) ≡ true → filter (λ y. is_eq (cmp x y)) rows ≡ r ∷ []
+  pub lone : (rows : List Row) → HasNoTies cmp total rows → (r : Row) → Has rows r → is_eq (cmp x r) ≡ true
+      → filter (λ y. is_eq (cmp x y)) rows ≡ r ∷ []
   lone [] apart r h tie = absurd h
   lone (y ∷ ys) apart r (inl e) tie =
       let first : is_eq (cmp x y) ≡ true = subst (λ z. is_eq (cmp x z) ≡ true) e tie in
-      let none : filter (λ y. is_eq (cmp x y)) ys ≡ [] = filter_none _ ys (all_weaker _ (λ z. is_eq (cmp x z) ≡ false) (λ z far. ap is_eq (alike_left cmp (λ r. r) total x y z (tied _ _ first refl)) ∙ far) ys apart.0) in
+      let none : filter (λ y. is_eq (cmp x y)) ys ≡ [] =
+          filter_none _ ys (all_weaker _ (λ z. is_eq (cmp x z) ≡ false) (λ z far. ap is_eq (alike_left cmp (λ r. r) total x y z (tied _ _ first refl))
+          ∙ far) ys apart.0) in
       rw (first, none) (ap (λ z. z ∷ []) (sym e))
   lone (y ∷ ys) apart r (inr h) tie =
       let far : is_eq (cmp y r) ≡ false = all_has _ ys r apart.0 h in
-      let second : is_eq (cmp x y) ≡ false = false_from_ne_true _ (λ k. true≢false (sym tie ∙ ap is_eq (alike_left cmp (λ r. r) total x y r (tied _ _ k refl)) ∙ far)) in
+      let second : is_eq (cmp x y) ≡ false =
+          false_from_ne_true _ (λ k. true≢false (sym tie ∙ ap is_eq (alike_left cmp (λ r. r) total x y r (tied _ _ k refl)) ∙ far)) in
       rw second (lone ys apart.1 r h tie)
 
-pub no_ties-placed : (cmp : Row → Row → Ordering) (total : IsTotalOrder cmp) (x : Row) (zs : List Row) → AllByRecursion (λ z. is_eq (cmp x z) ≡ false) zs → HasNoTies cmp total zs → HasNoTies cmp total (put_row x zs)
+pub no_ties-placed : (cmp : Row → Row → Ordering) (total : IsTotalOrder cmp) (x : Row) (zs : List Row)
+    → AllByRecursion (λ z. is_eq (cmp x z) ≡ false) zs → HasNoTies cmp total zs → HasNoTies cmp total (put_row x zs)
 no_ties-placed cmp total x [] far apart = (tt, tt)
 no_ties-placed cmp total x (z ∷ zs) far apart = go (value_cmp (rowid z) (rowid x)) (no_ties-placed cmp total x zs far.1 apart.1)
   where
@@ -115,13 +131,18 @@ pub record SetsRow {X K : Type 0} (schema : Schema) (s : Shape X K) (u : List �
 
 module _ {X K : Type 0} (s : Shape X K) (good : IsShape s) (schema : Schema) (free : HasNoReferences schema) (listed : IsListed schema s) where
   -- The tests find the rows of the key of x, one is there, and what is shown of it is its rowid and x in its place.
-  pub sets_row : (text : List ℕ) (tests project : List Term) → command_of (understood schema text) ≡ Update s.place (record { lets = []; body = plain_query (inner s.tree end) tests project [] }) → IsPlain (understood schema text)
-      → (params : Row) (u : List ℕ) (x : X) (old new : State) → old.now.schema ≡ schema → AreRows (old.now.trees s.tree) → AreApart (1 ∷ s.keys) (old.now.trees s.tree)
+  pub sets_row : (text : List ℕ) (tests project : List Term)
+      → command_of (understood schema text) ≡ Update s.place (record { lets = []; body = plain_query (inner s.tree end) tests project [] })
+      → IsPlain (understood schema text)
+      → (params : Row) (u : List ℕ) (x : X) (old new : State) → old.now.schema ≡ schema → AreRows (old.now.trees s.tree)
+      → AreApart (1 ∷ s.keys) (old.now.trees s.tree)
       → (r : Row) → ((y : Row) → passes s.tree tests project [] params y ≡ is_eq (by_columns (1 ∷ s.keys) (row_in s (rowid r) u x) y))
-      → Has (old.now.trees s.tree) r → is_eq (by_columns (1 ∷ s.keys) (row_in s (rowid r) u x) r) ≡ true → (shows s.tree tests project [] params r).1 ≡ rowid r ∷ row_in s (rowid r) u x
+      → Has (old.now.trees s.tree) r → is_eq (by_columns (1 ∷ s.keys) (row_in s (rowid r) u x) r) ≡ true
+      → (shows s.tree tests project [] params r).1 ≡ rowid r ∷ row_in s (rowid r) u x
       → (count : ℕ) → Executes text params old new (Ok count) → SetsRow schema s u x old.now new.now
   sets_row text tests project is plain_text params u x old new has are apart r same there tie shown count h =
-      let it = updates schema free text params old new s.place (table_in s) (plain_query (inner s.tree end) tests project []) has listed.at is plain_text count h in
+      let it = updates schema free text params old new s.place (table_in s)
+          (plain_query (inner s.tree end) tests project []) has listed.at is plain_text count h in
       let key = 1 ∷ s.keys in
       let cmp = by_columns key in
       let rows = old.now.trees s.tree in
@@ -129,23 +150,32 @@ module _ {X K : Type 0} (s : Shape X K) (good : IsShape s) (schema : Schema) (fr
       let show = shows s.tree tests project [] params in
       let one : filter p rows ≡ r ∷ [] = lone cmp (by_columns_total key) p (row_in s (rowid r) u x) rows apart r there tie in
       let read = reads s.tree tests project [] old.now.trees params it.found it.answer in
-      let ordered : read.ordered ≡ show r ∷ [] = one_permutation (show r) read.ordered (subst (λ l. IsPermutation (map show l) read.ordered) (filter_same (passes s.tree tests project [] params) p same rows ∙ one) read.same) in
-      let found : it.found ≡ (rowid r ∷ row_in s (rowid r) u x) ∷ [] = read.rows_are ∙ ap (map (λ (o : Output). o.1)) ordered ∙ ap (λ (y : Row). y ∷ []) shown in
+      let ordered : read.ordered ≡ show r ∷ [] =
+          one_permutation (show r) read.ordered
+          (subst (λ l. IsPermutation (map show l) read.ordered) (filter_same (passes s.tree tests project [] params) p same rows ∙ one) read.same) in
+      let found : it.found ≡ (rowid r ∷ row_in s (rowid r) u x) ∷ [] = read.rows_are ∙ ap (map (λ (o : Output). o.1)) ordered
+          ∙ ap (λ (y : Row). y ∷ []) shown in
       let ids : ids_of it.found ≡ ids_of ((rowid r ∷ []) ∷ []) = ap ids_of found in
       let met : AreFound p rows ((rowid r ∷ []) ∷ []) = record {
         sound = λ y e. (r, there, tie, from_one y (rowid r ∷ []) e);
         complete = λ y e k. inl (ap (λ (z : Row). rowid z ∷ []) (from_one y r (subst (λ l. Has l y) one (has_kept p rows y e k))));
       } in
-      let left : without_all rows (ids_of it.found) ≡ filter (λ y. not (p y)) rows = ap (without_all rows) ids ∙ without_found p rows ((rowid r ∷ []) ∷ []) are met in
-      let casts : cast_row (table_in s) (row_in s (rowid r) u x) ≡ row_in s (rowid r) u x = ap₂ ◌∷◌ (subst (λ v. cast Integer v ≡ v) (sym (int_is (rowid r) (all_has _ rows r are.ints there))) (cast_int (id_in (rowid r)))) (good.fits u x) in
-      let news : map (λ (s' : Row). cast_row (table_in s) (Rattle.std.proofs.Common.drop 1 s')) it.found ≡ row_in s (rowid r) u x ∷ [] = ap (map (λ (s' : Row). cast_row (table_in s) (Rattle.std.proofs.Common.drop 1 s'))) found ∙ ap (λ (y : Row). y ∷ []) casts in
+      let left : without_all rows (ids_of it.found) ≡ filter (λ y. not (p y)) rows = ap (without_all rows) ids
+          ∙ without_found p rows ((rowid r ∷ []) ∷ []) are met in
+      let casts : cast_row (table_in s) (row_in s (rowid r) u x) ≡ row_in s (rowid r) u x =
+          ap₂ ◌∷◌ (subst (λ v. cast Integer v ≡ v) (sym (int_is (rowid r) (all_has _ rows r are.ints there))) (cast_int (id_in (rowid r))))
+          (good.fits u x) in
+      let news : map (λ (s' : Row). cast_row (table_in s) (Rattle.std.proofs.Common.drop 1 s')) it.found ≡ row_in s (rowid r) u x ∷ [] =
+          ap (map (λ (s' : Row). cast_row (table_in s) (Rattle.std.proofs.Common.drop 1 s'))) found ∙ ap (λ (y : Row). y ∷ []) casts in
       let whole : new.now.trees s.tree ≡ put_row (row_in s (rowid r) u x) (filter (λ y. not (p y)) rows) = it.rows ∙ ap₂ put_all left news in
-      let kept_are : AreRows (filter (λ y. not (p y)) rows) = record { rise = ascending-filter _ (λ y. not (p y)) rows are.rise; ints = all-filter _ (λ y. not (p y)) rows are.ints } in
+      let kept_are : AreRows (filter (λ y. not (p y)) rows) =
+          record { rise = ascending-filter _ (λ y. not (p y)) rows are.rise; ints = all-filter _ (λ y. not (p y)) rows are.ints } in
       record {
         id = rowid r;
         far = all_from _ (filter (λ y. not (p y)) rows) (λ y e.
             let k = has_filtered (λ y. not (p y)) rows y e in
-            false_from_ne_true _ (λ q. true≢false (sym tie ∙ ap p (sym (tied_same rows y r are.rise k.0 there (tied _ _ q refl))) ∙ not-true (p y) k.1)));
+            false_from_ne_true _ (λ q. true≢false (sym tie ∙ ap p (sym (tied_same rows y r are.rise k.0 there (tied _ _ q refl)))
+                ∙ not-true (p y) k.1)));
         rows = whole;
         are = subst AreRows (sym whole) (record {
           rise = IsTable-put_row (row_in s (rowid r) u x) _ kept_are.rise;
@@ -163,20 +193,32 @@ module _ {X K : Type 0} (s : Shape X K) (good : IsShape s) (schema : Schema) (fr
 
 module _ {X K : Type 0} (s : Shape X K) (schema : Schema) (free : HasNoReferences schema) (listed : IsListed schema s) where
   -- the count is that of the rows that pass
-  pub counts : (text : List ℕ) (tests project : List Term) → command_of (understood schema text) ≡ Update s.place (record { lets = []; body = plain_query (inner s.tree end) tests project [] }) → IsPlain (understood schema text)
-      → (params : Row) (old new : State) → old.now.schema ≡ schema → (count : ℕ) → Executes text params old new (Ok count) → count ≡ length (filter (passes s.tree tests project [] params) (old.now.trees s.tree))
+  pub counts : (text : List ℕ) (tests project : List Term)
+      → command_of (understood schema text) ≡ Update s.place (record { lets = []; body = plain_query (inner s.tree end) tests project [] })
+      → IsPlain (understood schema text)
+      → (params : Row) (old new : State) → old.now.schema ≡ schema → (count : ℕ) → Executes text params old new (Ok count)
+      → count ≡ length (filter (passes s.tree tests project [] params) (old.now.trees s.tree))
   counts text tests project is plain_text params old new has count h =
-      let it = updates schema free text params old new s.place (table_in s) (plain_query (inner s.tree end) tests project []) has listed.at is plain_text count h in
+      let it = updates schema free text params old new s.place (table_in s)
+          (plain_query (inner s.tree end) tests project []) has listed.at is plain_text count h in
       let read = reads s.tree tests project [] old.now.trees params it.found it.answer in
       let some = filter (passes s.tree tests project [] params) (old.now.trees s.tree) in
-      it.counted ∙ ap length read.rows_are ∙ length-map read.ordered (λ (o : Output). o.1) ∙ length_permutation (map (shows s.tree tests project [] params) some) read.ordered read.same ∙ length-map some (shows s.tree tests project [] params)
+      it.counted ∙ ap length read.rows_are ∙ length-map read.ordered (λ (o : Output). o.1)
+          ∙ length_permutation (map (shows s.tree tests project [] params) some) read.ordered read.same
+          ∙ length-map some (shows s.tree tests project [] params)
 
-  pub leaves : (text : List ℕ) (tests project : List Term) → command_of (understood schema text) ≡ Update s.place (record { lets = []; body = plain_query (inner s.tree end) tests project [] }) → IsPlain (understood schema text)
-      → (params : Row) (old new : State) → old.now.schema ≡ schema → Executes text params old new (Ok 0) → IsTidy (IsRowIn s) (1 ∷ s.keys) (old.now.trees s.tree) → (u : List ℕ) → ChangesRows schema s u (λ rows. rows) old.now new.now
+  pub leaves : (text : List ℕ) (tests project : List Term)
+      → command_of (understood schema text) ≡ Update s.place (record { lets = []; body = plain_query (inner s.tree end) tests project [] })
+      → IsPlain (understood schema text)
+      → (params : Row) (old new : State) → old.now.schema ≡ schema → Executes text params old new (Ok 0)
+      → IsTidy (IsRowIn s) (1 ∷ s.keys) (old.now.trees s.tree) → (u : List ℕ) → ChangesRows schema s u (λ rows. rows) old.now new.now
   leaves text tests project is plain_text params old new has h tidy u =
-      let it = updates schema free text params old new s.place (table_in s) (plain_query (inner s.tree end) tests project []) has listed.at is plain_text 0 h in
+      let it = updates schema free text params old new s.place (table_in s)
+          (plain_query (inner s.tree end) tests project []) has listed.at is plain_text 0 h in
       let none : it.found ≡ [] = nil_from_length it.found (sym it.counted) in
-      let same = it.rows ∙ ap (λ (found : List Row). put_all (without_all (old.now.trees s.tree) (ids_of found)) (map (λ (s' : Row). cast_row (table_in s) (Rattle.std.proofs.Common.drop 1 s')) found)) none in
+      let same = it.rows
+          ∙ ap (λ (found : List Row). put_all (without_all (old.now.trees s.tree) (ids_of found))
+          (map (λ (s' : Row). cast_row (table_in s) (Rattle.std.proofs.Common.drop 1 s')) found)) none in
       record {
         tidy = subst (IsTidy (IsRowIn s) (1 ∷ s.keys)) (sym same) tidy;
         mine = ap (rows_in s u) same;
@@ -189,26 +231,38 @@ module _ {X K : Type 0} (s : Shape X K) (schema : Schema) (free : HasNoReference
 
 module _ {X K : Type 0} (s : Shape X K) (good : IsShape s) (schema : Schema) (free : HasNoReferences schema) (listed : IsListed schema s) where
   -- the tests find the rows of the key of x, and of a row with that key x is shown, behind its rowid
-  pub sets_some : (text : List ℕ) (tests project : List Term) → command_of (understood schema text) ≡ Update s.place (record { lets = []; body = plain_query (inner s.tree end) tests project [] }) → IsPlain (understood schema text)
-      → (params : Row) (u : List ℕ) (x : X) → ((id : Value) (y : Row) → passes s.tree tests project [] params y ≡ is_eq (by_columns (1 ∷ s.keys) (row_in s id u x) y))
-      → ((id : Value) (v : List ℕ) (y : X) → is_eq (by_columns (1 ∷ s.keys) (row_in s id u x) (row_in s id v y)) ≡ true → (shows s.tree tests project [] params (row_in s id v y)).1 ≡ id ∷ row_in s id u x)
-      → (old new : State) → old.now.schema ≡ schema → IsTidy (IsRowIn s) (1 ∷ s.keys) (old.now.trees s.tree) → (count : ℕ) → nat_eq count 0 ≡ false → Executes text params old new (Ok count) → SetsRow schema s u x old.now new.now
+  pub sets_some : (text : List ℕ) (tests project : List Term)
+      → command_of (understood schema text) ≡ Update s.place (record { lets = []; body = plain_query (inner s.tree end) tests project [] })
+      → IsPlain (understood schema text)
+      → (params : Row) (u : List ℕ) (x : X)
+      → ((id : Value) (y : Row) → passes s.tree tests project [] params y ≡ is_eq (by_columns (1 ∷ s.keys) (row_in s id u x) y))
+      → ((id : Value) (v : List ℕ) (y : X) → is_eq (by_columns (1 ∷ s.keys) (row_in s id u x) (row_in s id v y)) ≡ true
+      → (shows s.tree tests project [] params (row_in s id v y)).1 ≡ id ∷ row_in s id u x)
+      → (old new : State) → old.now.schema ≡ schema → IsTidy (IsRowIn s) (1 ∷ s.keys) (old.now.trees s.tree) → (count : ℕ) → nat_eq count 0 ≡ false
+      → Executes text params old new (Ok count) → SetsRow schema s u x old.now new.now
   sets_some text tests project is plain_text params u x same shown old new has tidy count some h =
-      go (filter (passes s.tree tests project [] params) (old.now.trees s.tree)) (λ r k. has_filtered (passes s.tree tests project [] params) (old.now.trees s.tree) r k) (counts s schema free listed text tests project is plain_text params old new has count h)
+      go (filter (passes s.tree tests project [] params) (old.now.trees s.tree))
+          (λ r k. has_filtered (passes s.tree tests project [] params) (old.now.trees s.tree) r k)
+          (counts s schema free listed text tests project is plain_text params old new has count h)
     where
-      go : (l : List Row) → ((r : Row) → Has l r → Has (old.now.trees s.tree) r × (passes s.tree tests project [] params r ≡ true)) → count ≡ length l → SetsRow schema s u x old.now new.now
+      go : (l : List Row) → ((r : Row) → Has l r → Has (old.now.trees s.tree) r × (passes s.tree tests project [] params r ≡ true)) → count ≡ length l
+          → SetsRow schema s u x old.now new.now
       go [] back many = absurd (true≢false (sym (ap (λ (n : ℕ). nat_eq n 0) many) ∙ some))
       go (r ∷ l) back many =
           let it = back r (inl refl) in
           let whole : r ≡ row_in s (rowid r) (bytes (column r 1)) (s.read r) = all_has (IsRowIn s) (old.now.trees s.tree) r tidy.each it.0 in
           let tie : is_eq (by_columns (1 ∷ s.keys) (row_in s (rowid r) u x) r) ≡ true = sym (same (rowid r) r) ∙ it.1 in
-          let tied : is_eq (by_columns (1 ∷ s.keys) (row_in s (rowid r) u x) (row_in s (rowid r) (bytes (column r 1)) (s.read r))) ≡ true = sym (ap (λ (y : Row). is_eq (by_columns (1 ∷ s.keys) (row_in s (rowid r) u x) y)) whole) ∙ tie in
-          let there : (shows s.tree tests project [] params r).1 ≡ rowid r ∷ row_in s (rowid r) u x = ap (λ (y : Row). (shows s.tree tests project [] params y).1) whole ∙ shown (rowid r) (bytes (column r 1)) (s.read r) tied in
-          sets_row s good schema free listed text tests project is plain_text params u x old new has tidy.are tidy.apart r (same (rowid r)) it.0 tie there count h
+          let tied : is_eq (by_columns (1 ∷ s.keys) (row_in s (rowid r) u x) (row_in s (rowid r) (bytes (column r 1)) (s.read r))) ≡ true =
+              sym (ap (λ (y : Row). is_eq (by_columns (1 ∷ s.keys) (row_in s (rowid r) u x) y)) whole) ∙ tie in
+          let there : (shows s.tree tests project [] params r).1 ≡ rowid r ∷ row_in s (rowid r) u x =
+              ap (λ (y : Row). (shows s.tree tests project [] params y).1) whole ∙ shown (rowid r) (bytes (column r 1)) (s.read r) tied in
+          sets_row s good schema free listed text tests project is plain_text params u x old new has tidy.are tidy.apart r (same (rowid r)) it.0 tie
+              there count h
 
 -- ---- what that leaves of the rows of each unit: as if the row had been put anew
 
-module _ {X K : Type 0} (s : Shape X K) (good : IsShape s) (schema : Schema) (u : List ℕ) (x : X) (old new : Database) (it : SetsRow schema s u x old new) (tidy : IsTidy (IsRowIn s) (1 ∷ s.keys) (old.trees s.tree)) where
+module _ {X K : Type 0} (s : Shape X K) (good : IsShape s) (schema : Schema) (u : List ℕ) (x : X) (old new : Database)
+    (it : SetsRow schema s u x old new) (tidy : IsTidy (IsRowIn s) (1 ∷ s.keys) (old.trees s.tree)) where
   abbrev cmp : Row → Row → Ordering
   cmp = by_columns (1 ∷ s.keys)
 
@@ -219,18 +273,25 @@ module _ {X K : Type 0} (s : Shape X K) (good : IsShape s) (schema : Schema) (u 
   left = taken_out (by_columns (1 ∷ s.keys)) (row_in s it.id u x) (old.trees s.tree)
 
   placed : (v : List ℕ) → rows_in s v (new.trees s.tree) ≡ rows_in s v (left ++ row ∷ [])
-  placed v = ap (rows_in s v) it.rows ∙ ap (map s.read) (kept-placed cmp (by_columns_total (1 ∷ s.keys)) (is_of v) row left it.far (apart_from cmp (by_columns_total (1 ∷ s.keys)) row (old.trees s.tree)))
+  placed v = ap (rows_in s v) it.rows
+      ∙ ap (map s.read)
+      (kept-placed cmp (by_columns_total (1
+      ∷ s.keys)) (is_of v) row left it.far (apart_from cmp (by_columns_total (1 ∷ s.keys)) row (old.trees s.tree)))
 
   pub set_changes : ChangesRows schema s u (model.put_row s.order s.key x) old new
   set_changes = record {
     tidy = subst (IsTidy (IsRowIn s) (1 ∷ s.keys)) (sym it.rows) (record {
       are = subst AreRows it.rows it.are;
       each = all-put_row (IsRowIn s) row left (is_row s good it.id u x) (all-filter (IsRowIn s) _ (old.trees s.tree) tidy.each);
-      apart = no_ties-placed cmp (by_columns_total (1 ∷ s.keys)) row left (apart_from cmp (by_columns_total (1 ∷ s.keys)) row (old.trees s.tree)) (no_ties-out cmp (by_columns_total (1 ∷ s.keys)) _ (old.trees s.tree) tidy.apart);
+      apart = no_ties-placed cmp (by_columns_total (1 ∷ s.keys)) row left (apart_from cmp (by_columns_total (1 ∷ s.keys)) row (old.trees s.tree))
+          (no_ties-out cmp (by_columns_total (1 ∷ s.keys)) _ (old.trees s.tree) tidy.apart);
     });
-    mine = placed u ∙ put_mine s.keys (IsRowIn s) s.order good.total s.key s.read (named s good) (agrees_in s good) u row (old.trees s.tree) refl (is_row s good it.id u x) tidy
+    mine = placed u
+        ∙ put_mine s.keys (IsRowIn s) s.order good.total s.key s.read (named s good)
+        (agrees_in s good) u row (old.trees s.tree) refl (is_row s good it.id u x) tidy
         ∙ ap (λ y. model.put_row s.order s.key y (rows_in s u (old.trees s.tree))) (good.back it.id u x);
-    other_units = λ v other. placed v ∙ put_other s.keys (IsRowIn s) s.order good.total s.key s.read (named s good) (agrees_in s good) u v row (old.trees s.tree) refl other;
+    other_units = λ v other. placed v
+        ∙ put_other s.keys (IsRowIn s) s.order good.total s.key s.read (named s good) (agrees_in s good) u v row (old.trees s.tree) refl other;
     others = it.others;
     same_schema = it.same_schema;
   }

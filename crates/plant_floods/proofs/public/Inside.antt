@@ -35,13 +35,17 @@ apart k n (q ∷ qs) h = (tt, (begun (k + 1) n q h.0, h.1))
 abbrev is_out : Period → Bool
 is_out p = not p.in_flood
 
-parted : (before counts : List ℕ) (k n : ℕ) → k ≡ length before → k + length counts ≡ n → Parted k n (slice_split is_out (periods_after before counts))
+parted : (before counts : List ℕ) (k n : ℕ) → k ≡ length before → k + length counts ≡ n
+    → Parted k n (slice_split is_out (periods_after before counts))
 parted before [] k n ek en = (tt, tt)
 parted before (c ∷ counts) k n ek en =
     let p : Period = period before c in
     let long : length (before ++ c ∷ []) ≡ length before + 1 = omega (arith, length-append before (c ∷ [])) in
-    let rest : Parted (k + 1) n (slice_split is_out (periods_after (before ++ c ∷ []) counts)) = parted (before ++ c ∷ []) counts (k + 1) n (omega (arith, ek, long)) (omega (arith, en)) in
-    elim (is_out p) as (λ b. Parted k n (cond b ([] ∷ slice_split is_out (periods_after (before ++ c ∷ []) counts)) (onto_first p (slice_split is_out (periods_after (before ++ c ∷ []) counts))))) [
+    let rest : Parted (k + 1) n (slice_split is_out (periods_after (before ++ c ∷ []) counts)) =
+        parted (before ++ c ∷ []) counts (k + 1) n (omega (arith, ek, long)) (omega (arith, en)) in
+    elim (is_out p) as (λ b. Parted k n (cond b ([]
+        ∷ slice_split is_out (periods_after (before ++ c
+        ∷ []) counts)) (onto_first p (slice_split is_out (periods_after (before ++ c ∷ []) counts))))) [
       | true ↦ apart k n _ rest
       | false ↦ onto k n p _ (sym ek) (omega (arith, en)) rest
     ]
@@ -64,12 +68,15 @@ unfolding floods
 floods_within counts = runs_within (length counts) _ (all_inside 0 (length counts) _ (parted [] counts 0 (length counts) refl (omega arith)))
 
 counted : (es : List Event) (begin until : ℕ) → length (period_counts es begin until) ≡ (until - begin) / 600
-counted es begin until = length-map (range_with_len 0 ((until - begin) / 600)) (λ i. activations_from es (begin + 600 * i)) ∙ length-range_with_len 0 ((until - begin) / 600)
+counted es begin until = length-map (range_with_len 0 ((until - begin) / 600)) (λ i. activations_from es (begin + 600 * i))
+    ∙ length-range_with_len 0 ((until - begin) / 600)
 
 -- each run of a range ends within it
-pub run_at : (es : List Event) (begin until : ℕ) (i : ℕ) (d : Run) → i < length (floods (period_counts es begin until)) → IsWithin ((until - begin) / 600) (get_or (floods (period_counts es begin until)) i d)
+pub run_at : (es : List Event) (begin until : ℕ) (i : ℕ) (d : Run) → i < length (floods (period_counts es begin until))
+    → IsWithin ((until - begin) / 600) (get_or (floods (period_counts es begin until)) i d)
 run_at es begin until i d lt =
-    subst (λ (n : ℕ). IsWithin n (get_or (floods (period_counts es begin until)) i d)) (counted es begin until) (All-from_recursion _ _ (floods_within (period_counts es begin until)) i d lt)
+    subst (λ (n : ℕ). IsWithin n (get_or (floods (period_counts es begin until)) i d)) (counted es begin until)
+        (All-from_recursion _ _ (floods_within (period_counts es begin until)) i d lt)
 
 pub ends_within : (begin until : ℕ) (r : Run) → IsWithin ((until - begin) / 600) r → begin + 600 * r.last + 600 ≤ until
 ends_within begin until r h = omega (arith, h.0, h.1)

@@ -28,19 +28,22 @@ is_other kept e = not (list_any (has_number e.seq) kept)
 whole_or_none : (a m t k : Bool) → (a && not (((a && m) && t) && k)) ≡ false → (((a && m) && t) && k) ≡ a
 whole_or_none a m t k h = grind arith
 
-pub same_by_number : (e : Event) (others : List Event) → list_any (clashes e) others ≡ false → list_any (same_event e) others ≡ list_any (has_number e.seq) others
+pub same_by_number : (e : Event) (others : List Event) → list_any (clashes e) others ≡ false
+    → list_any (same_event e) others ≡ list_any (has_number e.seq) others
 same_by_number e [] h = refl
 same_by_number e (x ∷ xs) h =
     let parts = or_parts (clashes e x) (list_any (clashes e) xs) h in
     λ i. (whole_or_none (e.seq == x.seq) _ _ _ parts.0 ∙ sym (unsigned_tied e.seq x.seq)) i || same_by_number e xs parts.1 i
 
 -- a row without fault clashes with none and is in order with all
-pub row_fits : (tags : List Name) (now : ℕ) (others : List Event) (e : Event) → merge_fault tags now others e ≡ None → (list_any (clashes e) others ≡ false) × (list_any (out_of_order e) others ≡ false)
+pub row_fits : (tags : List Name) (now : ℕ) (others : List Event) (e : Event) → merge_fault tags now others e ≡ None
+    → (list_any (clashes e) others ≡ false) × (list_any (out_of_order e) others ≡ false)
 unfolding merge_fault
 row_fits tags now others e h = grind arith
 
 -- it has the same fault beside other events of which two tests say the same
-pub same_fault : (tags : List Name) (now : ℕ) (others more : List Event) (e : Event) → list_any (clashes e) others ≡ list_any (clashes e) more → list_any (out_of_order e) others ≡ list_any (out_of_order e) more → merge_fault tags now others e ≡ merge_fault tags now more e
+pub same_fault : (tags : List Name) (now : ℕ) (others more : List Event) (e : Event) → list_any (clashes e) others ≡ list_any (clashes e) more
+    → list_any (out_of_order e) others ≡ list_any (out_of_order e) more → merge_fault tags now others e ≡ merge_fault tags now more e
 unfolding merge_fault
 same_fault tags now others more e clash order = rw (clash, order) refl
 
@@ -55,44 +58,60 @@ same_number a b = has_number a.seq b
 same_numbers_tie : IsEquivalence same_number
 same_numbers_tie = eq_by_cmp_equiv (on_total event_number nat_cmp_total)
 
-fresh_firsts : (tags : List Name) (now line : ℕ) (kept rows : List Event) → first_fault tags now line kept rows ≡ None → fresh kept rows ≡ firsts same_numbers_tie kept rows
+fresh_firsts : (tags : List Name) (now line : ℕ) (kept rows : List Event) → first_fault tags now line kept rows ≡ None
+    → fresh kept rows ≡ firsts same_numbers_tie kept rows
 fresh_firsts tags now line kept [] none = refl
 fresh_firsts tags now line kept (e ∷ rows) none =
     let parts = no_first line (merge_fault tags now kept e) _ none in
-    λ i. (if not (same_by_number e kept (row_fits tags now kept e parts.0).0 i) then e ∷ [] else []) ++ fresh_firsts tags now (line + 1) (kept ++ e ∷ []) rows parts.1 i
+    λ i. (if not (same_by_number e kept (row_fits tags now kept e parts.0).0 i) then e ∷ [] else []) ++ fresh_firsts tags now (line + 1)
+        (kept ++ e ∷ []) rows parts.1 i
 
-pub any_fresh : (tags : List Name) (now line : ℕ) (kept rows : List Event) → first_fault tags now line kept rows ≡ None → (n : ℕ) → list_any (has_number n) (fresh kept rows) ≡ (not (list_any (has_number n) kept) && list_any (has_number n) rows)
+pub any_fresh : (tags : List Name) (now line : ℕ) (kept rows : List Event) → first_fault tags now line kept rows ≡ None → (n : ℕ)
+    → list_any (has_number n) (fresh kept rows) ≡ (not (list_any (has_number n) kept) && list_any (has_number n) rows)
 any_fresh tags now line kept rows none n =
-    ap (list_any (has_number n)) (fresh_firsts tags now line kept rows none) ∙ any_first same_numbers_tie (has_number n) (λ x t y. ap (λ m. has_number m y) (sym (same_it n x.seq t))) kept rows
+    ap (list_any (has_number n)) (fresh_firsts tags now line kept rows none)
+        ∙ any_first same_numbers_tie (has_number n) (λ x t y. ap (λ m. has_number m y) (sym (same_it n x.seq t))) kept rows
 
 -- the numbers of events
 any_numbers : (n : ℕ) (es : List Event) → list_any (ties n) (numbers_of es) ≡ list_any (has_number n) es
 any_numbers n [] = refl
 any_numbers n (e ∷ es) = ap (λ b. has_number n e || b) (any_numbers n es)
 
-any_left : (n : ℕ) (kept rows : List Event) → list_any (ties n) (numbers_of (filter (is_other kept) rows)) ≡ (not (list_any (has_number n) kept) && list_any (has_number n) rows)
-any_left n kept rows = any_numbers n _ ∙ any-filter_same (has_number n) (is_other kept) _ (λ e t. ap (λ m. not (list_any (has_number m) kept)) (sym (same_it n e.seq t))) rows
+any_left : (n : ℕ) (kept rows : List Event)
+    → list_any (ties n) (numbers_of (filter (is_other kept) rows)) ≡ (not (list_any (has_number n) kept) && list_any (has_number n) rows)
+any_left n kept rows = any_numbers n _
+    ∙ any-filter_same (has_number n) (is_other kept) _ (λ e t. ap (λ m. not (list_any (has_number m) kept)) (sym (same_it n e.seq t))) rows
 
 -- numbers that are not repeated, and are those of the rows that no kept event has, are as many as the new numbers
-counted : (kept rows es : List Event) → IsDistinct ties (numbers_of es) → ((n : ℕ) → list_any (has_number n) es ≡ (not (list_any (has_number n) kept) && list_any (has_number n) rows)) → length es ≡ length (new_numbers kept rows)
+counted : (kept rows es : List Event) → IsDistinct ties (numbers_of es)
+    → ((n : ℕ) → list_any (has_number n) es ≡ (not (list_any (has_number n) kept) && list_any (has_number n) rows))
+    → length es ≡ length (new_numbers kept rows)
 counted kept rows es distinct are =
-    sym (length-map es event_number) ∙ length-from_keys numbers_tie (numbers_of es) (numbers_of (filter (is_other kept) rows)) distinct (λ n. any_numbers n es ∙ are n ∙ sym (any_left n kept rows))
+    sym (length-map es event_number)
+        ∙ length-from_keys numbers_tie (numbers_of es)
+        (numbers_of (filter (is_other kept) rows)) distinct (λ n. any_numbers n es ∙ are n ∙ sym (any_left n kept rows))
 
 distinct_numbers : (es : List Event) → IsDistinct same_number es → IsDistinct ties (numbers_of es)
 unfolding IsDistinct
 distinct_numbers [] h = tt
-distinct_numbers (e ∷ es) h = (each_not (ties e.seq) (numbers_of es) (any_numbers e.seq es ∙ any_none (same_number e) es h.0), distinct_numbers es h.1)
+distinct_numbers (e ∷ es) h =
+    (each_not (ties e.seq) (numbers_of es) (any_numbers e.seq es ∙ any_none (same_number e) es h.0), distinct_numbers es h.1)
 
 -- a file without fault has as many new rows as new numbers
-pub fresh_count : (tags : List Name) (now line : ℕ) (kept rows : List Event) → first_fault tags now line kept rows ≡ None → length (fresh kept rows) ≡ length (new_numbers kept rows)
+pub fresh_count : (tags : List Name) (now line : ℕ) (kept rows : List Event) → first_fault tags now line kept rows ≡ None
+    → length (fresh kept rows) ≡ length (new_numbers kept rows)
 fresh_count tags now line kept rows none =
-    let distinct : IsDistinct same_number (fresh kept rows) = subst (IsDistinct same_number) (sym (fresh_firsts tags now line kept rows none)) (distinct_firsts same_numbers_tie kept rows) in
+    let distinct : IsDistinct same_number (fresh kept rows) =
+        subst (IsDistinct same_number) (sym (fresh_firsts tags now line kept rows none)) (distinct_firsts same_numbers_tie kept rows) in
     counted kept rows (fresh kept rows) (distinct_numbers (fresh kept rows) distinct) (any_fresh tags now line kept rows none)
 
 -- rows in rising number that no kept event has are as many, also where the rows came in another order
-pub counted_rising : (kept rows : List Event) → IsInOrder nat_cmp event_number rows → length (filter (is_other kept) rows) ≡ length (new_numbers kept rows)
+pub counted_rising : (kept rows : List Event) → IsInOrder nat_cmp event_number rows
+    → length (filter (is_other kept) rows) ≡ length (new_numbers kept rows)
 counted_rising kept rows order =
-    counted kept rows (filter (is_other kept) rows) (rising_distinct _ (keys_rise event_number (is_other kept) rows (rises_of event_number rows order))) (λ n. sym (any_numbers n _) ∙ any_left n kept rows)
+    counted kept rows (filter (is_other kept) rows)
+        (rising_distinct _ (keys_rise event_number (is_other kept) rows (rises_of event_number rows order)))
+        (λ n. sym (any_numbers n _) ∙ any_left n kept rows)
 
 -- events put twice
 abbrev said : List Event → ℕ → Option Event
@@ -101,15 +120,18 @@ said (r ∷ rs) q = or_else (said rs q) (when (ties q r.seq) r)
 
 at_puts : (q : ℕ) (rs es : List Event) → row_at nat_cmp event_number q (with_events es rs) ≡ or_else (said rs q) (row_at nat_cmp event_number q es)
 at_puts q [] es = refl
-at_puts q (r ∷ rs) es = grind (arith, at_puts q rs (put_row nat_cmp event_number r es), row_at-put_row nat_cmp event_number nat_cmp_total same_numbers q r es)
+at_puts q (r ∷ rs) es =
+    grind (arith, at_puts q rs (put_row nat_cmp event_number r es), row_at-put_row nat_cmp event_number nat_cmp_total same_numbers q r es)
 
-any_put : (n : ℕ) (r : Event) (es : List Event) → list_any (has_number n) (put_row nat_cmp event_number r es) ≡ (has_number n r || list_any (has_number n) es)
+any_put : (n : ℕ) (r : Event) (es : List Event)
+    → list_any (has_number n) (put_row nat_cmp event_number r es) ≡ (has_number n r || list_any (has_number n) es)
 any_put n r [] = refl
 any_put n r (e ∷ es) = grind (arith, any_put n r es)
 
 pub order_puts : (rs es : List Event) → IsInOrder nat_cmp event_number es → IsInOrder nat_cmp event_number (with_events es rs)
 order_puts [] es h = h
-order_puts (r ∷ rs) es h = order_puts rs (put_row nat_cmp event_number r es) (IsInOrder-put_row nat_cmp event_number nat_cmp_total same_numbers r es h)
+order_puts (r ∷ rs) es h =
+    order_puts rs (put_row nat_cmp event_number r es) (IsInOrder-put_row nat_cmp event_number nat_cmp_total same_numbers r es h)
 
 none_at : (q : ℕ) (es : List Event) → AllAbove event_number q es → row_at nat_cmp event_number q es ≡ None
 none_at q [] h = refl
@@ -118,7 +140,8 @@ none_at q (e ∷ es) h = ap (λ b. cond b (Some e) (row_at nat_cmp event_number 
 said_in_order : (q : ℕ) (rs : List Event) → Rises event_number rs → said rs q ≡ row_at nat_cmp event_number q rs
 said_in_order q [] h = refl
 said_in_order q (r ∷ rs) h =
-    let none : ties q r.seq ≡ true → row_at nat_cmp event_number q rs ≡ None = λ t. none_at q rs (subst (λ n. AllAbove event_number n rs) (sym (same_it q r.seq t)) h.0) in
+    let none : ties q r.seq ≡ true
+        → row_at nat_cmp event_number q rs ≡ None = λ t. none_at q rs (subst (λ n. AllAbove event_number n rs) (sym (same_it q r.seq t)) h.0) in
     grind (arith, said_in_order q rs h.1, none)
 
 -- first put among one another, and then among the kept events
@@ -126,7 +149,9 @@ pub put_twice : (kept more : List Event) → IsInOrder nat_cmp event_number kept
 put_twice kept more order =
     let rising : IsInOrder nat_cmp event_number (with_events [] more) = order_puts more [] tt in
     same_rows nat_cmp event_number nat_cmp_total same_numbers _ _ (order_puts (with_events [] more) kept order) (order_puts more kept order)
-    (λ q. grind (arith, at_puts q (with_events [] more) kept, said_in_order q (with_events [] more) (rises_of event_number _ rising), at_puts q more [], at_puts q more kept))
+    (λ q. grind
+    (arith, at_puts q (with_events [] more) kept, said_in_order q (with_events [] more) (rises_of event_number _ rising), at_puts q more [], at_puts q
+    more kept))
 
 -- the numbers of rows in rising number are those of the rows
 pub any_puts : (n : ℕ) (rs es : List Event) → list_any (has_number n) (with_events es rs) ≡ (list_any (has_number n) es || list_any (has_number n) rs)
@@ -137,5 +162,7 @@ pub same_count : (kept rows : List Event) → length (new_numbers kept (with_eve
 same_count kept rows =
     let put = with_events [] rows in
     let rising : IsInOrder nat_cmp event_number put = order_puts rows [] tt in
-    sym (counted_rising kept put rising) ∙ counted kept rows (filter (is_other kept) put) (rising_distinct _ (keys_rise event_number (is_other kept) put (rises_of event_number put rising)))
+    sym (counted_rising kept put rising)
+        ∙ counted kept rows (filter (is_other kept) put)
+        (rising_distinct _ (keys_rise event_number (is_other kept) put (rises_of event_number put rising)))
     (λ n. sym (any_numbers n _) ∙ any_left n kept put ∙ ap (λ b. not (list_any (has_number n) kept) && b) (any_puts n rows []))

@@ -46,7 +46,9 @@ Pairs R (x ∷ xs) = Each (R x) xs × Pairs R xs
 
 pub pairs_of : {X : Type 0} (R : X → X → Type 0) (xs : List X) → AllPairs R xs → Pairs R xs
 pairs_of R [] h = tt
-pairs_of R (x ∷ xs) h = (each_of (R x) xs (λ k d lt. h 0 (suc k) d (omega arith) (omega arith)), pairs_of R xs (λ i j d lt le. h (suc i) (suc j) d (omega arith) (omega arith)))
+pairs_of R (x ∷ xs) h =
+    (each_of (R x) xs (λ k d lt. h 0 (suc k) d (omega arith) (omega arith)), pairs_of R xs
+    (λ i j d lt le. h (suc i) (suc j) d (omega arith) (omega arith)))
 
 pub all_pairs : {X : Type 0} (R : X → X → Type 0) (xs : List X) → Pairs R xs → AllPairs R xs
 all_pairs R [] h = λ i j d lt le. absurd (omega arith)
@@ -72,7 +74,8 @@ pairs_before R [] rest y h = tt
 pairs_before R (x ∷ xs) rest y h = ((each_back (R x) xs (y ∷ rest) h.0).0, pairs_before R xs rest y h.1)
 
 -- the elements on both sides of a place
-pub parted_each : {X : Type 0} (P Q : X → Type 0) (xs : List X) (p : ℕ) → IsPartitionPoint P Q xs p → p ≤ length xs → Each P (take p xs) × Each Q (drop p xs)
+pub parted_each : {X : Type 0} (P Q : X → Type 0) (xs : List X) (p : ℕ) → IsPartitionPoint P Q xs p → p ≤ length xs
+    → Each P (take p xs) × Each Q (drop p xs)
 parted_each P Q xs p h le = (
   each_of P (take p xs) (λ k d lt.
       let in_front : k < p = omega (arith, lt, length-take-le p xs le) in
@@ -109,7 +112,8 @@ pub any_by_first : {X : Type 0} (p : X → Bool) (x : X) (xs : List X) → Each 
 any_by_first p x [] h = or-false (p x)
 any_by_first p x (y ∷ ys) h = grind (arith, h.0, any_by_first p x ys h.1)
 
-pub any_led : {X : Type 0} (p : X → Bool) (xs : List X) (x : X) (rest : List X) → Each (λ y. p y ≡ true → p x ≡ true) xs → list_any p (xs ++ x ∷ rest) ≡ list_any p (x ∷ rest)
+pub any_led : {X : Type 0} (p : X → Bool) (xs : List X) (x : X) (rest : List X) → Each (λ y. p y ≡ true → p x ≡ true) xs
+    → list_any p (xs ++ x ∷ rest) ≡ list_any p (x ∷ rest)
 any_led p xs x rest h = grind (arith, list_any-append p xs (x ∷ rest), any_by_first p x xs h)
 
 -- the elements that pass a test
@@ -127,11 +131,13 @@ filter_none p (x ∷ xs) h = ap (λ b. if b then x ∷ filter p xs else filter p
 pub filter_parts : {X : Type 0} (p : X → Bool) (xs ys : List X) → Each (λ x. p x ≡ true) xs → Each (λ x. p x ≡ false) ys → filter p (xs ++ ys) ≡ xs
 filter_parts p xs ys low high = filter-append p xs ys ∙ (λ i. filter_all p xs low i ++ filter_none p ys high i) ∙ append-nil xs
 
-pub filter-of_map : {X Y : Type 0} (f : X → Y) (p : Y → Bool) (q : X → Bool) → ((x : X) → p (f x) ≡ q x) → (xs : List X) → filter p (map f xs) ≡ map f (filter q xs)
+pub filter-of_map : {X Y : Type 0} (f : X → Y) (p : Y → Bool) (q : X → Bool) → ((x : X) → p (f x) ≡ q x) → (xs : List X)
+    → filter p (map f xs) ≡ map f (filter q xs)
 filter-of_map f p q same [] = refl
 filter-of_map f p q same (x ∷ xs) =
     (λ i. if same x i then f x ∷ filter-of_map f p q same xs i else filter-of_map f p q same xs i)
-    ∙ elim (q x) as (λ b. (if b then f x ∷ map f (filter q xs) else map f (filter q xs)) ≡ map f (if b then x ∷ filter q xs else filter q xs)) [ true ↦ refl | false ↦ refl ]
+    ∙ elim (q x) as (λ b. (if b then f x ∷ map f (filter q xs) else map f (filter q xs))
+    ≡ map f (if b then x ∷ filter q xs else filter q xs)) [ true ↦ refl | false ↦ refl ]
 
 pub each_from_all : {X : Type 0} (p : X → Bool) (xs : List X) → list_all p xs ≡ true → Each (λ x. p x ≡ true) xs
 each_from_all p [] h = tt
@@ -141,10 +147,16 @@ each_from_all p (x ∷ xs) h = let parts = and_parts (p x) (list_all p xs) h in 
 pub split_by : {X : Type 0} (p : X → Bool) (xs : List X) → Pairs (λ x y. p y ≡ true → p x ≡ true) xs → xs ≡ filter p xs ++ filter (λ x. not (p x)) xs
 split_by p [] h = refl
 split_by p (x ∷ xs) h =
-    let fail : p x ≡ false → Each (λ y. p y ≡ false) xs = λ f. each_weaker (λ y. p y ≡ true → p x ≡ true) (λ y. p y ≡ false) (λ y back. false_from_ne_true (p y) (λ t. absurd (cc (sym (back t) ∙ f)))) xs h.0 in
+    let fail : p x ≡ false
+        → Each (λ y. p y ≡ false) xs =
+        λ f. each_weaker (λ y. p y ≡ true → p x ≡ true) (λ y. p y ≡ false)
+        (λ y back. false_from_ne_true (p y) (λ t. absurd (cc (sym (back t) ∙ f)))) xs h.0 in
     let none : p x ≡ false → filter p xs ≡ [] = λ f. filter_none p xs (fail f) in
-    let rest : p x ≡ false → filter (λ y. not (p y)) xs ≡ xs = λ f. filter_all (λ y. not (p y)) xs (each_weaker (λ y. p y ≡ false) (λ y. not (p y) ≡ true) (λ y e. ap not e) xs (fail f)) in
+    let rest : p x ≡ false
+        → filter (λ y. not (p y)) xs ≡ xs =
+        λ f. filter_all (λ y. not (p y)) xs (each_weaker (λ y. p y ≡ false) (λ y. not (p y) ≡ true) (λ y e. ap not e) xs (fail f)) in
     grind (arith, split_by p xs h.1, none, rest)
 
-pub filter_front : {X : Type 0} (p : X → Bool) (xs : List X) → Pairs (λ x y. p y ≡ true → p x ≡ true) xs → filter p xs ≡ take (length (filter p xs)) xs
+pub filter_front : {X : Type 0} (p : X → Bool) (xs : List X) → Pairs (λ x y. p y ≡ true → p x ≡ true) xs
+    → filter p xs ≡ take (length (filter p xs)) xs
 filter_front p xs h = sym (ap (take (length (filter p xs))) (split_by p xs h) ∙ take-append_seam (filter p xs) (filter (λ x. not (p x)) xs))

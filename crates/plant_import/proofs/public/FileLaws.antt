@@ -22,7 +22,9 @@ abbrev pub Within : List Event → List Event → Type 0
 Within xs ys = (e : Event) → member e xs ≡ true → member e ys ≡ true
 
 itself : (e : Event) → same_event e e ≡ true
-itself e = λ i. eq-eqb e.seq e.seq refl i && eq-eqb e.moment e.moment refl i && (eq_by_cmp_equiv name_total).refl e.tag i && eq-eqb (kind_no e.kind) (kind_no e.kind) refl i
+itself e =
+    λ i. eq-eqb e.seq e.seq refl i && eq-eqb e.moment e.moment refl i && (eq_by_cmp_equiv name_total).refl e.tag i
+    && eq-eqb (kind_no e.kind) (kind_no e.kind) refl i
 
 pub same_events : IsEquivalence same_event
 same_events = record {
@@ -81,7 +83,8 @@ one_within : (e : Event) (zs : List Event) → member e zs ≡ true → Within (
 one_within e zs there q h = ap (λ x. member x zs) (only_one q e h) ∙ there
 
 -- what is new depends on the members of what is kept alone
-pub passing-append : (test : List Event → Event → Bool) (before xs ys : List Event) → passing test before (xs ++ ys) ≡ passing test before xs ++ passing test (before ++ xs) ys
+pub passing-append : (test : List Event → Event → Bool) (before xs ys : List Event)
+    → passing test before (xs ++ ys) ≡ passing test before xs ++ passing test (before ++ xs) ys
 passing-append test before [] ys = ap (λ l. passing test l ys) (sym (append-nil before))
 passing-append test before (x ∷ xs) ys = grind (arith, passing-append test (before ++ x ∷ []) xs ys, append_assoc before (x ∷ []) xs)
 
@@ -107,7 +110,9 @@ kept_members kept (b ∷ files) q =
 new_rows_are : (kept : List Event) (files : List Brought) → new_rows kept files ≡ length (fresh kept (rows_brought files))
 new_rows_are kept [] = refl
 new_rows_are kept (b ∷ files) =
-    ap (λ n. length (fresh kept b.1) + n) (new_rows_are (kept ++ fresh kept b.1) files ∙ ap (λ l. length l) (fresh_alike (kept ++ fresh kept b.1) (kept ++ b.1) (rows_brought files) (kept_fresh kept b.1)))
+    ap (λ n. length (fresh kept b.1) + n)
+        (new_rows_are (kept ++ fresh kept b.1) files
+        ∙ ap (λ l. length l) (fresh_alike (kept ++ fresh kept b.1) (kept ++ b.1) (rows_brought files) (kept_fresh kept b.1)))
     ∙ sym (length-append (fresh kept b.1) (fresh (kept ++ b.1) (rows_brought files)))
     ∙ ap (λ l. length l) (sym (passing-append is_new kept b.1 (rows_brought files)))
 
@@ -118,7 +123,8 @@ Agrees a b = (clashes a b ≡ false) × (out_of_order a b ≡ false)
 abbrev fits_in : List Event → Event → Bool
 fits_in es e = not (list_any (clashes e) es) && not (list_any (out_of_order e) es)
 
-pub fit_member : (es : List Event) (e : Event) → is_fit es ≡ true → member e es ≡ true → (list_any (clashes e) es ≡ false) × (list_any (out_of_order e) es ≡ false)
+pub fit_member : (es : List Event) (e : Event) → is_fit es ≡ true → member e es ≡ true
+    → (list_any (clashes e) es ≡ false) × (list_any (out_of_order e) es ≡ false)
 fit_member es e fit there =
     let parts = and_parts (not (list_any (clashes e) es)) (not (list_any (out_of_order e) es)) (all_member (fits_in es) es e fit there) in
     (not-true (list_any (clashes e) es) parts.0, not-true (list_any (out_of_order e) es) parts.1)
@@ -130,34 +136,44 @@ fit_of es fit a b h k =
 
 fit_from : (es : List Event) → ((a b : Event) → member a es ≡ true → member b es ≡ true → Agrees a b) → is_fit es ≡ true
 fit_from es each =
-    all_from (fits_in es) es (λ a h i. not (none_from (clashes a) es (λ b k. (each a b h k).0) i) && not (none_from (out_of_order a) es (λ b k. (each a b h k).1) i))
+    all_from (fits_in es) es (λ a h i. not (none_from (clashes a) es (λ b k. (each a b h k).0) i)
+        && not (none_from (out_of_order a) es (λ b k. (each a b h k).1) i))
 
 pub fit_within : (xs ys : List Event) → is_fit xs ≡ true → Within ys xs → is_fit ys ≡ true
 fit_within xs ys fit within = fit_from ys (λ a b h k. fit_of xs fit a b (within a h) (within b k))
 
 -- rows that fit have no fault
-fault_none : (tags : List Name) (now : ℕ) (others all : List Event) (e : Event) → list_any (same_name e.tag) tags ≡ true → nat_lt now e.moment ≡ false → Within others all → (list_any (clashes e) all ≡ false) × (list_any (out_of_order e) all ≡ false) → merge_fault tags now others e ≡ None
+fault_none : (tags : List Name) (now : ℕ) (others all : List Event) (e : Event) → list_any (same_name e.tag) tags ≡ true → nat_lt now e.moment ≡ false
+    → Within others all → (list_any (clashes e) all ≡ false) × (list_any (out_of_order e) all ≡ false) → merge_fault tags now others e ≡ None
 unfolding merge_fault
-fault_none tags now others all e tag ahead within fits = rw (tag, ahead, none_within (clashes e) others all within fits.0, none_within (out_of_order e) others all within fits.1) refl
+fault_none tags now others all e tag ahead within fits =
+    rw (tag, ahead, none_within (clashes e) others all within fits.0, none_within (out_of_order e) others all within fits.1) refl
 
-pub no_fault : (tags : List Name) (now line : ℕ) (all others rows : List Event) → are_known tags rows ≡ true → list_all (λ e. not (nat_lt now e.moment)) rows ≡ true → is_fit all ≡ true → Within others all → Within rows all → first_fault tags now line others rows ≡ None
+pub no_fault : (tags : List Name) (now line : ℕ) (all others rows : List Event) → are_known tags rows ≡ true
+    → list_all (λ e. not (nat_lt now e.moment)) rows ≡ true → is_fit all ≡ true → Within others all → Within rows all
+    → first_fault tags now line others rows ≡ None
 no_fault tags now line all others [] known ahead fit o w = refl
 no_fault tags now line all others (e ∷ rows) known ahead fit o w =
     let k = and_parts (list_any (same_name e.tag) tags) (are_known tags rows) known in
     let a = and_parts (not (nat_lt now e.moment)) (list_all (λ e. not (nat_lt now e.moment)) rows) ahead in
     let there : member e all ≡ true = w e (first_member e rows) in
-    let here : merge_fault tags now others e ≡ None = fault_none tags now others all e k.0 (not-true (nat_lt now e.moment) a.0) o (fit_member all e fit there) in
-    let rest : first_fault tags now (line + 1) (others ++ e ∷ []) rows ≡ None = no_fault tags now (line + 1) all (others ++ e ∷ []) rows k.1 a.1 fit (within_both others (e ∷ []) all o (one_within e all there)) (back_within (e ∷ []) rows all w) in
+    let here : merge_fault tags now others e ≡ None =
+        fault_none tags now others all e k.0 (not-true (nat_lt now e.moment) a.0) o (fit_member all e fit there) in
+    let rest : first_fault tags now (line + 1) (others ++ e ∷ []) rows ≡ None =
+        no_fault tags now (line + 1) all (others ++ e ∷ []) rows k.1 a.1 fit (within_both others (e ∷ []) all o (one_within e all there))
+        (back_within (e ∷ []) rows all w) in
     λ i. or_else (option_map (bad line) (here i)) (rest i)
 
-taken : (tags : List Name) (rows all kept : List Event) (files : List Brought) → are_known tags rows ≡ true → none_ahead rows files ≡ true → is_fit all ≡ true → Within rows all → Within kept all → Within (rows_brought files) rows → are_taken tags kept files ≡ true
+taken : (tags : List Name) (rows all kept : List Event) (files : List Brought) → are_known tags rows ≡ true → none_ahead rows files ≡ true
+    → is_fit all ≡ true → Within rows all → Within kept all → Within (rows_brought files) rows → are_taken tags kept files ≡ true
 taken tags rows all kept [] known ahead fit inside k w = refl
 taken tags rows all kept (b ∷ files) known ahead fit inside k w =
     let a = and_parts (list_all (λ e. not (nat_lt b.0 e.moment)) rows) (none_ahead rows files) ahead in
     let front : Within b.1 rows = front_within b.1 (rows_brought files) rows w in
     let own : Within b.1 all = λ e h. inside e (front e h) in
     let here : first_fault tags b.0 2 kept b.1 ≡ None =
-    no_fault tags b.0 2 all kept b.1 (all_within (λ e. list_any (same_name e.tag) tags) rows b.1 known front) (all_within (λ e. not (nat_lt b.0 e.moment)) rows b.1 a.0 front) fit k own in
+    no_fault tags b.0 2 all kept b.1 (all_within (λ e. list_any (same_name e.tag) tags) rows b.1 known front)
+        (all_within (λ e. not (nat_lt b.0 e.moment)) rows b.1 a.0 front) fit k own in
     let more : Within (kept ++ fresh kept b.1) all = λ e h. within_both kept b.1 all k own e (sym (kept_fresh kept b.1 e) ∙ h) in
     let rest = taken tags rows all (kept ++ fresh kept b.1) files known a.1 fit inside more (back_within b.1 (rows_brought files) rows w) in
     λ i. is_none (here i) && rest i
@@ -180,7 +196,8 @@ files_agree tags kept xs ys known first_ahead second_ahead fit same =
       first_taken = taken tags rows all kept xs known first_ahead fit (in_back kept rows) (in_front kept rows) (λ e h. h);
       second_taken = taken tags rows all kept ys known second_ahead fit (in_back kept rows) (in_front kept rows) (λ e h. same e ∙ h);
       same_kept = λ q. kept_members kept xs q
-          ∙ list_any-append (same_event q) kept rows ∙ ap (λ b. member q kept || b) (same q) ∙ sym (list_any-append (same_event q) kept (rows_brought ys))
+          ∙ list_any-append (same_event q) kept rows ∙ ap (λ b. member q kept || b) (same q)
+          ∙ sym (list_any-append (same_event q) kept (rows_brought ys))
           ∙ sym (kept_members kept ys q);
       first_count = new_rows_are kept xs;
       same_count = new_rows_are kept xs ∙ same_number_new kept rows (rows_brought ys) same ∙ sym (new_rows_are kept ys);
@@ -194,7 +211,8 @@ never_itself : (e : Event) → Agrees e e
 never_itself e = (ap (λ b. (e.seq == e.seq) && not b) (itself e) ∙ and-false (e.seq == e.seq), grind (arith, nat_tests))
 
 -- one more event that fits
-fit_more : (others : List Event) (e : Event) → is_fit others ≡ true → list_any (clashes e) others ≡ false → list_any (out_of_order e) others ≡ false → is_fit (others ++ e ∷ []) ≡ true
+fit_more : (others : List Event) (e : Event) → is_fit others ≡ true → list_any (clashes e) others ≡ false → list_any (out_of_order e) others ≡ false
+    → is_fit (others ++ e ∷ []) ≡ true
 fit_more others e fit clash order = fit_from (others ++ e ∷ []) (λ a b h k. by a b (among a h) (among b k)) where
   among : (a : Event) → member a (others ++ e ∷ []) ≡ true → (member a others ≡ true) ⊎ (a ≡ e)
   among a h = grind (arith, list_any-append (same_event a) others (e ∷ []), only_one a e)
@@ -209,12 +227,14 @@ fit_more others e fit clash order = fit_from (others ++ e ∷ []) (λ a b h k. b
   by a b (inr h) (inr k) = subst (λ x. Agrees x b) (sym h) (subst (Agrees e) (sym k) (never_itself e))
 
 -- a file without fault fits with the events that it is seen beside
-pub file_fits : (tags : List Name) (now line : ℕ) (others rows : List Event) → is_fit others ≡ true → first_fault tags now line others rows ≡ None → is_fit (others ++ rows) ≡ true
+pub file_fits : (tags : List Name) (now line : ℕ) (others rows : List Event) → is_fit others ≡ true → first_fault tags now line others rows ≡ None
+    → is_fit (others ++ rows) ≡ true
 file_fits tags now line others [] fit h = ap is_fit (append-nil others) ∙ fit
 file_fits tags now line others (e ∷ rows) fit h =
     let parts = no_first line (merge_fault tags now others e) (first_fault tags now (line + 1) (others ++ e ∷ []) rows) h in
     let here = row_fits tags now others e parts.0 in
-    ap is_fit (sym (append_assoc others (e ∷ []) rows)) ∙ file_fits tags now (line + 1) (others ++ e ∷ []) rows (fit_more others e fit here.0 here.1) parts.1
+    ap is_fit (sym (append_assoc others (e ∷ []) rows))
+        ∙ file_fits tags now (line + 1) (others ++ e ∷ []) rows (fit_more others e fit here.0 here.1) parts.1
 
 none_of : {A : Type 0} (o : Option A) → is_none o ≡ true → o ≡ None
 none_of o e = grind arith
@@ -225,4 +245,5 @@ taken_files_fit tags kept [] fit h = fit
 taken_files_fit tags kept (b ∷ files) fit h =
     let parts = and_parts (is_none (first_fault tags b.0 2 kept b.1)) (are_taken tags (kept ++ fresh kept b.1) files) h in
     let whole : is_fit (kept ++ b.1) ≡ true = file_fits tags b.0 2 kept b.1 fit (none_of (first_fault tags b.0 2 kept b.1) parts.0) in
-    taken_files_fit tags (kept ++ fresh kept b.1) files (fit_within (kept ++ b.1) (kept ++ fresh kept b.1) whole (λ e there. sym (kept_fresh kept b.1 e) ∙ there)) parts.1
+    taken_files_fit tags (kept
+        ++ fresh kept b.1) files (fit_within (kept ++ b.1) (kept ++ fresh kept b.1) whole (λ e there. sym (kept_fresh kept b.1 e) ∙ there)) parts.1

@@ -10,7 +10,8 @@ module _ {eq : Event → Event → Bool} (laws : IsEquivalence eq) where
   firsts = passing (λ others e. not (list_any (eq e) others))
 
   -- a test that equal events pass alike
-  pub any_first : (p : Event → Bool) → ((x : Event) → p x ≡ true → (y : Event) → eq x y ≡ p y) → (before es : List Event) → list_any p (firsts before es) ≡ (not (list_any p before) && list_any p es)
+  pub any_first : (p : Event → Bool) → ((x : Event) → p x ≡ true → (y : Event) → eq x y ≡ p y) → (before es : List Event)
+      → list_any p (firsts before es) ≡ (not (list_any p before) && list_any p es)
   any_first p alike before [] = sym (and-false _)
   any_first p alike before (e ∷ es) =
       let same : p e ≡ true → list_any (eq e) before ≡ list_any p before = λ t i. list_any (λ y. alike e t y i) before in
@@ -24,5 +25,7 @@ module _ {eq : Event → Event → Bool} (laws : IsEquivalence eq) where
   distinct_firsts before [] = tt
   distinct_firsts before (e ∷ es) =
       let rest = distinct_firsts (before ++ e ∷ []) es in
-      let away : list_any (eq e) (firsts (before ++ e ∷ []) es) ≡ false = grind (arith, member_first e (before ++ e ∷ []) es, list_any-append (eq e) before (e ∷ []), laws.refl e) in
-      elim (list_any (eq e) before) as (λ b. IsDistinct eq ((if not b then e ∷ [] else []) ++ firsts (before ++ e ∷ []) es)) [ true ↦ rest | false ↦ (each_not (eq e) _ away, rest) ]
+      let away : list_any (eq e) (firsts (before ++ e ∷ []) es) ≡ false =
+          grind (arith, member_first e (before ++ e ∷ []) es, list_any-append (eq e) before (e ∷ []), laws.refl e) in
+      elim (list_any (eq e) before) as (λ b. IsDistinct eq ((if not b then e ∷ [] else [])
+          ++ firsts (before ++ e ∷ []) es)) [ true ↦ rest | false ↦ (each_not (eq e) _ away, rest) ]

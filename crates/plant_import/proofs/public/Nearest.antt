@@ -48,40 +48,63 @@ pub apart : (below above : List Event) (e : Event) → Each (λ x. x.seq < e.seq
 apart below above e low high =
     record {
       same_is =
-          list_any-append (same_event e) below above ∙ ap (λ b. b || list_any (same_event e) above) (any_none (same_event e) below (each_weaker (λ x. x.seq < e.seq) (λ x. same_event e x ≡ false) (λ x lt. (other_number e x (λ q. absurd (omega (arith, q, lt)))).0) below low))
-          ∙ any_none (same_event e) above (each_weaker (λ x. e.seq < x.seq) (λ x. same_event e x ≡ false) (λ x lt. (other_number e x (λ q. absurd (omega (arith, q, lt)))).0) above high);
+          list_any-append (same_event e) below above
+              ∙ ap (λ b. b || list_any (same_event e) above)
+              (any_none (same_event e) below (each_weaker (λ x. x.seq < e.seq) (λ x. same_event e x
+              ≡ false) (λ x lt. (other_number e x (λ q. absurd (omega (arith, q, lt)))).0) below low))
+          ∙ any_none (same_event e) above (each_weaker (λ x. e.seq < x.seq) (λ x. same_event e x
+          ≡ false) (λ x lt. (other_number e x (λ q. absurd (omega (arith, q, lt)))).0) above high);
       clash_is =
-          list_any-append (clashes e) below above ∙ ap (λ b. b || list_any (clashes e) above) (any_none (clashes e) below (each_weaker (λ x. x.seq < e.seq) (λ x. clashes e x ≡ false) (λ x lt. (other_number e x (λ q. absurd (omega (arith, q, lt)))).1) below low))
-          ∙ any_none (clashes e) above (each_weaker (λ x. e.seq < x.seq) (λ x. clashes e x ≡ false) (λ x lt. (other_number e x (λ q. absurd (omega (arith, q, lt)))).1) above high);
+          list_any-append (clashes e) below above
+              ∙ ap (λ b. b || list_any (clashes e) above)
+              (any_none (clashes e) below (each_weaker (λ x. x.seq < e.seq) (λ x. clashes e x
+              ≡ false) (λ x lt. (other_number e x (λ q. absurd (omega (arith, q, lt)))).1) below low))
+          ∙ any_none (clashes e) above (each_weaker (λ x. e.seq < x.seq) (λ x. clashes e x
+          ≡ false) (λ x lt. (other_number e x (λ q. absurd (omega (arith, q, lt)))).1) above high);
       order_is =
           list_any-append (out_of_order e) below above
-          ∙ ap (λ b. b || list_any (out_of_order e) above) (any_same (out_of_order e) (λ x. nat_lt e.moment x.moment) below (each_weaker (λ x. x.seq < e.seq) (λ x. out_of_order e x ≡ nat_lt e.moment x.moment) (order_below e) below low))
-          ∙ ap (λ b. list_any (λ x. nat_lt e.moment x.moment) below || b) (any_same (out_of_order e) (λ x. nat_lt x.moment e.moment) above (each_weaker (λ x. e.seq < x.seq) (λ x. out_of_order e x ≡ nat_lt x.moment e.moment) (order_above e) above high));
+          ∙ ap (λ b. b || list_any (out_of_order e) above)
+          (any_same (out_of_order e) (λ x. nat_lt e.moment x.moment) below (each_weaker (λ x. x.seq < e.seq) (λ x. out_of_order e x
+          ≡ nat_lt e.moment x.moment) (order_below e) below low))
+          ∙ ap (λ b. list_any (λ x. nat_lt e.moment x.moment) below || b)
+          (any_same (out_of_order e) (λ x. nat_lt x.moment e.moment) above (each_weaker (λ x. e.seq < x.seq) (λ x. out_of_order e x
+          ≡ nat_lt x.moment e.moment) (order_above e) above high));
     }
 
 no_clash_with_itself : (e : Event) → same_event e e ≡ true → clashes e e ≡ false
 no_clash_with_itself e s = ap (λ b. (e.seq == e.seq) && not b) s ∙ and-false (e.seq == e.seq)
 
-known_itself : (below rest : List Event) (e : Event) → same_event e e ≡ true → Rising (below ++ e ∷ rest) → RelatesSo (below ++ e ∷ rest) e true false false
+known_itself : (below rest : List Event) (e : Event) → same_event e e ≡ true → Rising (below ++ e ∷ rest)
+    → RelatesSo (below ++ e ∷ rest) e true false false
 known_itself below rest e s rising =
     let low = pairs_before Before below rest e rising in
     let high = (pairs_back Before below (e ∷ rest) rising).0 in
-    let below_no_clash = each_weaker (λ x. Before x e) (λ x. clashes e x ≡ false) (λ x b. (other_number e x (λ q. absurd (omega (arith, q, b.0)))).1) below low in
-    let above_no_clash = each_weaker (Before e) (λ x. clashes e x ≡ false) (λ x b. (other_number e x (λ q. absurd (omega (arith, q, b.0)))).1) rest high in
-    let below_in_order = each_weaker (λ x. Before x e) (λ x. out_of_order e x ≡ false) (λ x b. order_below e x b.0 ∙ le-ltb e.moment x.moment b.1) below low in
-    let above_in_order = each_weaker (Before e) (λ x. out_of_order e x ≡ false) (λ x b. order_above e x b.0 ∙ le-ltb x.moment e.moment b.1) rest high in
+    let below_no_clash =
+        each_weaker (λ x. Before x e) (λ x. clashes e x ≡ false) (λ x b. (other_number e x (λ q. absurd (omega (arith, q, b.0)))).1) below low in
+    let above_no_clash =
+        each_weaker (Before e) (λ x. clashes e x ≡ false) (λ x b. (other_number e x (λ q. absurd (omega (arith, q, b.0)))).1) rest high in
+    let below_in_order =
+        each_weaker (λ x. Before x e) (λ x. out_of_order e x ≡ false) (λ x b. order_below e x b.0 ∙ le-ltb e.moment x.moment b.1) below low in
+    let above_in_order =
+        each_weaker (Before e) (λ x. out_of_order e x ≡ false) (λ x b. order_above e x b.0 ∙ le-ltb x.moment e.moment b.1) rest high in
     record {
       same_is = any_there (same_event e) below rest e s;
-      clash_is = any_none (clashes e) (below ++ e ∷ rest) (each_append (λ x. clashes e x ≡ false) below (e ∷ rest) below_no_clash (no_clash_with_itself e s, above_no_clash));
-      order_is = any_none (out_of_order e) (below ++ e ∷ rest) (each_append (λ x. out_of_order e x ≡ false) below (e ∷ rest) below_in_order (order_same e e refl, above_in_order));
+      clash_is =
+          any_none (clashes e) (below ++ e ∷ rest)
+          (each_append (λ x. clashes e x ≡ false) below (e ∷ rest) below_no_clash (no_clash_with_itself e s, above_no_clash));
+      order_is =
+          any_none (out_of_order e) (below ++ e ∷ rest)
+          (each_append (λ x. out_of_order e x ≡ false) below (e ∷ rest) below_in_order (order_same e e refl, above_in_order));
     }
 
 -- it is one of them
-pub known : (below rest : List Event) (e other : Event) → same_event e other ≡ true → Rising (below ++ other ∷ rest) → RelatesSo (below ++ other ∷ rest) e true false false
+pub known : (below rest : List Event) (e other : Event) → same_event e other ≡ true → Rising (below ++ other ∷ rest)
+    → RelatesSo (below ++ other ∷ rest) e true false false
 known below rest e other s rising =
     let same : e ≡ other = same_is e other s in
     subst (λ (y : Event). RelatesSo (below ++ y ∷ rest) e true false false) same
-    (known_itself below rest e (subst (λ (y : Event). same_event e y ≡ true) (sym same) s) (subst (λ (y : Event). Rising (below ++ y ∷ rest)) (sym same) rising))
+    (known_itself below rest e (subst (λ (y : Event). same_event e y
+    ≡ true) (sym same) s) (subst (λ (y : Event). Rising (below ++ y ∷ rest)) (sym same) rising))
 
 -- the two parts of rising events at a number
 pub record AreParts (events : List Event) (seq : ℕ) (below above : List Event) : Type 0 where
@@ -90,14 +113,17 @@ pub record AreParts (events : List Event) (seq : ℕ) (below above : List Event)
   pub low : Each (λ x. x.seq < seq) below
   pub high : Each (λ x. seq ≤ x.seq) above
 
-pub parts : (events below above : List Event) (seq place : ℕ) → IsRising events → IsPartitionPoint (λ x. x.seq < seq) (λ x. seq ≤ x.seq) events place → place ≤ length events → below ≡ take place events → above ≡ drop place events → AreParts events seq below above
+pub parts : (events below above : List Event) (seq place : ℕ) → IsRising events → IsPartitionPoint (λ x. x.seq < seq) (λ x. seq ≤ x.seq) events place
+    → place ≤ length events → below ≡ take place events → above ≡ drop place events → AreParts events seq below above
 parts events below above seq place rising cut le eb ea =
-    let whole : events ≡ below ++ above = sym (take-append-drop place events) ∙ ap (λ l. l ++ drop place events) (sym eb) ∙ ap (λ l. below ++ l) (sym ea) in
+    let whole : events ≡ below ++ above = sym (take-append-drop place events) ∙ ap (λ l. l ++ drop place events) (sym eb)
+        ∙ ap (λ l. below ++ l) (sym ea) in
     let sides = parted_each (λ x. x.seq < seq) (λ x. seq ≤ x.seq) events place cut le in
     record { whole = whole; rising = subst (λ (l : List Event). Rising l) whole (rising_of events rising); low = rw eb sides.0; high = rw ea sides.1 }
 
 -- no event has the number where the first of the others hasn't
-higher : (seq : ℕ) (above : List Event) (first : Option Event) → Each (λ x. seq ≤ x.seq) above → Rising above → first ≡ slice_get above 0 → unwrap_or (option_map (λ x. x.seq == seq) first) false ≡ false → Each (λ x. seq < x.seq) above
+higher : (seq : ℕ) (above : List Event) (first : Option Event) → Each (λ x. seq ≤ x.seq) above → Rising above → first ≡ slice_get above 0
+    → unwrap_or (option_map (λ x. x.seq == seq) first) false ≡ false → Each (λ x. seq < x.seq) above
 higher seq [] first high rising is other = tt
 higher seq (x ∷ xs) first high rising is other =
     let here : seq < x.seq = grind (arith, nat_tests, high.0) in
@@ -110,20 +136,24 @@ below_rising events below above seq p = is_rising below (pairs_front Before belo
 pub above_rising : (events below above : List Event) (seq : ℕ) → AreParts events seq below above → IsRising above
 above_rising events below above seq p = is_rising above (pairs_back Before below above p.rising)
 
-pub related_known : (events below above : List Event) (e other : Event) → AreParts events e.seq below above → Some other ≡ slice_get above 0 → same_event e other ≡ true → RelatesSo events e true false false
+pub related_known : (events below above : List Event) (e other : Event) → AreParts events e.seq below above → Some other ≡ slice_get above 0
+    → same_event e other ≡ true → RelatesSo events e true false false
 related_known events below above e other p first s =
     let cut : events ≡ below ++ other ∷ drop 1 above = p.whole ∙ ap (λ l. below ++ l) (first_cut above other first) in
     subst (λ (l : List Event). RelatesSo l e true false false) (sym cut)
     (known below (drop 1 above) e other s (subst (λ (l : List Event). Rising l) (ap (λ l. below ++ l) (first_cut above other first)) p.rising))
 
-pub stands_clash : (events below above : List Event) (e other : Event) → AreParts events e.seq below above → Some other ≡ slice_get above 0 → e.seq ≡ other.seq → same_event e other ≡ false → list_any (clashes e) events ≡ true
+pub stands_clash : (events below above : List Event) (e other : Event) → AreParts events e.seq below above → Some other ≡ slice_get above 0
+    → e.seq ≡ other.seq → same_event e other ≡ false → list_any (clashes e) events ≡ true
 stands_clash events below above e other p first same s =
     let cut : events ≡ below ++ other ∷ drop 1 above = p.whole ∙ ap (λ l. below ++ l) (first_cut above other first) in
     let clash : clashes e other ≡ true = ap (λ b. (e.seq == other.seq) && not b) s ∙ ap (λ b. b && true) (eq-eqb e.seq other.seq same) in
     ap (list_any (clashes e)) cut ∙ any_there (clashes e) below (drop 1 above) other clash
 
-pub stands_apart : (events below above : List Event) (e : Event) (first : Option Event) (b c d : Bool) → AreParts events e.seq below above → first ≡ slice_get above 0 → unwrap_or (option_map (λ x. x.seq == e.seq) first) false ≡ false
-    → b ≡ list_any (λ x. nat_lt e.moment x.moment) below → c ≡ list_any (λ x. nat_lt x.moment e.moment) above → (b || c) ≡ d → RelatesSo events e false false d
+pub stands_apart : (events below above : List Event) (e : Event) (first : Option Event) (b c d : Bool) → AreParts events e.seq below above
+    → first ≡ slice_get above 0 → unwrap_or (option_map (λ x. x.seq == e.seq) first) false ≡ false
+    → b ≡ list_any (λ x. nat_lt e.moment x.moment) below → c ≡ list_any (λ x. nat_lt x.moment e.moment) above → (b || c) ≡ d
+    → RelatesSo events e false false d
 stands_apart events below above e first b c d p is other eb ec ed =
     let high = higher e.seq above first p.high (pairs_back Before below above p.rising) is other in
     rw (p.whole, sym ed, eb, ec) (apart below above e p.low high)

@@ -18,7 +18,8 @@ use Rattle.plant_import.proofs.public.EachLaws.{each_of, each_weaker, filter_fro
 use Rattle.plant_types.specs.{KeyedRows.{IsInOrder}, Names.{Name, same_name, name_cmp}, Options.{or_else}}
 
 -- as many pass as stand before the place where they end
-pub parted_count : {X : Type 0} (q : X → Bool) (xs : List X) (p : ℕ) → IsPartitionPoint (λ x. q x ≡ true) (λ x. q x ≡ false) xs p → p ≤ length xs → p ≡ length (filter q xs)
+pub parted_count : {X : Type 0} (q : X → Bool) (xs : List X) (p : ℕ) → IsPartitionPoint (λ x. q x ≡ true) (λ x. q x ≡ false) xs p → p ≤ length xs
+    → p ≡ length (filter q xs)
 parted_count q xs p h le =
     let sides = parted_each (λ x. q x ≡ true) (λ x. q x ≡ false) xs p h le in
     sym (ap length (ap (filter q) (sym (take-append-drop p xs)) ∙ filter_parts q (take p xs) (drop p xs) sides.0 sides.1) ∙ length-take-le p xs le)
@@ -29,12 +30,15 @@ before_more [] a b le h = refl
 before_more (e ∷ rows) a b le h = grind (arith, nat_tests, before_more rows a b le)
 
 above_all : (rows : List Event) (k : Event) → is_before_all rows k ≡ true → Each (λ e. k.seq < e.seq) rows
-above_all rows k h = each_weaker (λ e. nat_lt k.seq e.seq ≡ true) (λ e. k.seq < e.seq) (λ e. ltb-true k.seq e.seq) rows (each_from_all (λ e. nat_lt k.seq e.seq) rows h)
+above_all rows k h =
+    each_weaker (λ e. nat_lt k.seq e.seq ≡ true) (λ e. k.seq < e.seq)
+    (λ e. ltb-true k.seq e.seq) rows (each_from_all (λ e. nat_lt k.seq e.seq) rows h)
 
 all_lower : (rows pre : List Event) → Each (λ k. is_before_all rows k ≡ true) pre → Each (λ e. Each (λ k. k.seq < e.seq) pre) rows
 all_lower rows [] h = each_of (λ (e : Event). Each (λ (k : Event). k.seq < e.seq) []) rows (λ k d lt. tt)
 all_lower rows (k ∷ ks) h =
-    each_both (λ e. k.seq < e.seq) (λ e. Each (λ x. x.seq < e.seq) ks) (λ e. Each (λ x. x.seq < e.seq) (k ∷ ks)) (λ e one others. (one, others)) rows (above_all rows k h.0) (all_lower rows ks h.1)
+    each_both (λ e. k.seq < e.seq) (λ e. Each (λ x. x.seq < e.seq) ks) (λ e. Each (λ x. x.seq < e.seq) (k ∷ ks))
+        (λ e one others. (one, others)) rows (above_all rows k h.0) (all_lower rows ks h.1)
 
 -- the kept events are some that come before every row, and then the near ones, the first of which comes before every row too
 pub record AreLed (rows kept near : List Event) : Type 0 where
@@ -54,15 +58,20 @@ cut rows [] h = inl refl
 cut rows (k ∷ ks) h = by (length (filter (is_before_all rows) (k ∷ ks))) refl where
   passes : Each (λ x. is_before_all rows x ≡ true) (take (length (filter (is_before_all rows) (k ∷ ks))) (k ∷ ks))
   passes =
-      let closed = pairs_weaker (λ x y. x.seq < y.seq) (λ x y. is_before_all rows y ≡ true → is_before_all rows x ≡ true) (before_more rows) (k ∷ ks) (rises_of event_number (k ∷ ks) h) in
-      subst (λ (l : List Event). Each (λ x. is_before_all rows x ≡ true) l) (filter_front (is_before_all rows) (k ∷ ks) closed) (each_filter (is_before_all rows) (k ∷ ks))
+      let closed =
+          pairs_weaker (λ x y. x.seq < y.seq) (λ x y. is_before_all rows y ≡ true → is_before_all rows x ≡ true) (before_more rows) (k ∷ ks)
+          (rises_of event_number (k ∷ ks) h) in
+      subst (λ (l : List Event). Each (λ x. is_before_all rows x ≡ true) l) (filter_front (is_before_all rows) (k ∷ ks) closed)
+          (each_filter (is_before_all rows) (k ∷ ks))
 
   by : (n : ℕ) → n ≡ length (filter (is_before_all rows) (k ∷ ks)) → AreCut rows (k ∷ ks) (drop (n - 1) (k ∷ ks))
   by zero e = inl refl
   by (suc n) e =
-      let lt : n < length (k ∷ ks) = omega (arith, e, length-filter_both (is_before_all rows) (λ x. not (is_before_all rows x)) (λ x. refl) (k ∷ ks)) in
+      let lt : n < length (k ∷ ks) =
+          omega (arith, e, length-filter_both (is_before_all rows) (λ x. not (is_before_all rows x)) (λ x. refl) (k ∷ ks)) in
       let is = drop_more (k ∷ ks) n k lt in
-      let front : take (length (filter (is_before_all rows) (k ∷ ks))) (k ∷ ks) ≡ take n (k ∷ ks) ++ get_or (k ∷ ks) n k ∷ [] = ap (λ m. take m (k ∷ ks)) (sym e ∙ sym (add-one n)) ∙ take_more (k ∷ ks) n k lt in
+      let front : take (length (filter (is_before_all rows) (k ∷ ks))) (k ∷ ks) ≡ take n (k ∷ ks) ++ get_or (k ∷ ks) n k ∷ [] =
+          ap (λ m. take m (k ∷ ks)) (sym e ∙ sym (add-one n)) ∙ take_more (k ∷ ks) n k lt in
       let one : n ≡ suc n - 1 = omega arith in
       subst (λ m. AreCut rows (k ∷ ks) (drop m (k ∷ ks))) one (inr (record {
         pre = take n (k ∷ ks);
@@ -74,8 +83,10 @@ cut rows (k ∷ ks) h = by (length (filter (is_before_all rows) (k ∷ ks))) ref
       }))
 
 -- a test that no event of a smaller number passes gives the same on the kept events and on the near ones
-lower_none : (p : Event → Bool) (e : Event) (pre near : List Event) → ((k : Event) → k.seq < e.seq → p k ≡ false) → Each (λ k. k.seq < e.seq) pre → list_any p (pre ++ near) ≡ list_any p near
-lower_none p e pre near none low = list_any-append p pre near ∙ ap (λ b. b || list_any p near) (any_none p pre (each_weaker (λ k. k.seq < e.seq) (λ k. p k ≡ false) none pre low))
+lower_none : (p : Event → Bool) (e : Event) (pre near : List Event) → ((k : Event) → k.seq < e.seq → p k ≡ false) → Each (λ k. k.seq < e.seq) pre
+    → list_any p (pre ++ near) ≡ list_any p near
+lower_none p e pre near none low = list_any-append p pre near
+    ∙ ap (λ b. b || list_any p near) (any_none p pre (each_weaker (λ k. k.seq < e.seq) (λ k. p k ≡ false) none pre low))
 
 -- what each test of a row says beside the kept events it says beside the near ones
 pub record SeenSame (kept near : List Event) (e : Event) : Type 0 where
@@ -83,7 +94,8 @@ pub record SeenSame (kept near : List Event) (e : Event) : Type 0 where
   pub clash : list_any (clashes e) kept ≡ list_any (clashes e) near
   pub order : list_any (out_of_order e) kept ≡ list_any (out_of_order e) near
 
-seen : (e : Event) (pre : List Event) (first : Event) (rest : List Event) → Rising (pre ++ first ∷ rest) → Each (λ k. k.seq < e.seq) (pre ++ first ∷ []) → SeenSame (pre ++ first ∷ rest) (first ∷ rest) e
+seen : (e : Event) (pre : List Event) (first : Event) (rest : List Event) → Rising (pre ++ first ∷ rest)
+    → Each (λ k. k.seq < e.seq) (pre ++ first ∷ []) → SeenSame (pre ++ first ∷ rest) (first ∷ rest) e
 seen e pre first rest rising low =
     let pre_low = each_front (λ k. k.seq < e.seq) pre (first ∷ []) low in
     let lt : first.seq < e.seq = (each_back (λ k. k.seq < e.seq) pre (first ∷ []) low).0 in
@@ -92,44 +104,58 @@ seen e pre first rest rising low =
       clash = lower_none (clashes e) e pre (first ∷ rest) (λ k less. (other_number e k (λ q. absurd (omega (arith, q, less)))).1) pre_low;
       order =
           any_led (out_of_order e) pre first rest (each_weaker (λ k. Before k first) (λ k. out_of_order e k ≡ true → out_of_order e first ≡ true)
-          (λ k b t. order_below e first lt ∙ lt-ltb e.moment first.moment (omega (arith, b.1, ltb-true e.moment k.moment (sym (order_below e k (omega (arith, b.0, lt))) ∙ t)))) pre (pairs_before Before pre rest first rising));
+          (λ k b t. order_below e first lt
+          ∙ lt-ltb e.moment first.moment (omega (arith, b.1, ltb-true e.moment k.moment (sym (order_below e k (omega (arith, b.0, lt))) ∙ t)))) pre
+          (pairs_before Before pre rest first rising));
     }
 
 all_seen : (rows kept near : List Event) → Rising kept → AreCut rows kept near → Each (SeenSame kept near) rows
 all_seen rows kept near rising (inl is) = each_of (SeenSame kept near) rows (λ k d lt. rw is (record { same = refl; clash = refl; order = refl }))
 all_seen rows kept near rising (inr led) =
-    rw (led.whole, led.is) (each_weaker (λ e. Each (λ k. k.seq < e.seq) (led.pre ++ led.first ∷ [])) (SeenSame (led.pre ++ led.first ∷ led.rest) (led.first ∷ led.rest))
-    (λ e. seen e led.pre led.first led.rest (subst (λ (l : List Event). Rising l) led.whole rising)) rows (all_lower rows (led.pre ++ led.first ∷ []) led.low))
+    rw (led.whole, led.is)
+        (each_weaker (λ e. Each (λ k. k.seq < e.seq) (led.pre ++ led.first ∷ [])) (SeenSame (led.pre ++ led.first ∷ led.rest) (led.first ∷ led.rest))
+    (λ e. seen e led.pre led.first led.rest (subst (λ (l : List Event). Rising l) led.whole rising)) rows (all_lower rows (led.pre ++ led.first
+    ∷ []) led.low))
 
 -- rows on which these tests agree have the same first fault and new rows
 seen_more : (kept near : List Event) (e r : Event) → SeenSame kept near r → SeenSame (kept ++ e ∷ []) (near ++ e ∷ []) r
-seen_more kept near e r h = record { same = with_one (same_event r) h.same; clash = with_one (clashes r) h.clash; order = with_one (out_of_order r) h.order } where
+seen_more kept near e r h =
+    record { same = with_one (same_event r) h.same; clash = with_one (clashes r) h.clash; order = with_one (out_of_order r) h.order } where
   with_one : (p : Event → Bool) → list_any p kept ≡ list_any p near → list_any p (kept ++ e ∷ []) ≡ list_any p (near ++ e ∷ [])
   with_one p same = list_any-append p kept (e ∷ []) ∙ ap (λ b. b || list_any p (e ∷ [])) same ∙ sym (list_any-append p near (e ∷ []))
 
-each_seen_more : (kept near : List Event) (e : Event) (rows : List Event) → Each (SeenSame kept near) rows → Each (SeenSame (kept ++ e ∷ []) (near ++ e ∷ [])) rows
+each_seen_more : (kept near : List Event) (e : Event) (rows : List Event) → Each (SeenSame kept near) rows
+    → Each (SeenSame (kept ++ e ∷ []) (near ++ e ∷ [])) rows
 each_seen_more kept near e rows = each_weaker (SeenSame kept near) (SeenSame (kept ++ e ∷ []) (near ++ e ∷ [])) (seen_more kept near e) rows
 
-faults_same : (tags : List Name) (now line : ℕ) (kept near rows : List Event) → Each (SeenSame kept near) rows → first_fault tags now line near rows ≡ first_fault tags now line kept rows
+faults_same : (tags : List Name) (now line : ℕ) (kept near rows : List Event) → Each (SeenSame kept near) rows
+    → first_fault tags now line near rows ≡ first_fault tags now line kept rows
 faults_same tags now line kept near [] h = refl
 faults_same tags now line kept near (e ∷ rows) h =
-    λ i. or_else (option_map (bad line) (same_fault tags now near kept e (sym h.0.clash) (sym h.0.order) i)) (faults_same tags now (line + 1) (kept ++ e ∷ []) (near ++ e ∷ []) rows (each_seen_more kept near e rows h.1) i)
+    λ i. or_else (option_map (bad line) (same_fault tags now near kept e (sym h.0.clash) (sym h.0.order) i))
+        (faults_same tags now (line + 1) (kept ++ e ∷ []) (near ++ e ∷ []) rows (each_seen_more kept near e rows h.1) i)
 
 fresh_same : (kept near rows : List Event) → Each (SeenSame kept near) rows → fresh near rows ≡ fresh kept rows
 fresh_same kept near [] h = refl
-fresh_same kept near (e ∷ rows) h = λ i. (if not (sym h.0.same i) then e ∷ [] else []) ++ fresh_same (kept ++ e ∷ []) (near ++ e ∷ []) rows (each_seen_more kept near e rows h.1) i
+fresh_same kept near (e ∷ rows) h =
+    λ i. (if not (sym h.0.same i) then e ∷ [] else []) ++ fresh_same (kept ++ e ∷ []) (near ++ e ∷ []) rows (each_seen_more kept near e rows h.1) i
 
 -- the events that a file needs
 needed_cut : (kept rows : List Event) → IsInOrder nat_cmp event_number kept → AreCut rows kept (needed kept rows)
-needed_cut kept rows h = elim (has_late kept rows) as (λ b. AreCut rows kept (if b then kept else from_last_before kept rows)) [ true ↦ inl refl | false ↦ cut rows kept h ]
+needed_cut kept rows h =
+    elim (has_late kept rows) as (λ b. AreCut rows kept (if b then
+    kept else from_last_before kept rows)) [ true ↦ inl refl | false ↦ cut rows kept h ]
 
 needed_seen : (kept rows : List Event) → IsRising kept → Each (SeenSame kept (needed kept rows)) rows
 needed_seen kept rows h = all_seen rows kept (needed kept rows) (rising_of kept h) (needed_cut kept rows (in_number_order kept h))
 
 -- with them a file has the same first fault, new rows, new numbers and late rows as with all kept events
-pub needed_merge : (kept rows : List Event) (tags : List Name) (now : ℕ) → IsRising kept → merge (needed kept rows) rows tags now ≡ merge kept rows tags now
+pub needed_merge : (kept rows : List Event) (tags : List Name) (now : ℕ) → IsRising kept
+    → merge (needed kept rows) rows tags now ≡ merge kept rows tags now
 unfolding merge
-needed_merge kept rows tags now h = ap (λ o. merged_or o (needed kept rows) rows) (faults_same tags now 2 kept (needed kept rows) rows (needed_seen kept rows h)) ∙ by (first_fault tags now 2 kept rows) where
+needed_merge kept rows tags now h =
+    ap (λ o. merged_or o (needed kept rows) rows) (faults_same tags now 2 kept (needed kept rows) rows (needed_seen kept rows h))
+    ∙ by (first_fault tags now 2 kept rows) where
   adds : List Event → Result Merged BadFile
   adds added = Ok (record { fresh = added; repeated = length rows - length added })
 
@@ -146,24 +172,34 @@ lower_same : (e : Event) (pre near : List Event) → Each (λ k. k.seq < e.seq) 
 lower_same e pre near low =
     record {
       number = sym (lower_none (has_number e.seq) e pre near (λ k. other e.seq k.seq) low);
-      overtaken = sym (lower_none (λ k. same_name e.tag k.tag && nat_lt e.seq k.seq) e pre near (λ k lt. ap (λ b. same_name e.tag k.tag && b) (le-ltb e.seq k.seq (omega (arith, lt))) ∙ and-false _) low);
+      overtaken =
+          sym (lower_none (λ k. same_name e.tag k.tag
+          && nat_lt e.seq k.seq) e pre near (λ k lt. ap (λ b. same_name e.tag k.tag && b) (le-ltb e.seq k.seq (omega (arith, lt)))
+          ∙ and-false _) low);
     }
 
 same_numbers : (rows kept near : List Event) → AreCut rows kept near → Each (SameNumbers kept near) rows
 same_numbers rows kept near (inl is) = each_of (SameNumbers kept near) rows (λ k d lt. rw is (record { number = refl; overtaken = refl }))
 same_numbers rows kept near (inr led) =
-    rw (led.whole, led.is) (each_weaker (λ e. Each (λ k. k.seq < e.seq) led.pre) (SameNumbers (led.pre ++ led.first ∷ led.rest) (led.first ∷ led.rest))
-    (λ e. lower_same e led.pre (led.first ∷ led.rest)) rows (all_lower rows led.pre (each_front (λ k. is_before_all rows k ≡ true) led.pre (led.first ∷ []) led.low)))
+    rw (led.whole, led.is)
+        (each_weaker (λ e. Each (λ k. k.seq < e.seq) led.pre) (SameNumbers (led.pre ++ led.first ∷ led.rest) (led.first ∷ led.rest))
+    (λ e. lower_same e led.pre (led.first
+    ∷ led.rest)) rows (all_lower rows led.pre (each_front (λ k. is_before_all rows k ≡ true) led.pre (led.first ∷ []) led.low)))
 
 others_same : (kept near rows : List Event) → Each (SameNumbers kept near) rows → filter (is_other near) rows ≡ filter (is_other kept) rows
 others_same kept near [] h = refl
 others_same kept near (e ∷ rows) h = λ i. if not (h.0.number i) then e ∷ others_same kept near rows h.1 i else others_same kept near rows h.1 i
 
 late_same : (rows kept near : List Event) → AreCut rows kept near → has_late near rows ≡ has_late kept rows
-late_same rows kept near h = any_same (is_late near) (is_late kept) rows (each_weaker (SameNumbers kept near) (λ e. is_late near e ≡ is_late kept e) (λ e s i. s.overtaken i && not (s.number i)) rows (same_numbers rows kept near h))
+late_same rows kept near h =
+    any_same (is_late near)
+    (is_late kept) rows (each_weaker (SameNumbers kept near) (λ e. is_late near e ≡ is_late kept e) (λ e s i. s.overtaken i
+    && not (s.number i)) rows (same_numbers rows kept near h))
 
 pub needed_numbers : (kept rows : List Event) → IsRising kept → new_numbers (needed kept rows) rows ≡ new_numbers kept rows
-needed_numbers kept rows h = ap (λ l. unique_keys (eq_by_cmp nat_cmp) (numbers_of l)) (others_same kept (needed kept rows) rows (same_numbers rows kept (needed kept rows) (needed_cut kept rows (in_number_order kept h))))
+needed_numbers kept rows h =
+    ap (λ l. unique_keys (eq_by_cmp nat_cmp) (numbers_of l))
+    (others_same kept (needed kept rows) rows (same_numbers rows kept (needed kept rows) (needed_cut kept rows (in_number_order kept h))))
 
 pub needed_late : (kept rows : List Event) → IsRising kept → has_late (needed kept rows) rows ≡ has_late kept rows
 needed_late kept rows h = late_same rows kept (needed kept rows) (needed_cut kept rows (in_number_order kept h))
@@ -187,33 +223,52 @@ needed_few kept rows h =
     ]
 
 pub near_ordered : (kept rows : List Event) → IsInOrder nat_cmp event_number kept → IsInOrder nat_cmp event_number (from_last_before kept rows)
-near_ordered kept rows h = in_order_of event_number (from_last_before kept rows) (rises_drop event_number (length (filter (is_before_all rows) kept) - 1) kept (rises_of event_number kept h))
+near_ordered kept rows h =
+    in_order_of event_number (from_last_before kept rows)
+    (rises_drop event_number (length (filter (is_before_all rows) kept) - 1) kept (rises_of event_number kept h))
 
 -- the last number of each alarm, one event after another
-overtaken_more : (a : Name) (n : ℕ) (es : List Event) (e : Event) → list_any (λ k. same_name a k.tag && nat_lt n k.seq) (es ++ e ∷ []) ≡ (list_any (λ k. same_name a k.tag && nat_lt n k.seq) es || (same_name a e.tag && nat_lt n e.seq))
-overtaken_more a n es e = list_any-append (λ k. same_name a k.tag && nat_lt n k.seq) es (e ∷ []) ∙ ap (λ b. list_any (λ k. same_name a k.tag && nat_lt n k.seq) es || b) (or-false (same_name a e.tag && nat_lt n e.seq))
+overtaken_more : (a : Name) (n : ℕ) (es : List Event) (e : Event)
+    → list_any (λ k. same_name a k.tag && nat_lt n k.seq)
+    (es ++ e ∷ []) ≡ (list_any (λ k. same_name a k.tag && nat_lt n k.seq) es || (same_name a e.tag && nat_lt n e.seq))
+overtaken_more a n es e = list_any-append (λ k. same_name a k.tag && nat_lt n k.seq) es (e ∷ [])
+    ∙ ap (λ b. list_any (λ k. same_name a k.tag && nat_lt n k.seq) es || b) (or-false (same_name a e.tag && nat_lt n e.seq))
 
 -- of the alarm's own events the last has the greatest number
-lt_last : (a : Name) (n : ℕ) (es : List Event) (e : Event) → Each (λ k. k.seq < e.seq) es → (list_any (λ k. same_name a k.tag && nat_lt n k.seq) es || nat_lt n e.seq) ≡ nat_lt n e.seq
+lt_last : (a : Name) (n : ℕ) (es : List Event) (e : Event) → Each (λ k. k.seq < e.seq) es
+    → (list_any (λ k. same_name a k.tag && nat_lt n k.seq) es || nat_lt n e.seq) ≡ nat_lt n e.seq
 lt_last a n es e h = by (nat_lt n e.seq) refl where
   by : (b : Bool) → nat_lt n e.seq ≡ b → (list_any (λ k. same_name a k.tag && nat_lt n k.seq) es || b) ≡ b
   by true t = or-true (list_any (λ k. same_name a k.tag && nat_lt n k.seq) es)
   by false f =
       let le = ltb-false n e.seq f in
-      ap (λ b. b || false) (any_none (λ k. same_name a k.tag && nat_lt n k.seq) es (each_weaker (λ k. k.seq < e.seq) (λ k. (same_name a k.tag && nat_lt n k.seq) ≡ false) (λ k lt. ap (λ b. same_name a k.tag && b) (le-ltb n k.seq (omega (arith, lt, le))) ∙ and-false _) es h))
+      ap (λ b. b || false)
+          (any_none (λ k. same_name a k.tag
+          && nat_lt n k.seq) es (each_weaker (λ k. k.seq < e.seq) (λ k. (same_name a k.tag && nat_lt n k.seq) ≡ false)
+          (λ k lt. ap (λ b. same_name a k.tag && b) (le-ltb n k.seq (omega (arith, lt, le))) ∙ and-false _) es h))
 
-reached_more : (old new : BTreeMap Name ℕ) (es : List Event) (e : Event) (t : Name) → t ≡ e.tag → Each (λ k. k.seq < e.seq) es → Updates name_cmp old new t (Some e.seq) → AreReached old es → AreReached new (es ++ e ∷ [])
+reached_more : (old new : BTreeMap Name ℕ) (es : List Event) (e : Event) (t : Name) → t ≡ e.tag → Each (λ k. k.seq < e.seq) es
+    → Updates name_cmp old new t (Some e.seq) → AreReached old es → AreReached new (es ++ e ∷ [])
 reached_more old new es e t own h put are a n =
     ap (λ o. unwrap_or (option_map (nat_lt n) o) false) (put.0 a)
-    ∙ (λ i. unwrap_or (option_map (nat_lt n) (cond ((ap (λ x. same_name x a) own ∙ (eq_by_cmp_equiv nat_list_cmp_total).symm e.tag a) i) (Some e.seq) (get name_cmp old a))) false)
-    ∙ elim (same_name a e.tag) as (λ b. unwrap_or (option_map (nat_lt n) (cond b (Some e.seq) (get name_cmp old a))) false ≡ (list_any (λ k. same_name a k.tag && nat_lt n k.seq) es || (b && nat_lt n e.seq))) [
+    ∙ (λ i. unwrap_or
+    (option_map (nat_lt n) (cond ((ap (λ x. same_name x a) own
+    ∙ (eq_by_cmp_equiv nat_list_cmp_total).symm e.tag a) i) (Some e.seq) (get name_cmp old a))) false)
+    ∙ elim (same_name a e.tag) as (λ b. unwrap_or (option_map (nat_lt n) (cond b (Some e.seq) (get name_cmp old a))) false
+    ≡ (list_any (λ k. same_name a k.tag && nat_lt n k.seq) es || (b && nat_lt n e.seq))) [
       | true ↦ sym (lt_last a n es e h)
       | false ↦ are a n ∙ sym (or-false (list_any (λ k. same_name a k.tag && nat_lt n k.seq) es))
     ]
     ∙ sym (overtaken_more a n es e)
 
-pub reached_next : (events : List Event) (i : ℕ) (e : Event) (t : Name) (old new : BTreeMap Name ℕ) → IsInOrder nat_cmp event_number events → i < length events → e ≡ get_or events i e → t ≡ e.tag → Updates name_cmp old new t (Some e.seq) → AreReached old (take i events) → AreReached new (take (i + 1) events)
+pub reached_next : (events : List Event) (i : ℕ) (e : Event) (t : Name) (old new : BTreeMap Name ℕ) → IsInOrder nat_cmp event_number events
+    → i < length events → e ≡ get_or events i e → t ≡ e.tag → Updates name_cmp old new t (Some e.seq) → AreReached old (take i events)
+    → AreReached new (take (i + 1) events)
 reached_next events i e t old new h lt is own put are =
-    let whole : events ≡ take i events ++ e ∷ drop (i + 1) events = sym (take-append-drop i events) ∙ ap (λ l. take i events ++ l) (drop_more events i e lt ∙ ap (λ x. x ∷ drop (i + 1) events) (sym is)) in
-    let low : Each (λ k. k.seq < e.seq) (take i events) = pairs_before (λ (x y : Event). x.seq < y.seq) (take i events) (drop (i + 1) events) e (subst (λ (l : List Event). Rises event_number l) whole (rises_of event_number events h)) in
-    subst (AreReached new) (sym (take_more events i e lt ∙ ap (λ x. take i events ++ x ∷ []) (sym is))) (reached_more old new (take i events) e t own low put are)
+    let whole : events ≡ take i events ++ e ∷ drop (i + 1) events = sym (take-append-drop i events)
+        ∙ ap (λ l. take i events ++ l) (drop_more events i e lt ∙ ap (λ x. x ∷ drop (i + 1) events) (sym is)) in
+    let low : Each (λ k. k.seq < e.seq) (take i events) =
+        pairs_before (λ (x y : Event). x.seq < y.seq) (take i events)
+        (drop (i + 1) events) e (subst (λ (l : List Event). Rises event_number l) whole (rises_of event_number events h)) in
+    subst (AreReached new) (sym (take_more events i e lt ∙ ap (λ x. take i events ++ x ∷ []) (sym is)))
+        (reached_more old new (take i events) e t own low put are)

@@ -57,7 +57,8 @@ module _ {X : Type 0} (key : X → ℕ) where
 
   -- the numbers before a place are smaller, and the others aren't
   pub parted : (xs : List X) (n : ℕ) → IsInOrder nat_cmp key xs → IsPartitionedBy (λ x. nat_lt (key x) n) xs
-  parted xs n h = IsPartitionedBy-ltb key xs n (not_falling xs (λ k d lt. all_pairs (λ x y. key x < key y) xs (rises_of xs h) k (k + 1) d (omega arith) lt))
+  parted xs n h =
+      IsPartitionedBy-ltb key xs n (not_falling xs (λ k d lt. all_pairs (λ x y. key x < key y) xs (rises_of xs h) k (k + 1) d (omega arith) lt))
 
   abbrev pub Parts : ℕ → List X → ℕ → Type 0
   Parts n xs p = IsPartitionPoint (λ x. key x < n) (λ x. n ≤ key x) xs p
@@ -80,9 +81,11 @@ module _ {X : Type 0} (key : X → ℕ) where
   there n [] (suc p) rises h le = absurd (omega arith)
   there n (x ∷ xs) zero rises h le =
       let from : n ≤ key x = h.1 0 x (omega arith) (omega arith) in
-      any_by_first (λ y. eq_by_cmp nat_cmp n (key y)) x xs (each_weaker (λ y. key x < key y) (λ y. eq_by_cmp nat_cmp n (key y) ≡ true → eq_by_cmp nat_cmp n (key x) ≡ true) (λ y lt t. let same = same_it n (key y) t in absurd (omega (arith, from, lt, same))) xs rises.0)
+      any_by_first (λ y. eq_by_cmp nat_cmp n (key y)) x xs (each_weaker (λ y. key x < key y) (λ y. eq_by_cmp nat_cmp n (key y) ≡ true
+          → eq_by_cmp nat_cmp n (key x) ≡ true) (λ y lt t. let same = same_it n (key y) t in absurd (omega (arith, from, lt, same))) xs rises.0)
   there n (x ∷ xs) (suc p) rises h le =
-      ap (λ b. b || list_any (λ y. eq_by_cmp nat_cmp n (key y)) xs) (other n (key x) (h.0 0 x (omega arith) (omega arith))) ∙ there n xs p rises.1 (later n x xs p h) (omega arith)
+      ap (λ b. b || list_any (λ y. eq_by_cmp nat_cmp n (key y)) xs) (other n (key x) (h.0 0 x (omega arith) (omega arith)))
+          ∙ there n xs p rises.1 (later n x xs p h) (omega arith)
 
   -- rows put behind others
   pub put_after : (r : X) (xs ys : List X) → AllBelow (key r) xs → put r (xs ++ ys) ≡ xs ++ put r ys
@@ -102,7 +105,9 @@ module _ {X : Type 0} (key : X → ℕ) where
 
   pub behind_end : (r : X) (xs rs : List X) → AllBelow (key r) xs → AllAbove (key r) rs → EachBehind (xs ++ r ∷ []) rs
   behind_end r xs [] h k = tt
-  behind_end r xs (s ∷ rs) h k = (each_append (λ y. key y < key s) xs (r ∷ []) (each_weaker (λ y. key y < key r) (λ y. key y < key s) (λ y lt. omega (arith, lt, k.0)) xs h) (k.0, tt), behind_end r xs rs h k.1)
+  behind_end r xs (s ∷ rs) h k =
+      (each_append (λ y. key y < key s) xs (r
+      ∷ []) (each_weaker (λ y. key y < key r) (λ y. key y < key s) (λ y lt. omega (arith, lt, k.0)) xs h) (k.0, tt), behind_end r xs rs h k.1)
 
   -- rising rows that are put one by one are those rows
   pub puts_none : (rs : List X) → Rises rs → puts [] rs ≡ rs
@@ -118,7 +123,8 @@ module _ {X : Type 0} (key : X → ℕ) where
       omega (arith, next, far))
 
   -- the answer of is_sorted_by says whether the numbers rise
-  pub rise_is_told : (rows : List X) (b : Bool) → IsAllAdjacentAnswer (λ x y b. b ≡ nat_lt (key x) (key y)) rows b → IsTrue b ↔ IsInOrder nat_cmp key rows
+  pub rise_is_told : (rows : List X) (b : Bool) → IsAllAdjacentAnswer (λ x y b. b ≡ nat_lt (key x) (key y)) rows b → IsTrue b
+      ↔ IsInOrder nat_cmp key rows
   rise_is_told rows true h = (λ _. in_order_of rows (neighbours_rise rows (λ k d within. ltb-true _ _ (sym (h k d within)))), λ _. refl)
   rise_is_told [] false h = absurd (omega (arith, h.1))
   rise_is_told (x ∷ xs) false h = (
@@ -141,7 +147,9 @@ module _ {X : Type 0} (key : X → ℕ) where
   pub puts_first : (r : X) (below above rs : List X) → AllBelow (key r) below → AllFrom (key r) above → AllAbove (key r) rs
       → puts (below ++ above) (r ∷ rs) ≡ (below ++ r ∷ []) ++ puts (without_first (key r) above) rs
   puts_first r below above rs low high more =
-      ap (λ l. puts l rs) (put_after r below above low ∙ ap (λ l. below ++ l) (put_first r above high) ∙ sym (append_assoc below (r ∷ []) (without_first (key r) above)))
+      ap (λ l. puts l rs)
+          (put_after r below above low ∙ ap (λ l. below ++ l) (put_first r above high)
+          ∙ sym (append_assoc below (r ∷ []) (without_first (key r) above)))
       ∙ puts_after rs (below ++ r ∷ []) (without_first (key r) above) (behind_end r below rs low more)
 
   -- the two parts of rising rows at the place of a number
@@ -163,7 +171,8 @@ module _ {X : Type 0} (key : X → ℕ) where
   rises_without n xs h = elim (is_at xs 0 n) as (λ b. Rises (if b then drop 1 xs else xs)) [ true ↦ rises_drop 1 xs h | false ↦ h ]
 
   -- one more of two rising lists that are joined
-  pub puts_next : (all rest more below above whole : List X) (p i : ℕ) (r : X) → all ++ puts rest (drop i more) ≡ whole → Rises rest → Rises more → i < length more → r ≡ get_or more i r
+  pub puts_next : (all rest more below above whole : List X) (p i : ℕ) (r : X) → all ++ puts rest (drop i more) ≡ whole → Rises rest → Rises more
+      → i < length more → r ≡ get_or more i r
       → Parts (key r) rest p → p ≤ length rest → below ≡ take p rest → above ≡ drop p rest
       → ((all ++ below) ++ r ∷ []) ++ puts (without_first (key r) above) (drop (i + 1) more) ≡ whole
   puts_next all rest more below above whole p i r so rises goes lt is parts le eb ea =
@@ -171,8 +180,10 @@ module _ {X : Type 0} (key : X → ℕ) where
       let parted_so : AreCut (key r) rest (take p rest) (drop p rest) = cut (key r) rest p parts le in
       let tail : Rises (r ∷ drop (i + 1) more) = subst (λ (l : List X). Rises l) here (rises_drop i more goes) in
       let step : puts rest (drop i more) ≡ (take p rest ++ r ∷ []) ++ puts (without_first (key r) (drop p rest)) (drop (i + 1) more) =
-      ap (puts rest) here ∙ ap (λ l. puts l (r ∷ drop (i + 1) more)) parted_so.whole ∙ puts_first r (take p rest) (drop p rest) (drop (i + 1) more) parted_so.low parted_so.high tail.0 in
-      ap (λ l. l ++ puts (without_first (key r) above) (drop (i + 1) more)) (append_assoc all below (r ∷ [])) ∙ append_assoc all (below ++ r ∷ []) (puts (without_first (key r) above) (drop (i + 1) more))
+      ap (puts rest) here ∙ ap (λ l. puts l (r ∷ drop (i + 1) more)) parted_so.whole
+          ∙ puts_first r (take p rest) (drop p rest) (drop (i + 1) more) parted_so.low parted_so.high tail.0 in
+      ap (λ l. l ++ puts (without_first (key r) above) (drop (i + 1) more)) (append_assoc all below (r ∷ []))
+          ∙ append_assoc all (below ++ r ∷ []) (puts (without_first (key r) above) (drop (i + 1) more))
       ∙ (λ j. all ++ ((eb j ++ r ∷ []) ++ puts (without_first (key r) (ea j)) (drop (i + 1) more))) ∙ ap (λ l. all ++ l) (sym step) ∙ so
 
   pub rises_left : (n : ℕ) (rest above left : List X) (p : ℕ) → Rises rest → above ≡ drop p rest → left ≡ without_first n above → Rises left
@@ -188,7 +199,8 @@ rising_distinct (n ∷ ns) h = (each_weaker (λ m. n < m) (λ m. eq_by_cmp nat_c
 -- the keys of some of rising rows rise
 module _ {X : Type 0} (key : X → ℕ) (p : X → Bool) where
   keys_above : (n : ℕ) (xs : List X) → AllAbove key n xs → AllAbove (λ m. m) n (map key (filter p xs))
-  keys_above n xs h = recursion_from_All _ _ (All-map (λ m. n < m) key (filter p xs) (All-filter p (λ x. n < key x) xs (All-from_recursion (λ x. n < key x) xs h)))
+  keys_above n xs h =
+      recursion_from_All _ _ (All-map (λ m. n < m) key (filter p xs) (All-filter p (λ x. n < key x) xs (All-from_recursion (λ x. n < key x) xs h)))
 
   pub keys_rise : (xs : List X) → Rises key xs → Rises (λ m. m) (map key (filter p xs))
   keys_rise [] h = tt

@@ -31,27 +31,34 @@ first_none (y ∷ ys) e = cc
 
 pub last_cut : (xs : List Event) (x : Event) → Some x ≡ slice_get xs (length xs - 1) → xs ≡ take (length xs - 1) xs ++ x ∷ []
 last_cut [] x e = cc
-last_cut (y ∷ ys) x e = grind (arith, take_more (y ∷ ys) (length (y ∷ ys) - 1) x, take_all (length (y ∷ ys)) (y ∷ ys), slice_get-get_or (y ∷ ys) (length (y ∷ ys) - 1) x)
+last_cut (y ∷ ys) x e =
+    grind (arith, take_more (y ∷ ys) (length (y ∷ ys) - 1) x, take_all (length (y ∷ ys)) (y ∷ ys), slice_get-get_or (y ∷ ys) (length (y ∷ ys) - 1) x)
 
 pub last_none : (xs : List Event) → None ≡ slice_get xs (length xs - 1) → xs ≡ []
 last_none [] e = refl
 last_none (y ∷ ys) e = absurd (cc (e ∙ slice_get-get_or (y ∷ ys) (length (y ∷ ys) - 1) y (omega arith)))
 
 -- a test that the first or the last of rising events settles
-pub first_settles_at : (m : ℕ) (xs : List Event) (x : Event) → Some x ≡ slice_get xs 0 → IsRising xs → nat_lt x.moment m ≡ list_any (λ e. nat_lt e.moment m) xs
+pub first_settles_at : (m : ℕ) (xs : List Event) (x : Event) → Some x ≡ slice_get xs 0 → IsRising xs
+    → nat_lt x.moment m ≡ list_any (λ e. nat_lt e.moment m) xs
 first_settles_at m xs x e h =
     let cut = first_cut xs x e in
     let high = (subst (λ (l : List Event). Rising l) cut (rising_of xs h)).0 in
     sym (ap (list_any (λ e. nat_lt e.moment m)) cut
-    ∙ any_by_first (λ e. nat_lt e.moment m) x (drop 1 xs) (each_weaker (Before x) (λ y. nat_lt y.moment m ≡ true → nat_lt x.moment m ≡ true) (λ y b t. lt-ltb x.moment m (omega (arith, b.1, ltb-true y.moment m t))) (drop 1 xs) high))
+    ∙ any_by_first (λ e. nat_lt e.moment m) x (drop 1 xs)
+    (each_weaker (Before x) (λ y. nat_lt y.moment m ≡ true
+    → nat_lt x.moment m ≡ true) (λ y b t. lt-ltb x.moment m (omega (arith, b.1, ltb-true y.moment m t))) (drop 1 xs) high))
 
-pub last_settles_at : (m : ℕ) (xs : List Event) (x : Event) → Some x ≡ slice_get xs (length xs - 1) → IsRising xs → nat_lt m x.moment ≡ list_any (λ e. nat_lt m e.moment) xs
+pub last_settles_at : (m : ℕ) (xs : List Event) (x : Event) → Some x ≡ slice_get xs (length xs - 1) → IsRising xs
+    → nat_lt m x.moment ≡ list_any (λ e. nat_lt m e.moment) xs
 last_settles_at m xs x e h =
     let front = take (length xs - 1) xs in
     let cut : xs ≡ front ++ x ∷ [] = last_cut xs x e in
     let low = pairs_before Before front [] x (subst (λ (l : List Event). Rising l) cut (rising_of xs h)) in
     sym (ap (list_any (λ e. nat_lt m e.moment)) cut
-    ∙ any_led (λ e. nat_lt m e.moment) front x [] (each_weaker (λ y. Before y x) (λ y. nat_lt m y.moment ≡ true → nat_lt m x.moment ≡ true) (λ y b t. lt-ltb m x.moment (omega (arith, b.1, ltb-true m y.moment t))) front low) ∙ or-false _)
+    ∙ any_led (λ e. nat_lt m e.moment) front x []
+    (each_weaker (λ y. Before y x) (λ y. nat_lt m y.moment ≡ true
+    → nat_lt m x.moment ≡ true) (λ y b t. lt-ltb m x.moment (omega (arith, b.1, ltb-true m y.moment t))) front low) ∙ or-false _)
 
 -- events in rising number whose moments don't fall are in the order of their numbers
 pub in_number_order : (xs : List Event) → IsRising xs → IsInOrder nat_cmp event_number xs

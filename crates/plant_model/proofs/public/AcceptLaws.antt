@@ -22,12 +22,15 @@ use Rattle.plant_alarm.specs.declared.event.Event.{Event}
 use Rattle.plant_import.specs.declared.bad_file.BadFile.{BadFile}
 
 -- pairs
-no_more_stands : (k x : Pair) (rest : Option (Said (Option ℕ))) → option_map (grant_as k) (still (or_else (when (same_pair k x) Over) rest)) ≡ cond (same_pair k x) None (option_map (grant_as k) (still rest))
+no_more_stands : (k x : Pair) (rest : Option (Said (Option ℕ)))
+    → option_map (grant_as k) (still (or_else (when (same_pair k x) Over) rest)) ≡ cond (same_pair k x) None (option_map (grant_as k) (still rest))
 no_more_stands k x rest =
-    elim (same_pair k x) as (λ b. option_map (grant_as k) (still (or_else (when b Over) rest)) ≡ cond b None (option_map (grant_as k) (still rest))) [ true ↦ refl | false ↦ refl ]
+    elim (same_pair k x) as (λ b. option_map (grant_as k) (still (or_else (when b Over) rest))
+        ≡ cond b None (option_map (grant_as k) (still rest))) [ true ↦ refl | false ↦ refl ]
 
 -- shelves
-now_shelved : (a b : Name) (row : Name → ShelfRow) (rest : Option (Said ShelfRow)) → still (or_else (when (same_name a b) (Begins (row a))) rest) ≡ cond (same_name a b) (Some (row b)) (still rest)
+now_shelved : (a b : Name) (row : Name → ShelfRow) (rest : Option (Said ShelfRow))
+    → still (or_else (when (same_name a b) (Begins (row a))) rest) ≡ cond (same_name a b) (Some (row b)) (still rest)
 now_shelved a b row rest =
     elim (same_name a b) as (λ t. same_name a b ≡ t → still (or_else (when t (Begins (row a))) rest) ≡ cond t (Some (row b)) (still rest)) [
       | true ↦ λ e. ap (λ y. Some (row y)) (same_names a b (tied _ _ e refl))
@@ -41,22 +44,30 @@ still_when false v rest = refl
 module _ (h : List Call) (p : Name) (t : ℕ) where
   grant_turns : (u q : Name) (r : Role × Option ℕ) → Turns h p t (Grant u q r)
   grant_turns u q r = λ i. record (rows_of (with_request h p t (Grant u q r))) {
-    grants = put-rows (grant_row h) (grant_row (with_request h p t (Grant u q r))) (pairs_of h) (pairs_of (with_request h p t (Grant u q r))) (grant_as (q, r.0) r.1) (grants_told h) (grants_told (with_request h p t (Grant u q r))) (λ k. now_stands k (q, r.0) r.1 _) i;
+    grants = put-rows (grant_row h) (grant_row (with_request h p t (Grant u q r))) (pairs_of h) (pairs_of (with_request h p t (Grant u q r)))
+        (grant_as (q, r.0) r.1) (grants_told h) (grants_told (with_request h p t (Grant u q r))) (λ k. now_stands k (q, r.0) r.1 _) i;
   }
 
   withdraw_turns : (u q : Name) (r : Role) → Turns h p t (Withdraw u q r)
   withdraw_turns u q r = λ i. record (rows_of (with_request h p t (Withdraw u q r))) {
-    grants = remove-rows (grant_row h) (grant_row (with_request h p t (Withdraw u q r))) (pairs_of h) (pairs_of (with_request h p t (Withdraw u q r))) (q, r) (grants_told h) (grants_told (with_request h p t (Withdraw u q r))) (λ k. no_more_stands k (q, r) _) i;
+    grants = remove-rows (grant_row h) (grant_row (with_request h p t (Withdraw u q r))) (pairs_of h) (pairs_of (with_request h p t (Withdraw u q r)))
+        (q, r) (grants_told h) (grants_told (with_request h p t (Withdraw u q r))) (λ k. no_more_stands k (q, r) _) i;
   }
 
   timed_turns : (u a : Name) (d : ℕ) (w : Name) → Turns h p t (TimedShelve u a d w)
   timed_turns u a d w = λ i. record (rows_of (with_request h p t (TimedShelve u a d w))) {
-    shelves = put-rows (shelf h) (shelf (with_request h p t (TimedShelve u a d w))) (tags_of_shelves h) (tags_of_shelves (with_request h p t (TimedShelve u a d w))) (shelf_row_as false t (t + d) p w a) (shelves_told h) (shelves_told (with_request h p t (TimedShelve u a d w))) (λ b. now_shelved b a (shelf_row_as false t (t + d) p w) _) i;
+    shelves =
+        put-rows (shelf h) (shelf (with_request h p t (TimedShelve u a d w))) (tags_of_shelves h)
+        (tags_of_shelves (with_request h p t (TimedShelve u a d w))) (shelf_row_as false t (t + d) p w a) (shelves_told h)
+        (shelves_told (with_request h p t (TimedShelve u a d w))) (λ b. now_shelved b a (shelf_row_as false t (t + d) p w) _) i;
   }
 
   unshelve_turns : (u a : Name) → Turns h p t (Unshelve u a)
   unshelve_turns u a = λ i. record (rows_of (with_request h p t (Unshelve u a))) {
-    shelves = remove-rows (shelf h) (shelf (with_request h p t (Unshelve u a))) (tags_of_shelves h) (tags_of_shelves (with_request h p t (Unshelve u a))) a (shelves_told h) (shelves_told (with_request h p t (Unshelve u a))) (λ b. still_when (same_name b a) Over _) i;
+    shelves =
+        remove-rows (shelf h) (shelf (with_request h p t (Unshelve u a))) (tags_of_shelves h)
+        (tags_of_shelves (with_request h p t (Unshelve u a))) a (shelves_told h) (shelves_told (with_request h p t (Unshelve u a)))
+        (λ b. still_when (same_name b a) Over _) i;
   }
 
   -- the limit in the alarm's row is the limit in force
@@ -64,16 +75,24 @@ module _ (h : List Call) (p : Name) (t : ℕ) where
   limit_known a l known = ap (λ o. unwrap_or (option_map (λ (r : AlarmRow). r.max_s) (option_map (alarm_of h a) o)) 0) known
 
   one_shot_turns : (u a : Name) (w : Name) (l : Bool) → latching h a ≡ Some l → Turns h p t (OneShotShelve u a w)
-  one_shot_turns u a w l known = ap (λ max. changed_by (Put (UnitPut (unit_row (with_request h p t (OneShotShelve u a w)))) ∷ Put (ShelfPut (shelf_row_as true t (t + max) p w a)) ∷ []) (rows_of h)) (limit_known a l known)
+  one_shot_turns u a w l known =
+      ap (λ max. changed_by (Put (UnitPut (unit_row (with_request h p t (OneShotShelve u a w))))
+      ∷ Put (ShelfPut (shelf_row_as true t (t + max) p w a)) ∷ []) (rows_of h)) (limit_known a l known)
       ∙ (λ i. record (rows_of (with_request h p t (OneShotShelve u a w))) {
-        shelves = put-rows (shelf h) (shelf (with_request h p t (OneShotShelve u a w))) (tags_of_shelves h) (tags_of_shelves (with_request h p t (OneShotShelve u a w))) (shelf_row_as true t (t + unwrap_or (limit h a) 0) p w a) (shelves_told h) (shelves_told (with_request h p t (OneShotShelve u a w))) (λ b. now_shelved b a (shelf_row_as true t (t + unwrap_or (limit h a) 0) p w) _) i;
+        shelves =
+            put-rows (shelf h) (shelf (with_request h p t (OneShotShelve u a w))) (tags_of_shelves h)
+            (tags_of_shelves (with_request h p t (OneShotShelve u a w))) (shelf_row_as true t (t + unwrap_or (limit h a) 0) p w a) (shelves_told h)
+            (shelves_told (with_request h p t (OneShotShelve u a w)))
+            (λ b. now_shelved b a (shelf_row_as true t (t + unwrap_or (limit h a) 0) p w) _) i;
       })
 
   -- Service
   abbrev row_by_outage : (a : Name) → Option Outage → Bool → AlarmRow
   row_by_outage a out = alarm_as a (unwrap_or (limit h a) 0) (limit_revision h a) (events_of h a) out
 
-  outage_anew : (a k : Name) (l : Bool) (v : Said Outage) → latching h a ≡ Some l → option_map (row_by_outage k (still (or_else (when (same_name k a) v) (latest (λ c before. said_of_outage k c.person c.moment c.request) h)))) (latching h k) ≡ cond (same_name k a) (Some (row_by_outage a (what_stands v) l)) (alarm_row h k)
+  outage_anew : (a k : Name) (l : Bool) (v : Said Outage) → latching h a ≡ Some l
+      → option_map (row_by_outage k (still (or_else (when (same_name k a) v) (latest (λ c before. said_of_outage k c.person c.moment c.request) h))))
+      (latching h k) ≡ cond (same_name k a) (Some (row_by_outage a (what_stands v) l)) (alarm_row h k)
   outage_anew a k l v known =
       ap (λ o. option_map (row_by_outage k o) (latching h k)) (still_when (same_name k a) v _)
       ∙ said_anew name_cmp same_names row_by_outage (outage h) (latching h) a l (what_stands v) known k
@@ -87,7 +106,9 @@ module _ (h : List Call) (p : Name) (t : ℕ) where
       let c = with_request h p t (RemoveFromService u a w) in
       ap (λ o. alarm_put (RemoveFromService u a w) (taken_out p t w) (option_map (alarm_of h a) o)) known
       ∙ (λ i. record (rows_of c) {
-        alarms = put-rows (alarm_row h) (alarm_row c) (tags_of_alarms h) (tags_of_alarms c) (row_by_outage a (Some (record { from = t; person = p; words = w })) l) (alarms_told h) (alarms_told c) (λ k. outage_anew a k l (Begins (record { from = t; person = p; words = w })) known) i;
+        alarms = put-rows (alarm_row h) (alarm_row c) (tags_of_alarms h) (tags_of_alarms c)
+            (row_by_outage a (Some (record { from = t; person = p; words = w })) l) (alarms_told h) (alarms_told c)
+            (λ k. outage_anew a k l (Begins (record { from = t; person = p; words = w })) known) i;
       })
 
   place_turns : (u a : Name) (l : Bool) → latching h a ≡ Some l → Turns h p t (PlaceInService u a)
@@ -96,7 +117,8 @@ module _ (h : List Call) (p : Name) (t : ℕ) where
       let c = with_request h p t (PlaceInService u a) in
       ap (λ o. alarm_put (PlaceInService u a) placed_in (option_map (alarm_of h a) o)) known
       ∙ (λ i. record (rows_of c) {
-        alarms = put-rows (alarm_row h) (alarm_row c) (tags_of_alarms h) (tags_of_alarms c) (row_by_outage a None l) (alarms_told h) (alarms_told c) (λ k. outage_anew a k l Over known) i;
+        alarms = put-rows (alarm_row h) (alarm_row c) (tags_of_alarms h) (tags_of_alarms c) (row_by_outage a None l) (alarms_told h) (alarms_told c)
+            (λ k. outage_anew a k l Over known) i;
       })
 
 module _ (h : List Call) (p : Name) (t : ℕ) where
@@ -120,7 +142,8 @@ module _ (h : List Call) (p : Name) (t : ℕ) where
   approve_accepted u n legal entry =
       let known = drafted h n _ (unrefused h (made_by (Approve u n)) entry).1.1.1 in
       by known.0.proposer known.0.proposed known.0.kind known.0.base known.1 where
-        by : (q : Name) (s : ℕ) (k : ChangeKind) (base : ℕ) → draft h n ≡ Some (record { proposer = q; proposed = s; kind = k; base = base }) → Turns h p t (Approve u n)
+        by : (q : Name) (s : ℕ) (k : ChangeKind) (base : ℕ) → draft h n ≡ Some (record { proposer = q; proposed = s; kind = k; base = base })
+            → Turns h p t (Approve u n)
         by q s (Rationale a sheet) base known = approve_sheet_turns h p t u n q s a sheet base known
         by q s (Matrix m) base known = approve_matrix_turns h p t u n q s m base known
         by q s (Limit a max) base known =
@@ -132,15 +155,21 @@ module _ (h : List Call) (p : Name) (t : ℕ) where
   accepted_turns legal (OpenUnit u s m k) plain accepted = cc
   accepted_turns legal (Grant u q r) plain accepted = grant_turns h p t u q r
   accepted_turns legal (Withdraw u q r) plain accepted = withdraw_turns h p t u q r
-  accepted_turns legal (Register u a l max) plain accepted = register_turns h p t u a l max (unspoken h legal a (registered_anew h p t u a l max accepted))
+  accepted_turns legal (Register u a l max) plain accepted =
+      register_turns h p t u a l max (unspoken h legal a (registered_anew h p t u a l max accepted))
   accepted_turns legal (Import u file) plain accepted = file_turns u file legal accepted
   accepted_turns legal (TimedShelve u a d w) plain accepted = timed_turns h p t u a d w
-  accepted_turns legal (OneShotShelve u a w) plain accepted = let known = latches a (unrefused h (made_by (OneShotShelve u a w)) accepted).1.1.1.0 in one_shot_turns h p t u a w known.0 known.1
+  accepted_turns legal (OneShotShelve u a w) plain accepted = let known = latches a (unrefused h (made_by (OneShotShelve u a w)) accepted).1.1.1.0 in
+      one_shot_turns h p t u a w known.0 known.1
   accepted_turns legal (Unshelve u a) plain accepted = unshelve_turns h p t u a
-  accepted_turns legal (RemoveFromService u a w) plain accepted = let known = latches a (unrefused h (made_by (RemoveFromService u a w)) accepted).1.1.1.0 in remove_turns h p t u a w known.0 known.1
-  accepted_turns legal (PlaceInService u a) plain accepted = let known = latches a (unrefused h (made_by (PlaceInService u a)) accepted).1.1.1.0 in place_turns h p t u a known.0 known.1
+  accepted_turns legal (RemoveFromService u a w) plain accepted = let known =
+      latches a (unrefused h (made_by (RemoveFromService u a w)) accepted).1.1.1.0 in remove_turns h p t u a w known.0 known.1
+  accepted_turns legal (PlaceInService u a) plain accepted = let known = latches a (unrefused h (made_by (PlaceInService u a)) accepted).1.1.1.0 in
+      place_turns h p t u a known.0 known.1
   accepted_turns legal (Propose u x) plain accepted = propose_accepted u x.kind x.base legal
-  accepted_turns legal (WithdrawChange u n) plain accepted = let known = drafted h n _ (unrefused h (made_by (WithdrawChange u n)) accepted).1.1.1 in withdraw_change_turns h p t u n known.0 known.1
+  accepted_turns legal (WithdrawChange u n) plain accepted = let known = drafted h n _ (unrefused h (made_by (WithdrawChange u n)) accepted).1.1.1 in
+      withdraw_change_turns h p t u n known.0 known.1
   accepted_turns legal (Approve u n) plain accepted = approve_accepted u n legal accepted
-  accepted_turns legal (Reject u n) plain accepted = let known = drafted h n _ (unrefused h (made_by (Reject u n)) accepted).1.1.1 in reject_turns h p t u n known.0 known.1
+  accepted_turns legal (Reject u n) plain accepted = let known = drafted h n _ (unrefused h (made_by (Reject u n)) accepted).1.1.1 in
+      reject_turns h p t u n known.0 known.1
   accepted_turns legal q plain accepted = absurd (let no : false ≡ true = (and_parts (is_ok (verdict h (made_by q))) false accepted).1 in cc)

@@ -29,7 +29,8 @@ pub unrefused : (h : List Call) (c : Call) → IsEntry h c → AllOff (refusals 
 unrefused h c entry = all_off (refusals (facts h) c) _ (and_parts _ _ entry).0
 
 -- a change that is decided is there, and open
-pub open_change : (o : Option ChangeRow) (more : ChangeRow → List (Bool × Refused)) → AllOff (of_change o more) → (c : ChangeRow) × (o ≡ Some c) × (not (is_open c.state) ≡ false)
+pub open_change : (o : Option ChangeRow) (more : ChangeRow → List (Bool × Refused)) → AllOff (of_change o more)
+    → (c : ChangeRow) × (o ≡ Some c) × (not (is_open c.state) ≡ false)
 open_change None more off = absurd (true≢false off.0)
 open_change (Some c) more off = (c, refl, off.0)
 
@@ -40,12 +41,16 @@ pub record Follows (h : List Call) (c : Call) : Type 0 where
   pub entry : IsEntry h c
   pub matrix : has_matrix c.request ≡ true
 
-at_opening : (P : Call → Type 0) → ((p : Name) (t : ℕ) (u s : Name) (m : Grid) (k : ℕ) → has_matrix (OpenUnit u s m k) ≡ true → P (made p t (OpenUnit u s m k))) → (p : Name) (t : ℕ) (q : Request) → is_opening q ≡ true → has_matrix q ≡ true → P (made p t q)
+at_opening : (P : Call → Type 0)
+    → ((p : Name) (t : ℕ) (u s : Name) (m : Grid) (k : ℕ) → has_matrix (OpenUnit u s m k) ≡ true → P (made p t (OpenUnit u s m k)))
+    → (p : Name) (t : ℕ) (q : Request) → is_opening q ≡ true → has_matrix q ≡ true → P (made p t q)
 at_opening P first p t (OpenUnit u s m k) opens shape = first p t u s m k shape
 at_opening P first p t _ opens shape = cc
 
 -- what holds after the opening, and after each later entry, holds
-pub by_legal : (P : List Call → Type 0) → ((p : Name) (t : ℕ) (u s : Name) (m : Grid) (k : ℕ) → has_matrix (OpenUnit u s m k) ≡ true → P (made p t (OpenUnit u s m k) ∷ [])) → ((h : List Call) (c : Call) → Follows h c → P h → P (c ∷ h)) → (h : List Call) → IsLegal h → P h
+pub by_legal : (P : List Call → Type 0)
+    → ((p : Name) (t : ℕ) (u s : Name) (m : Grid) (k : ℕ) → has_matrix (OpenUnit u s m k) ≡ true → P (made p t (OpenUnit u s m k) ∷ []))
+    → ((h : List Call) (c : Call) → Follows h c → P h → P (c ∷ h)) → (h : List Call) → IsLegal h → P h
 by_legal P first next [] legal = absurd legal
 by_legal P first next (c ∷ []) legal = at_opening (λ c. P (c ∷ [])) first c.person c.moment c.request legal.0 legal.1
 by_legal P first next (c ∷ b ∷ h) legal =
@@ -53,8 +58,14 @@ by_legal P first next (c ∷ b ∷ h) legal =
     next (b ∷ h) c (record { legal = legal.2; plain = parts.0; entry = parts.1; matrix = legal.1 }) (by_legal P first next (b ∷ h) legal.2)
 
 -- so for what was said last: it holds where it was said, and stays
-pub latest_legal : {A : Type 0} (says : Call → List Call → Option A) (P : List Call → A → Type 0) → ((p : Name) (t : ℕ) (u s : Name) (m : Grid) (k : ℕ) → has_matrix (OpenUnit u s m k) ≡ true → (x : A) → says (made p t (OpenUnit u s m k)) [] ≡ Some x → P (made p t (OpenUnit u s m k) ∷ []) x) → ((h : List Call) (c : Call) → Follows h c → (x : A) → says c h ≡ Some x → P (c ∷ h) x) → ((h : List Call) (c : Call) → Follows h c → (x : A) → P h x → P (c ∷ h) x) → (h : List Call) → IsLegal h → (x : A) → latest says h ≡ Some x → P h x
-latest_legal {A} says P first said stays = by_legal (λ h. (x : A) → latest says h ≡ Some x → P h x) (λ p t u s m k shape x e. first p t u s m k shape x (sym (else_none _) ∙ e)) next where
+pub latest_legal : {A : Type 0} (says : Call → List Call → Option A) (P : List Call → A → Type 0)
+    → ((p : Name) (t : ℕ) (u s : Name) (m : Grid) (k : ℕ) → has_matrix (OpenUnit u s m k) ≡ true → (x : A)
+    → says (made p t (OpenUnit u s m k)) [] ≡ Some x → P (made p t (OpenUnit u s m k) ∷ []) x)
+    → ((h : List Call) (c : Call) → Follows h c → (x : A) → says c h ≡ Some x → P (c ∷ h) x)
+    → ((h : List Call) (c : Call) → Follows h c → (x : A) → P h x → P (c ∷ h) x) → (h : List Call) → IsLegal h → (x : A) → latest says h ≡ Some x
+    → P h x
+latest_legal {A} says P first said stays =
+    by_legal (λ h. (x : A) → latest says h ≡ Some x → P h x) (λ p t u s m k shape x e. first p t u s m k shape x (sym (else_none _) ∙ e)) next where
   next : (h : List Call) (c : Call) → Follows h c → ((x : A) → latest says h ≡ Some x → P h x) → (x : A) → latest says (c ∷ h) ≡ Some x → P (c ∷ h) x
   next h c f rest x e =
       elim (says c h) as (λ o. says c h ≡ o → or_else o (latest says h) ≡ Some x → P (c ∷ h) x) [

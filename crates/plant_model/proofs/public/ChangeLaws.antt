@@ -16,10 +16,12 @@ use Rattle.plant_types.proofs.public.{KeyedRowLaws.{IsInOrder-rows, Tells, row_a
 use Rattle.plant_ration.specs.Grid.{Grid}
 
 -- rows that are made of other rows
-pub put_row-map : {A X K : Type 0} (R : K → K → Ordering) (key : X → K) (f : A → X) (r : A) (xs : List A) → put_row R key (f r) (map f xs) ≡ map f (put_row R (λ x. key (f x)) r xs)
+pub put_row-map : {A X K : Type 0} (R : K → K → Ordering) (key : X → K) (f : A → X) (r : A) (xs : List A)
+    → put_row R key (f r) (map f xs) ≡ map f (put_row R (λ x. key (f x)) r xs)
 put_row-map R key f r [] = refl
 put_row-map R key f r (x ∷ xs) =
-    elim (R (key (f r)) (key (f x))) as (λ v. by_order v (f r ∷ f x ∷ map f xs) (f r ∷ map f xs) (f x ∷ put_row R key (f r) (map f xs)) ≡ map f (by_order v (r ∷ x ∷ xs) (r ∷ xs) (x ∷ put_row R (λ y. key (f y)) r xs))) [
+    elim (R (key (f r)) (key (f x))) as (λ v. by_order v (f r ∷ f x ∷ map f xs) (f r ∷ map f xs) (f x ∷ put_row R key (f r) (map f xs))
+        ≡ map f (by_order v (r ∷ x ∷ xs) (r ∷ xs) (x ∷ put_row R (λ y. key (f y)) r xs))) [
       | Less ↦ refl
       | Equal ↦ refl
       | Greater ↦ ap (λ ys. f x ∷ ys) (put_row-map R key f r xs)
@@ -27,23 +29,32 @@ put_row-map R key f r (x ∷ xs) =
 
 -- tables with the same row at each key are the same
 module _ {K X : Type 0} {R : K → K → Ordering} {key : X → K} where
-  pub rows-same : (old new : K → Option X) (ks ks' : List K) → Tells R key old ks → Tells R key new ks' → ((q : K) → old q ≡ new q) → filter_map old (in_order R ks) ≡ filter_map new (in_order R ks')
+  pub rows-same : (old new : K → Option X) (ks ks' : List K) → Tells R key old ks → Tells R key new ks' → ((q : K) → old q ≡ new q)
+      → filter_map old (in_order R ks) ≡ filter_map new (in_order R ks')
   rows-same old new ks ks' t u is =
       same_rows R key t.order t.same _ _ (IsInOrder-rows old ks t) (IsInOrder-rows new ks' u)
       (λ q. row_at-rows old ks t q ∙ is q ∙ sym (row_at-rows new ks' u q))
 
 -- pairs
-pub now_stands : (k x : Pair) (until : Option ℕ) (rest : Option (Said (Option ℕ))) → option_map (grant_as k) (still (or_else (when (same_pair k x) (Begins until)) rest)) ≡ cond (same_pair k x) (Some (grant_as x until)) (option_map (grant_as k) (still rest))
+pub now_stands : (k x : Pair) (until : Option ℕ) (rest : Option (Said (Option ℕ)))
+    → option_map (grant_as k) (still (or_else (when (same_pair k x) (Begins until)) rest)) ≡ cond (same_pair k x) (Some (grant_as x until))
+    (option_map (grant_as k) (still rest))
 now_stands k x until rest =
-    elim (same_pair k x) as (λ b. same_pair k x ≡ b → option_map (grant_as k) (still (or_else (when b (Begins until)) rest)) ≡ cond b (Some (grant_as x until)) (option_map (grant_as k) (still rest))) [
+    elim (same_pair k x) as (λ b. same_pair k x ≡ b
+        → option_map (grant_as k) (still (or_else (when b (Begins until)) rest)) ≡ cond b (Some (grant_as x until))
+        (option_map (grant_as k) (still rest))) [
       | true ↦ λ e. ap (λ y. Some (grant_as y until)) (same_pairs k x (tied _ _ e refl))
       | false ↦ λ e. refl
     ] refl
 
 -- a row that is made from what is said of its key, and of which one thing is said anew
-pub said_anew : {K V B X : Type 0} (R : K → K → Ordering) (same : (x y : K) → R x y ≡ Equal → x ≡ y) (row : K → V → B → X) (value : K → V) (base : K → Option B) (a : K) (b : B) (v : V) → base a ≡ Some b → (k : K) → option_map (row k (cond (eq_by_cmp R k a) v (value k))) (base k) ≡ cond (eq_by_cmp R k a) (Some (row a v b)) (option_map (row k (value k)) (base k))
+pub said_anew : {K V B X : Type 0} (R : K → K → Ordering) (same : (x y : K) → R x y ≡ Equal → x ≡ y) (row : K → V → B → X) (value : K → V)
+    (base : K → Option B) (a : K) (b : B) (v : V) → base a ≡ Some b → (k : K)
+    → option_map (row k (cond (eq_by_cmp R k a) v (value k))) (base k) ≡ cond (eq_by_cmp R k a) (Some (row a v b))
+    (option_map (row k (value k)) (base k))
 said_anew R same row value base a b v known k =
-    elim (eq_by_cmp R k a) as (λ t. eq_by_cmp R k a ≡ t → option_map (row k (cond t v (value k))) (base k) ≡ cond t (Some (row a v b)) (option_map (row k (value k)) (base k))) [
+    elim (eq_by_cmp R k a) as (λ t. eq_by_cmp R k a ≡ t
+        → option_map (row k (cond t v (value k))) (base k) ≡ cond t (Some (row a v b)) (option_map (row k (value k)) (base k))) [
       | true ↦ λ e. ap (λ y. option_map (row y v) (base y)) (same k a (tied _ true e refl)) ∙ ap (option_map (row a v)) known
       | false ↦ λ e. refl
     ] refl
@@ -62,10 +73,15 @@ module _ (h : List Call) (p : Name) (t : ℕ) where
   Turns q = changed_by (changes_for (facts h) (record { person = p; moment = t; request = q })) (rows_of h) ≡ rows_of (with_request q)
 
   -- Registration of an alarm of which nothing was said before
-  alarm_anew : (a k : Name) (l : Bool) (max : ℕ) → IsUnspoken h a → option_map (alarm_as k (unwrap_or (or_else (when (same_name k a) max) (limit h k)) 0) (limit_revision h k) (events_of h k) (outage h k)) (or_else (when (same_name k a) l) (latching h k)) ≡ cond (same_name k a) (Some (alarm_as a max 0 [] None l)) (alarm_row h k)
+  alarm_anew : (a k : Name) (l : Bool) (max : ℕ) → IsUnspoken h a
+      → option_map (alarm_as k (unwrap_or (or_else (when (same_name k a) max) (limit h k)) 0) (limit_revision h k) (events_of h k) (outage h k))
+      (or_else (when (same_name k a) l) (latching h k)) ≡ cond (same_name k a) (Some (alarm_as a max 0 [] None l)) (alarm_row h k)
   alarm_anew a k l max new =
-      elim (same_name k a) as (λ s. same_name k a ≡ s → option_map (alarm_as k (unwrap_or (or_else (when s max) (limit h k)) 0) (limit_revision h k) (events_of h k) (outage h k)) (or_else (when s l) (latching h k)) ≡ cond s (Some (alarm_as a max 0 [] None l)) (alarm_row h k)) [
-        | true ↦ λ e. ap (λ y. Some (alarm_as y max (limit_revision h y) (events_of h y) (outage h y) l)) (same_names k a (tied _ true e refl)) ∙ (λ i. Some (alarm_as a max (new.no_revision i) (new.no_event i) (new.no_outage i) l))
+      elim (same_name k a) as (λ s. same_name k a ≡ s
+          → option_map (alarm_as k (unwrap_or (or_else (when s max) (limit h k)) 0) (limit_revision h k) (events_of h k) (outage h k))
+          (or_else (when s l) (latching h k)) ≡ cond s (Some (alarm_as a max 0 [] None l)) (alarm_row h k)) [
+        | true ↦ λ e. ap (λ y. Some (alarm_as y max (limit_revision h y) (events_of h y) (outage h y) l)) (same_names k a (tied _ true e refl))
+            ∙ (λ i. Some (alarm_as a max (new.no_revision i) (new.no_event i) (new.no_outage i) l))
         | false ↦ λ e. refl
       ] refl
 
@@ -73,7 +89,8 @@ module _ (h : List Call) (p : Name) (t : ℕ) where
   register_turns u a l max new =
       let c = with_request (Register u a l max) in
       λ i. record (rows_of c) {
-        alarms = put-rows (alarm_row h) (alarm_row c) (tags_of_alarms h) (tags_of_alarms c) (alarm_as a max 0 [] None l) (alarms_told h) (alarms_told c) (λ k. alarm_anew a k l max new) i;
+        alarms = put-rows (alarm_row h) (alarm_row c) (tags_of_alarms h) (tags_of_alarms c) (alarm_as a max 0 [] None l) (alarms_told h)
+            (alarms_told c) (λ k. alarm_anew a k l max new) i;
       }
 
 -- An opening: no rows become those of the one entry
@@ -81,14 +98,18 @@ module _ (p : Name) (t : ℕ) (u s : Name) (m : Grid) (quota_given : ℕ) where
   abbrev opened : List Call
   opened = record { person = p; moment = t; request = OpenUnit u s m quota_given } ∷ []
 
-  pub opening_turns : changed_by (changes_for (facts []) (record { person = p; moment = t; request = OpenUnit u s m quota_given })) no_rows ≡ rows_of opened
+  pub opening_turns : changed_by (changes_for (facts []) (record { person = p; moment = t; request = OpenUnit u s m quota_given })) no_rows
+      ≡ rows_of opened
   opening_turns =
       let bands : List BandRow = filter_map (λ k. band_at k m) (band_places 0 m) in
       let cells : List CellRow = filter_map (λ k. cell_of k m) (cell_places 0 m) in
       let first : UnitRows = put (GrantPut (grant_as (s, Steward) None)) (put (UnitPut (unit_row opened)) no_rows) in
       put_bands bands (cells_of 0 m) first ∙ put_cells cells (record first { bands = puts band_cmp band_key bands (band_rows []) })
       ∙ (λ i. record (rows_of opened) {
-        grants = put-rows (grant_row []) (grant_row opened) (pairs_of []) (pairs_of opened) (grant_as (s, Steward) None) (grants_told []) (grants_told opened) (λ k. now_stands k (s, Steward) None None) i;
-        bands = puts-rows (band_row []) (band_row opened) (band_keys []) (band_keys opened) bands (bands_told []) (bands_told opened) (λ q. bands_anew [] 0 refl m q) i;
-        cells = puts-rows (cell_row []) (cell_row opened) (cell_keys []) (cell_keys opened) cells (cells_told []) (cells_told opened) (λ q. cells_anew [] 0 refl m q) i;
+        grants = put-rows (grant_row []) (grant_row opened) (pairs_of []) (pairs_of opened) (grant_as (s, Steward) None) (grants_told [])
+            (grants_told opened) (λ k. now_stands k (s, Steward) None None) i;
+        bands = puts-rows (band_row []) (band_row opened) (band_keys []) (band_keys opened) bands (bands_told []) (bands_told opened)
+            (λ q. bands_anew [] 0 refl m q) i;
+        cells = puts-rows (cell_row []) (cell_row opened) (cell_keys []) (cell_keys opened) cells (cells_told []) (cells_told opened)
+            (λ q. cells_anew [] 0 refl m q) i;
       })

@@ -48,5 +48,6 @@ no_end_stands (Some (Begins None)) n until e = cc
 no_end_stands (Some Over) n until e = cc
 no_end_stands None n until e = cc
 
-pub stands_for_good : (h : List Call) → list_all (λ c. has_no_end c.request) h ≡ true → (k : Pair) (until : Option ℕ) → standing h k ≡ Some until → until ≡ None
+pub stands_for_good : (h : List Call) → list_all (λ c. has_no_end c.request) h ≡ true → (k : Pair) (until : Option ℕ) → standing h k ≡ Some until
+    → until ≡ None
 stands_for_good h e k until is = no_end_stands (latest (λ c before. said_of_pair k c.request) h) (latest_without k h e) until is

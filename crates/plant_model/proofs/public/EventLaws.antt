@@ -19,7 +19,8 @@ use Rattle.plant_types.proofs.public.{KeyedRowLaws.{IsInOrder-rows, row_at-rows,
 -- what the acceptance of an import says of its file
 abbrev FileAccepted : List Call → ℕ → Result (List Event) BadFile → Type 0
 FileAccepted h t (Err fault) = ⊥
-FileAccepted h t (Ok rows) = (nat_lt max_events (length (events h) + length (new_numbers (events h) rows)) ≡ false) × (first_fault (tags_of (facts h)) t 2 (events h) rows ≡ None)
+FileAccepted h t (Ok rows) = (nat_lt max_events (length (events h) + length (new_numbers (events h) rows)) ≡ false)
+    × (first_fault (tags_of (facts h)) t 2 (events h) rows ≡ None)
 
 no_fault : (fault : Option BadFile) → AllOff (fault_entries fault) → fault ≡ None
 no_fault None off = refl
@@ -29,7 +30,8 @@ file_accepted : (h : List Call) (t : ℕ) (file : Result (List Event) BadFile) �
 file_accepted h t (Err fault) off = true≢false off.0
 file_accepted h t (Ok rows) off = (off.0, no_fault _ off.1)
 
-pub import_accepted : (h : List Call) (p : Name) (t : ℕ) (u : Name) (file : Result (List Event) BadFile) → IsEntry h (made p t (Import u file)) → FileAccepted h t file
+pub import_accepted : (h : List Call) (p : Name) (t : ℕ) (u : Name) (file : Result (List Event) BadFile) → IsEntry h (made p t (Import u file))
+    → FileAccepted h t file
 import_accepted h p t u file entry = file_accepted h t file (unrefused h (made p t (Import u file)) entry).1.1.1
 
 -- what the history has at a number is what its events have there
@@ -48,7 +50,8 @@ module _ (h : List Call) (p : Name) (t : ℕ) (u : Name) (rows : List Event) whe
   events_brought e there =
       let told = member_told (event_numbered now) (in_order nat_cmp (numbers_of_events now)) e there in
       let n : ℕ = told.0 in
-      let is : or_else (find (has_number n) rows) (find (has_number n) (events h)) ≡ Some e = ap (or_else (find (has_number n) rows)) (found_event h n) ∙ told.1 in
+      let is : or_else (find (has_number n) rows) (find (has_number n) (events h)) ≡ Some e =
+          ap (or_else (find (has_number n) rows)) (found_event h n) ∙ told.1 in
       (subst (IsOf (events h ++ rows) n) is (of_both n (events h) rows _ _ (of_find n rows) (of_find n (events h)))).0
 
 -- a tag among those of the alarms is registered
@@ -59,12 +62,16 @@ tag_registered h a = key_in name_cmp alarm_tag a (alarm_rows h) ∙ ap is_some (
 abbrev pub is_of : Name → Event → Bool
 is_of a e = same_name a e.tag
 
-none_named : (tags : List Name) (a : Name) (rows : List Event) → are_known tags rows ≡ true → list_any (same_name a) tags ≡ false → list_any (is_of a) rows ≡ false
+none_named : (tags : List Name) (a : Name) (rows : List Event) → are_known tags rows ≡ true → list_any (same_name a) tags ≡ false
+    → list_any (is_of a) rows ≡ false
 none_named tags a [] known none = refl
 none_named tags a (e ∷ rows) known none =
     let parts = and_parts (list_any (same_name e.tag) tags) (are_known tags rows) known in
     let rest = none_named tags a rows parts.1 none in
-    let other : same_name a e.tag ≡ false = false_from_ne_true (same_name a e.tag) (λ is. clash_of (list_any (same_name a) tags) (ap (λ y. list_any (same_name y) tags) (same_names a e.tag (tied _ true is refl)) ∙ parts.0) none) in
+    let other : same_name a e.tag ≡ false =
+        false_from_ne_true (same_name a e.tag)
+        (λ is. clash_of (list_any (same_name a) tags) (ap (λ y. list_any (same_name y) tags) (same_names a e.tag (tied _ true is refl))
+        ∙ parts.0) none) in
     λ i. other i || rest i
 
 -- what legality says of the events
@@ -72,15 +79,19 @@ pub record Kept (h : List Call) : Type 0 where
   pub fit : is_fit (events h) ≡ true
   pub known : (a : Name) → latching h a ≡ None → list_any (is_of a) (events h) ≡ false
 
-kept_import : (h : List Call) (p : Name) (t : ℕ) (u : Name) (file : Result (List Event) BadFile) → Kept h → FileAccepted h t file → Kept (made p t (Import u file) ∷ h)
+kept_import : (h : List Call) (p : Name) (t : ℕ) (u : Name) (file : Result (List Event) BadFile) → Kept h → FileAccepted h t file
+    → Kept (made p t (Import u file) ∷ h)
 kept_import h p t u (Err fault) k accepted = absurd accepted
 kept_import h p t u (Ok rows) k accepted =
     record {
-      fit = fit_within (events h ++ rows) (events (now h p t u rows)) (whole_fits (tags_of (facts h)) t (events h) rows k.fit accepted.1) (events_brought h p t u rows);
+      fit = fit_within (events h ++ rows) (events (now h p t u rows)) (whole_fits (tags_of (facts h)) t (events h) rows k.fit accepted.1)
+          (events_brought h p t u rows);
       known = λ a none.
           none_within (is_of a) (events (now h p t u rows)) (events h ++ rows) (events_brought h p t u rows)
           (list_any-append (is_of a) (events h) rows
-          ∙ (λ i. k.known a none i || none_named (tags_of (facts h)) a rows (rows_known (tags_of (facts h)) t 2 (events h) rows accepted.1) (tag_registered h a ∙ ap is_some none) i));
+          ∙ (λ i. k.known a none i
+          || none_named (tags_of (facts h)) a rows (rows_known (tags_of (facts h)) t 2 (events h) rows accepted.1)
+          (tag_registered h a ∙ ap is_some none) i));
     }
 
 -- another call brings no event, and what it registers is registered now
@@ -92,7 +103,9 @@ kept_other h p t q none k =
     }
   where
     same : (e : Event) → member e (events (made p t q ∷ h)) ≡ true → member e (events h) ≡ true
-    same e there = ap (λ rows. member e (filter_map (λ n. or_else (find (has_number n) rows) (event_numbered h n)) (in_order nat_cmp (numbers_of rows ++ numbers_of_events h)))) (sym none) ∙ there
+    same e there =
+        ap (λ rows. member e (filter_map (λ n. or_else (find (has_number n) rows) (event_numbered h n)) (in_order nat_cmp (numbers_of rows
+        ++ numbers_of_events h)))) (sym none) ∙ there
 
     before : (a : Name) → latching (made p t q ∷ h) a ≡ None → latching h a ≡ None
     before a e = elim (said_of_latching a q) as (λ o. or_else o (latching h a) ≡ None → latching h a ≡ None) [ None ↦ λ is. is | Some l ↦ λ is. cc ] e
@@ -102,7 +115,8 @@ kept_next h p t (Import u file) entry k = kept_import h p t u file k (import_acc
 kept_next h p t _ entry k = kept_other h p t _ refl k
 
 pub legal_kept : (h : List Call) → IsLegal h → Kept h
-legal_kept = by_legal Kept (λ p t u s m k shape. record { fit = refl; known = λ a none. refl }) (λ h c f. kept_next h c.person c.moment c.request f.entry)
+legal_kept =
+    by_legal Kept (λ p t u s m k shape. record { fit = refl; known = λ a none. refl }) (λ h c f. kept_next h c.person c.moment c.request f.entry)
 
 -- so they rise
 pub events_rise : (h : List Call) → IsLegal h → IsRising (events h)
@@ -112,7 +126,10 @@ events_rise h legal = rising (events h) ((legal_kept h legal).fit) (events_in_or
 no_event_of : (a : Name) (es : List Event) → list_any (is_of a) es ≡ false → of_alarm a es ≡ []
 no_event_of a [] none = refl
 no_event_of a (e ∷ es) none =
-    elim (same_name a e.tag) as (λ b. (b || list_any (is_of a) es) ≡ false → cond b (e ∷ of_alarm a es) (of_alarm a es) ≡ []) [ true ↦ λ no. cc | false ↦ λ rest. no_event_of a es rest ] none
+    elim (same_name a e.tag) as (λ b. (b || list_any (is_of a) es) ≡ false
+        → cond b (e ∷ of_alarm a es) (of_alarm a es) ≡ []) [ true ↦ λ no. cc | false ↦ λ rest. no_event_of a es rest ] none
 
 pub unspoken : (h : List Call) → IsLegal h → (a : Name) → latching h a ≡ None → IsUnspoken h a
-unspoken h legal a none = record { no_revision = no_revision h legal a none; no_event = no_event_of a (events h) ((legal_kept h legal).known a none); no_outage = no_outage h legal a none }
+unspoken h legal a none =
+    record { no_revision = no_revision h legal a none; no_event = no_event_of a (events h) ((legal_kept h legal).known a none);
+    no_outage = no_outage h legal a none }

@@ -27,11 +27,13 @@ pub when_same : {A : Type 0} (a b : Name) (x y : A) → when (same_name a b) x �
 when_same a b x y e = elim (when_or (same_name a b) x) [ inl none ↦ let no = sym none ∙ e in cc | inr same ↦ same_names a b (tied _ true same refl) ]
 
 -- if each entry says something only of keys that it names, then the newest that says something of a key names it
-module _ {A X K : Type 0} (R : K → K → Ordering) (says : Call → List Call → Option A) (read : Option A → Option X) (names : Call → List Call → List K) (k : K) where
+module _ {A X K : Type 0} (R : K → K → Ordering) (says : Call → List Call → Option A) (read : Option A → Option X) (names : Call → List Call → List K)
+    (k : K) where
   abbrev IsNamed : Option X → List K → Type 0
   IsNamed o ks = (o ≡ None) ⊎ (list_any (eq_by_cmp R k) ks ≡ true)
 
-  pub latest-named : read None ≡ None → ((c : Call) (before : List Call) (x : A) → says c before ≡ Some x → IsNamed (read (Some x)) (names c before)) → (h : List Call) → IsNamed (read (latest says h)) (all_named names h)
+  pub latest-named : read None ≡ None → ((c : Call) (before : List Call) (x : A) → says c before ≡ Some x → IsNamed (read (Some x)) (names c before))
+      → (h : List Call) → IsNamed (read (latest says h)) (all_named names h)
   latest-named none each [] = inl none
   latest-named none each (c ∷ h) =
       let both = list_any-append (eq_by_cmp R k) (names c h) (all_named names h) in
@@ -41,7 +43,8 @@ module _ {A X K : Type 0} (R : K → K → Ordering) (says : Call → List Call 
       ] refl
 
 -- what each entry says holds of what the newest says
-pub latest-holds : {A : Type 0} (says : Call → List Call → Option A) (P : A → Type 0) → ((c : Call) (before : List Call) (x : A) → says c before ≡ Some x → P x) → (h : List Call) (x : A) → latest says h ≡ Some x → P x
+pub latest-holds : {A : Type 0} (says : Call → List Call → Option A) (P : A → Type 0)
+    → ((c : Call) (before : List Call) (x : A) → says c before ≡ Some x → P x) → (h : List Call) (x : A) → latest says h ≡ Some x → P x
 latest-holds says P each [] x e = cc
 latest-holds says P each (c ∷ h) x e =
     elim (says c h) as (λ o. says c h ≡ o → or_else o (latest says h) ≡ Some x → P x) [
@@ -49,7 +52,8 @@ latest-holds says P each (c ∷ h) x e =
       | Some y ↦ λ some is. each c h x (some ∙ is)
     ] refl e
 
-pub mapped_key : {A X K : Type 0} (key : X → K) (f : A → X) (k : K) (o : Option A) (r : X) → ((x : A) → key (f x) ≡ k) → option_map f o ≡ Some r → key r ≡ k
+pub mapped_key : {A X K : Type 0} (key : X → K) (f : A → X) (k : K) (o : Option A) (r : X) → ((x : A) → key (f x) ≡ k) → option_map f o ≡ Some r
+    → key r ≡ k
 mapped_key key f k None r is e = cc
 mapped_key key f k (Some x) r is e = let same : f x ≡ r = cc in ap key (sym same) ∙ is x
 
@@ -59,7 +63,9 @@ one_named R k x v y e = elim (when_or (eq_by_cmp R k x) v) [ inl none ↦ let no
 
 -- Grants
 pair_is_named : (k : Pair) (q : Request) (v : Said (Option ℕ)) → said_of_pair k q ≡ Some v → list_any (eq_by_cmp pair_cmp k) (pairs_named q) ≡ true
-pair_is_named k q v = elim (says q).pair as (λ o. pair_by k o ≡ Some v → list_any (eq_by_cmp pair_cmp k) (option_to_list (option_map (λ e. e.0) o)) ≡ true) [ None ↦ λ e. cc | Some x ↦ one_named pair_cmp k x.0 x.1 v ]
+pair_is_named k q v =
+    elim (says q).pair as (λ o. pair_by k o ≡ Some v
+    → list_any (eq_by_cmp pair_cmp k) (option_to_list (option_map (λ e. e.0) o)) ≡ true) [ None ↦ λ e. cc | Some x ↦ one_named pair_cmp k x.0 x.1 v ]
 
 abbrev pub pairs_of : List Call → List Pair
 pairs_of h = all_named (λ c before. pairs_named c.request) h
@@ -70,12 +76,16 @@ grants_told h =
       order = pair_total;
       same = same_pairs;
       at_key = λ k r e. mapped_key pair_of (grant_as k) k (standing h k) r (λ x. refl) e;
-      among = λ k. latest-named pair_cmp (λ c before. said_of_pair k c.request) (λ o. option_map (grant_as k) (still o)) (λ c before. pairs_named c.request) k refl (λ c before x e. inr (pair_is_named k c.request x e)) h;
+      among = λ k. latest-named pair_cmp (λ c before. said_of_pair k c.request) (λ o. option_map (grant_as k) (still o))
+          (λ c before. pairs_named c.request) k refl (λ c before x e. inr (pair_is_named k c.request x e)) h;
     }
 
 -- Alarms
 tag_is_registered : (a : Name) (q : Request) (l : Bool) → said_of_latching a q ≡ Some l → list_any (eq_by_cmp name_cmp a) (tags_registered q) ≡ true
-tag_is_registered a q l = elim (says q).registration as (λ o. latching_by a o ≡ Some l → list_any (eq_by_cmp name_cmp a) (option_to_list (option_map (λ x. x.tag) o)) ≡ true) [ None ↦ λ e. cc | Some x ↦ one_named name_cmp a x.tag x.latching l ]
+tag_is_registered a q l =
+    elim (says q).registration as (λ o. latching_by a o ≡ Some l
+    → list_any (eq_by_cmp name_cmp a)
+    (option_to_list (option_map (λ x. x.tag) o)) ≡ true) [ None ↦ λ e. cc | Some x ↦ one_named name_cmp a x.tag x.latching l ]
 
 abbrev pub tags_of_alarms : List Call → List Name
 tags_of_alarms h = all_named (λ c before. tags_registered c.request) h
@@ -89,11 +99,13 @@ alarms_told h =
       order = name_total;
       same = same_names;
       at_key = λ a r e. mapped_key alarm_tag (alarm_of h a) a (latching h a) r (λ x. refl) e;
-      among = λ a. latest-named name_cmp (λ c before. said_of_latching a c.request) (option_map (alarm_of h a)) (λ c before. tags_registered c.request) a refl (λ c before x e. inr (tag_is_registered a c.request x e)) h;
+      among = λ a. latest-named name_cmp (λ c before. said_of_latching a c.request) (option_map (alarm_of h a))
+          (λ c before. tags_registered c.request) a refl (λ c before x e. inr (tag_is_registered a c.request x e)) h;
     }
 
 -- Shelves
-tag_is_shelved : (a p : Name) (t : ℕ) (before : List Call) (q : Request) (v : Said ShelfRow) → said_of_shelf a p t before q ≡ Some v → list_any (eq_by_cmp name_cmp a) (tags_shelved q) ≡ true
+tag_is_shelved : (a p : Name) (t : ℕ) (before : List Call) (q : Request) (v : Said ShelfRow) → said_of_shelf a p t before q ≡ Some v
+    → list_any (eq_by_cmp name_cmp a) (tags_shelved q) ≡ true
 tag_is_shelved a p t before (TimedShelve u b d w) v e = one_named name_cmp a b _ v e
 tag_is_shelved a p t before (OneShotShelve u b w) v e = one_named name_cmp a b _ v e
 tag_is_shelved a p t before (Unshelve u b) v e = one_named name_cmp a b _ v e
@@ -113,7 +125,8 @@ shelf_has_tag a p t before (OneShotShelve u b w) x e = when_HasTag (same_name a 
 shelf_has_tag a p t before (Unshelve u b) x e = when_HasTag (same_name a b) a _ x e tt
 shelf_has_tag a p t before _ x e = cc
 
-shelf_row_tag : (a : Name) (o : Option (Said ShelfRow)) (r : ShelfRow) → ((x : Said ShelfRow) → o ≡ Some x → HasTag a x) → still o ≡ Some r → r.tag ≡ a
+shelf_row_tag : (a : Name) (o : Option (Said ShelfRow)) (r : ShelfRow) → ((x : Said ShelfRow) → o ≡ Some x → HasTag a x) → still o ≡ Some r
+    → r.tag ≡ a
 shelf_row_tag a (Some (Begins s)) r has e = let same : s ≡ r = cc in sym (ap (λ (x : ShelfRow). x.tag) same) ∙ has (Begins s) refl
 shelf_row_tag a _ r has e = cc
 
@@ -125,8 +138,11 @@ shelves_told h =
     record {
       order = name_total;
       same = same_names;
-      at_key = λ a r e. shelf_row_tag a _ r (latest-holds (λ c before. said_of_shelf a c.person c.moment before c.request) (HasTag a) (λ c before x said. shelf_has_tag a c.person c.moment before c.request x said) h) e;
-      among = λ a. latest-named name_cmp (λ c before. said_of_shelf a c.person c.moment before c.request) still (λ c before. tags_shelved c.request) a refl (λ c before x e. inr (tag_is_shelved a c.person c.moment before c.request x e)) h;
+      at_key = λ a r e. shelf_row_tag a _ r
+          (latest-holds (λ c before. said_of_shelf a c.person c.moment before c.request) (HasTag a)
+          (λ c before x said. shelf_has_tag a c.person c.moment before c.request x said) h) e;
+      among = λ a. latest-named name_cmp (λ c before. said_of_shelf a c.person c.moment before c.request) still (λ c before. tags_shelved c.request) a
+          refl (λ c before x e. inr (tag_is_shelved a c.person c.moment before c.request x e)) h;
     }
 
 -- Events
@@ -138,16 +154,22 @@ events_told h =
     record {
       order = number_total;
       same = same_numbers;
-      at_key = λ n r e. sym (same_numbers n r.seq (tied _ _ (latest-holds (λ c before. find (has_number n) (imported c.request)) (λ x. same_number n x.seq ≡ true) (λ c before x. find_passes (has_number n) (imported c.request) x) h r e) refl));
-      among = λ n. latest-named nat_cmp (λ c before. find (has_number n) (imported c.request)) (λ o. o) (λ c before. numbers_of (imported c.request)) n refl (λ c before x is. inr (key_in nat_cmp event_number n (imported c.request) ∙ ap is_some is)) h;
+      at_key = λ n r e. sym
+          (same_numbers n r.seq (tied _ _ (latest-holds (λ c before. find (has_number n) (imported c.request)) (λ x. same_number n x.seq
+          ≡ true) (λ c before x. find_passes (has_number n) (imported c.request) x) h r e) refl));
+      among = λ n. latest-named nat_cmp (λ c before. find (has_number n) (imported c.request)) (λ o. o)
+          (λ c before. numbers_of (imported c.request)) n refl (λ c before x is. inr (key_in nat_cmp event_number n (imported c.request)
+          ∙ ap is_some is)) h;
     }
 
 -- Records
-sheet_is_named : (a : Name) (n : ℕ) (k : Option ChangeKind) (x : ℕ × Sheet) → sheet_in a n k ≡ Some x → list_any (eq_by_cmp name_cmp a) (tag_rationalised k) ≡ true
+sheet_is_named : (a : Name) (n : ℕ) (k : Option ChangeKind) (x : ℕ × Sheet) → sheet_in a n k ≡ Some x
+    → list_any (eq_by_cmp name_cmp a) (tag_rationalised k) ≡ true
 sheet_is_named a n (Some (Rationale b s)) x e = one_named name_cmp a b (n, s) x e
 sheet_is_named a n _ x e = cc
 
-sheet_is_approved : (a : Name) (before : List Call) (q : Request) (x : ℕ × Sheet) → approved_sheet a before q ≡ Some x → list_any (eq_by_cmp name_cmp a) (tags_approved before q) ≡ true
+sheet_is_approved : (a : Name) (before : List Call) (q : Request) (x : ℕ × Sheet) → approved_sheet a before q ≡ Some x
+    → list_any (eq_by_cmp name_cmp a) (tags_approved before q) ≡ true
 sheet_is_approved a before (Approve u n) x e = sheet_is_named a n (kind_of_change before n) x e
 sheet_is_approved a before _ x e = cc
 
@@ -166,11 +188,13 @@ records_told h =
       order = name_total;
       same = same_names;
       at_key = λ a r e. mapped_key tag_of_record (record_with h a) a (sheet h a) r (λ x. refl) e;
-      among = λ a. latest-named name_cmp (λ c before. approved_sheet a before c.request) (option_map (record_with h a)) (λ c before. tags_approved before c.request) a refl (λ c before x e. inr (sheet_is_approved a before c.request x e)) h;
+      among = λ a. latest-named name_cmp (λ c before. approved_sheet a before c.request) (option_map (record_with h a))
+          (λ c before. tags_approved before c.request) a refl (λ c before x e. inr (sheet_is_approved a before c.request x e)) h;
     }
 
 -- Changes
-draft_is_named : (n : ℕ) (p : Name) (t : ℕ) (before : List Call) (q : Request) (x : Draft) → said_of_draft n p t before q ≡ Some x → list_any (eq_by_cmp nat_cmp n) (numbers_proposed before q) ≡ true
+draft_is_named : (n : ℕ) (p : Name) (t : ℕ) (before : List Call) (q : Request) (x : Draft) → said_of_draft n p t before q ≡ Some x
+    → list_any (eq_by_cmp nat_cmp n) (numbers_proposed before q) ≡ true
 draft_is_named n p t before (Propose u y) x e = one_named nat_cmp n (proposals before + 1) _ x e
 draft_is_named n p t before _ x e = cc
 
@@ -189,5 +213,6 @@ changes_told h =
       order = number_total;
       same = same_numbers;
       at_key = λ n r e. mapped_key number_of_change (change_with h n) n (draft h n) r (λ x. refl) e;
-      among = λ n. latest-named nat_cmp (λ c before. said_of_draft n c.person c.moment before c.request) (option_map (change_with h n)) (λ c before. numbers_proposed before c.request) n refl (λ c before x e. inr (draft_is_named n c.person c.moment before c.request x e)) h;
+      among = λ n. latest-named nat_cmp (λ c before. said_of_draft n c.person c.moment before c.request) (option_map (change_with h n))
+          (λ c before. numbers_proposed before c.request) n refl (λ c before x e. inr (draft_is_named n c.person c.moment before c.request x e)) h;
     }

@@ -16,7 +16,8 @@ use Rattle.plant_floods.specs.Activations.{of_alarm}
 use Rattle.plant_types.specs.{KeyedRows.{in_order}, Names.{Name, name_cmp, same_name}, Options.{or_else, when}}
 use Rattle.plant_types.proofs.public.{KeyedRowLaws.{IsInOrder-rows, Tells, row_at-rows, same_rows}, Orders.{number_total, same_numbers}}
 
-module _ (h : List Call) (p : Name) (t : ℕ) (u : Name) (rows : List Event) (kept : Kept h) (clean : first_fault (tags_of (facts h)) t 2 (events h) rows ≡ None) where
+module _ (h : List Call) (p : Name) (t : ℕ) (u : Name) (rows : List Event) (kept : Kept h)
+    (clean : first_fault (tags_of (facts h)) t 2 (events h) rows ≡ None) where
   abbrev after : List Call
   after = now h p t u rows
 
@@ -31,7 +32,8 @@ module _ (h : List Call) (p : Name) (t : ℕ) (u : Name) (rows : List Event) (ke
       ∙ ap (or_else (said nat_cmp event_number new n)) (found_event h n)
 
   pub events_put : all_events (events h) rows ≡ events after
-  events_put = puts-rows (event_numbered h) (event_numbered after) (numbers_of_events h) (numbers_of_events after) new (events_told h) (events_told after) says
+  events_put =
+      puts-rows (event_numbered h) (event_numbered after) (numbers_of_events h) (numbers_of_events after) new (events_told h) (events_told after) says
 
   -- an alarm that none of the new rows names keeps its events
   only_key : (a : Name) (k : ℕ) (o : Option Event) (r : Event) → ((x : Event) → o ≡ Some x → x.seq ≡ k) → only a o ≡ Some r → r.seq ≡ k
@@ -50,13 +52,15 @@ module _ (h : List Call) (p : Name) (t : ℕ) (u : Name) (rows : List Event) (ke
 
   kept_only : (a : Name) → list_any (is_of a) new ≡ false → (n : ℕ) → only a (event_numbered h n) ≡ only a (event_numbered after n)
   kept_only a none n =
-      elim (said nat_cmp event_number new n) as (λ o. said nat_cmp event_number new n ≡ o → only a (event_numbered h n) ≡ only a (or_else o (event_numbered h n))) [
+      elim (said nat_cmp event_number new n) as (λ o. said nat_cmp event_number new n ≡ o
+          → only a (event_numbered h n) ≡ only a (or_else o (event_numbered h n))) [
         | None ↦ λ _. refl
         | Some y ↦ λ is.
             let away : same_name a y.tag ≡ false = none_member (is_of a) new y none (subst (IsOf new n) is (of_said n new)).0 in
             elim (event_numbered h n) as (λ o. event_numbered h n ≡ o → only a o ≡ when (same_name a y.tag) y) [
               | None ↦ λ _. sym (ap (λ b. when b y) away)
-              | Some x ↦ λ found. ap (λ z. when (same_name a z.tag) z) (new_alone (tags_of (facts h)) t (events h) rows kept.fit clean n y is x (found_event h n ∙ found))
+              | Some x ↦ λ found. ap (λ z. when (same_name a z.tag) z)
+                  (new_alone (tags_of (facts h)) t (events h) rows kept.fit clean n y is x (found_event h n ∙ found))
             ] refl
       ] refl
       ∙ ap (only a) (sym (says n))
@@ -64,8 +68,10 @@ module _ (h : List Call) (p : Name) (t : ℕ) (u : Name) (rows : List Event) (ke
   pub others_kept : (a : Name) → list_any (is_of a) new ≡ false → events_of h a ≡ events_of after a
   others_kept a none =
       only_told a (event_numbered h) (in_order nat_cmp (numbers_of_events h))
-      ∙ same_rows nat_cmp event_number number_total same_numbers _ _ (IsInOrder-rows _ (numbers_of_events h) (only_rows a h)) (IsInOrder-rows _ (numbers_of_events after) (only_rows a after))
-      (λ n. row_at-rows _ (numbers_of_events h) (only_rows a h) n ∙ kept_only a none n ∙ sym (row_at-rows _ (numbers_of_events after) (only_rows a after) n))
+      ∙ same_rows nat_cmp event_number number_total same_numbers _ _ (IsInOrder-rows _ (numbers_of_events h) (only_rows a h))
+      (IsInOrder-rows _ (numbers_of_events after) (only_rows a after))
+      (λ n. row_at-rows _ (numbers_of_events h) (only_rows a h) n ∙ kept_only a none n
+      ∙ sym (row_at-rows _ (numbers_of_events after) (only_rows a after) n))
       ∙ sym (only_told a (event_numbered after) (in_order nat_cmp (numbers_of_events after)))
 
   -- the alarms that the file names
@@ -78,16 +84,21 @@ module _ (h : List Call) (p : Name) (t : ℕ) (u : Name) (rows : List Event) (ke
   abbrev row_named : Name → Option AlarmRow
   row_named a = option_and_then named_row (alarm_row h a)
 
-  fused : (o : Option AlarmRow) (rest : List AlarmRow) → map row_now (filter (is_touched (events h) rows) (cons_option o rest)) ≡ cons_option (option_and_then named_row o) (map row_now (filter (is_touched (events h) rows) rest))
+  fused : (o : Option AlarmRow) (rest : List AlarmRow)
+      → map row_now (filter (is_touched (events h) rows) (cons_option o rest)) ≡ cons_option (option_and_then named_row o)
+      (map row_now (filter (is_touched (events h) rows) rest))
   fused None rest = refl
   fused (Some r) rest =
-      elim (is_touched (events h) rows r) as (λ b. map row_now (cond b (r ∷ filter (is_touched (events h) rows) rest) (filter (is_touched (events h) rows) rest)) ≡ cons_option (when b (row_now r)) (map row_now (filter (is_touched (events h) rows) rest))) [ true ↦ refl | false ↦ refl ]
+      elim (is_touched (events h) rows r) as (λ b. map row_now (cond b (r
+          ∷ filter (is_touched (events h) rows) rest) (filter (is_touched (events h) rows) rest))
+          ≡ cons_option (when b (row_now r)) (map row_now (filter (is_touched (events h) rows) rest))) [ true ↦ refl | false ↦ refl ]
 
   fuse : (tags : List Name) → map row_now (filter (is_touched (events h) rows) (filter_map (alarm_row h) tags)) ≡ filter_map row_named tags
   fuse [] = refl
   fuse (a ∷ tags) = fused (alarm_row h a) (filter_map (alarm_row h) tags) ∙ ap (cons_option (row_named a)) (fuse tags)
 
-  named_tag : (a : Name) (o : Option AlarmRow) (r : AlarmRow) → ((x : AlarmRow) → o ≡ Some x → x.tag ≡ a) → option_and_then named_row o ≡ Some r → r.tag ≡ a
+  named_tag : (a : Name) (o : Option AlarmRow) (r : AlarmRow) → ((x : AlarmRow) → o ≡ Some x → x.tag ≡ a) → option_and_then named_row o ≡ Some r
+      → r.tag ≡ a
   named_tag a None r has e = cc
   named_tag a (Some x) r has e = ap alarm_tag (sym (when_Some (is_touched (events h) rows x) (row_now x) r e)) ∙ has x refl
 
@@ -104,10 +115,14 @@ module _ (h : List Call) (p : Name) (t : ℕ) (u : Name) (rows : List Event) (ke
   abbrev alarm_with : Name → List Event → Bool → AlarmRow
   alarm_with a es l = alarm_as a (unwrap_or (limit h a) 0) (limit_revision h a) es (outage h a) l
 
-  by_alarm : (a : Name) (o : Option Bool) → option_map (λ l. alarm_with a (events_of after a) l) o ≡ or_else (option_and_then named_row (option_map (alarm_of h a) o)) (option_map (alarm_of h a) o)
+  by_alarm : (a : Name) (o : Option Bool)
+      → option_map (λ l. alarm_with a (events_of after a) l) o ≡ or_else (option_and_then named_row (option_map (alarm_of h a) o))
+      (option_map (alarm_of h a) o)
   by_alarm a None = refl
   by_alarm a (Some l) =
-      elim (list_any (is_of a) new) as (λ b. list_any (is_of a) new ≡ b → Some (alarm_with a (events_of after a) l) ≡ or_else (when b (alarm_with a (of_alarm a (all_events (events h) rows)) l)) (Some (alarm_of h a l))) [
+      elim (list_any (is_of a) new) as (λ b. list_any (is_of a) new ≡ b
+          → Some (alarm_with a (events_of after a) l) ≡ or_else (when b (alarm_with a (of_alarm a (all_events (events h) rows)) l))
+          (Some (alarm_of h a l))) [
         | true ↦ λ _. ap (λ es. Some (alarm_with a (of_alarm a es) l)) (sym events_put)
         | false ↦ λ none. ap (λ es. Some (alarm_with a es l)) (sym (others_kept a none))
       ] refl
@@ -115,13 +130,15 @@ module _ (h : List Call) (p : Name) (t : ℕ) (u : Name) (rows : List Event) (ke
   alarm_rows_put : puts name_cmp alarm_tag (map row_now (filter (is_touched (events h) rows) (alarm_rows h))) (alarm_rows h) ≡ alarm_rows after
   alarm_rows_put =
       ap (λ rs. puts name_cmp alarm_tag rs (alarm_rows h)) (fuse (in_order name_cmp (tags_of_alarms h)))
-      ∙ puts-rows (alarm_row h) (alarm_row after) (tags_of_alarms h) (tags_of_alarms after) (filter_map row_named (in_order name_cmp (tags_of_alarms h))) (alarms_told h) (alarms_told after)
+      ∙ puts-rows (alarm_row h) (alarm_row after) (tags_of_alarms h) (tags_of_alarms after)
+      (filter_map row_named (in_order name_cmp (tags_of_alarms h))) (alarms_told h) (alarms_told after)
       (λ a. by_alarm a (latching h a) ∙ ap (λ o. or_else o (alarm_row h a)) (sym (said-rows row_named (tags_of_alarms h) named_told a)))
 
   pub import_turns : Turns h p t (Import u (Ok rows))
   import_turns =
       let first : UnitRows = put (UnitPut (unit_row after)) (rows_of h) in
       let touched : List AlarmRow = filter (is_touched (events h) rows) (alarm_rows h) in
-      let twice : with_events (events h) (new_events (events h) rows) ≡ all_events (events h) rows = put_twice (events h) new (IsInOrder-rows (event_numbered h) (numbers_of_events h) (events_told h)) in
+      let twice : with_events (events h) (new_events (events h) rows) ≡ all_events (events h) rows =
+          put_twice (events h) new (IsInOrder-rows (event_numbered h) (numbers_of_events h) (events_told h)) in
       put_alarms row_now touched (PutEvents (new_events (events h) rows) ∷ []) first
       ∙ (λ i. record (rows_of after) { events = (twice ∙ events_put) i; alarms = alarm_rows_put i })

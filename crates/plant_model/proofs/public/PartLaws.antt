@@ -41,10 +41,13 @@ few_kept p q xs =
 -- all grants pass where every pair is selected
 all_grants : (p : Name) (grants : List GrantRow) → filter (λ g. same_name p g.person || true) grants ≡ grants
 all_grants p [] = refl
-all_grants p (g ∷ grants) = ap (λ b. cond b (g ∷ filter (λ g. same_name p g.person || true) grants) (filter (λ g. same_name p g.person || true) grants)) (or_right (same_name p g.person) true refl) ∙ ap (λ gs. g ∷ gs) (all_grants p grants)
+all_grants p (g ∷ grants) =
+    ap (λ b. cond b (g ∷ filter (λ g. same_name p g.person || true) grants) (filter (λ g. same_name p g.person || true) grants))
+    (or_right (same_name p g.person) true refl) ∙ ap (λ gs. g ∷ gs) (all_grants p grants)
 
 -- the caller's own grants are in every part
-own_grant : (p : Name) (s : Selection) (r : Role) (grants : List GrantRow) → row_at pair_cmp pair_of (p, r) (filter (λ g. same_name p g.person || s.pair (pair_of g)) grants) ≡ row_at pair_cmp pair_of (p, r) grants
+own_grant : (p : Name) (s : Selection) (r : Role) (grants : List GrantRow)
+    → row_at pair_cmp pair_of (p, r) (filter (λ g. same_name p g.person || s.pair (pair_of g)) grants) ≡ row_at pair_cmp pair_of (p, r) grants
 own_grant p s r grants =
     row_at-filter pair_cmp pair_of (p, r) (λ g. same_name p g.person || s.pair (pair_of g))
     (λ g e. or_left _ _ (ap is_eq (then_Equal (name_cmp p g.person) (nat_cmp (role_no r) (role_no g.role_no)) (tied _ true e refl)).0)) grants
@@ -67,17 +70,21 @@ module _ (rows : UnitRows) (p : Name) (t : ℕ) where
 
   own_roles : (q : Request) → holds_some (of_part q) t p ≡ holds_some (facts_of rows) t p
   unfolding holds_some
-  own_roles q = λ i. own_held q Viewer i || (own_held q Operator i || (own_held q Maintainer i || (own_held q Engineer i || (own_held q Approver i || (own_held q Steward i || false)))))
+  own_roles q =
+      λ i. own_held q Viewer i
+      || (own_held q Operator i || (own_held q Maintainer i || (own_held q Engineer i || (own_held q Approver i || (own_held q Steward i || false)))))
 
   own_lack : (q : Request) (o : Option Role) → lacks_role (of_part q) t p o ≡ lacks_role (facts_of rows) t p o
   own_lack q None = refl
   own_lack q (Some r) = ap (λ b. (not b, RoleLacking r) ∷ []) (own_held q r)
 
   -- an alarm and its shelf are found alone and among all
-  own_alarm : (m : Bool) (a : Name) → row_at name_cmp alarm_tag a (filter (λ (r : AlarmRow). m || same_name a r.tag) rows.alarms) ≡ row_at name_cmp alarm_tag a rows.alarms
+  own_alarm : (m : Bool) (a : Name)
+      → row_at name_cmp alarm_tag a (filter (λ (r : AlarmRow). m || same_name a r.tag) rows.alarms) ≡ row_at name_cmp alarm_tag a rows.alarms
   own_alarm m a = row_at-filter name_cmp alarm_tag a (λ r. m || same_name a r.tag) (λ r e. or_right m _ e) rows.alarms
 
-  own_shelf : (m : Bool) (a : Name) → row_at name_cmp shelf_tag a (filter (λ (r : ShelfRow). m || same_name a r.tag) rows.shelves) ≡ row_at name_cmp shelf_tag a rows.shelves
+  own_shelf : (m : Bool) (a : Name)
+      → row_at name_cmp shelf_tag a (filter (λ (r : ShelfRow). m || same_name a r.tag) rows.shelves) ≡ row_at name_cmp shelf_tag a rows.shelves
   own_shelf m a = row_at-filter name_cmp shelf_tag a (λ r. m || same_name a r.tag) (λ r e. or_right m _ e) rows.shelves
 
   entry_there : (a : Name) → row_at name_cmp record_tag a (filter (λ (r : RecordEntry). same_name a r.tag) rows.records) ≡ record_found rows a
@@ -108,25 +115,32 @@ module _ (rows : UnitRows) (p : Name) (t : ℕ) where
     content_there c _ holds = refl
 
     found_there : (n : ℕ) → s.change n ≡ true → change_found within n ≡ change_found rows n
-    found_there n holds = row_at-filter nat_cmp change_number n (λ r. s.change r.number) (λ r e. passes_number s.change n r.number holds e) rows.changes
+    found_there n holds =
+        row_at-filter nat_cmp change_number n (λ r. s.change r.number) (λ r e. passes_number s.change n r.number holds e) rows.changes
 
-    change_there : (n : ℕ) → s.change n ≡ true → s.matrix n ≡ true → option_map (change_read within) (change_found within n) ≡ option_map (change_read rows) (change_found rows n)
+    change_there : (n : ℕ) → s.change n ≡ true → s.matrix n ≡ true
+        → option_map (change_read within) (change_found within n) ≡ option_map (change_read rows) (change_found rows n)
     change_there n chosen holds =
         ap (option_map (change_read within)) (found_there n chosen)
         ∙ map-same (change_read within) (change_read rows) (change_found rows n)
-        (λ c e i. record (change_read rows c) { kind = content_there c c.kind_no (passes_number s.matrix n c.number holds (row_at-key nat_cmp change_number n rows.changes c e)) i })
+        (λ c e i. record (change_read rows c)
+        { kind = content_there c c.kind_no (passes_number s.matrix n c.number holds (row_at-key nat_cmp change_number n rows.changes c e)) i })
 
     record_there : (r : RecordEntry) → s.change r.change_no ≡ true → record_read within r ≡ record_read rows r
     record_there r chosen = ap (option_map (λ c. record_from r (sheet_read c))) (found_there r.change_no chosen)
 
     -- all records, where their sources are selected
-    records_read : (records : List RecordEntry) → ((n : ℕ) → list_any (λ (r : RecordEntry). same_number n r.change_no) records ≡ true → s.change n ≡ true) → filter_map (record_read within) records ≡ filter_map (record_read rows) records
+    records_read : (records : List RecordEntry)
+        → ((n : ℕ) → list_any (λ (r : RecordEntry). same_number n r.change_no) records ≡ true → s.change n ≡ true)
+        → filter_map (record_read within) records ≡ filter_map (record_read rows) records
     records_read [] chosen = refl
     records_read (r ∷ records) chosen =
-        ap (λ o. cons_option o (filter_map (record_read within) records)) (record_there r (chosen r.change_no (or_left _ _ (is_same_number r.change_no))))
+        ap (λ o. cons_option o (filter_map (record_read within) records))
+            (record_there r (chosen r.change_no (or_left _ _ (is_same_number r.change_no))))
         ∙ ap (cons_option (record_read rows r)) (records_read records (λ n e. chosen n (or_right _ _ e)))
 
-    records_there : ((n : ℕ) → is_source rows every n ≡ true → s.change n ≡ true) → filter_map (record_read within) (filter (λ (r : RecordEntry). true) rows.records) ≡ filter_map (record_read rows) rows.records
+    records_there : ((n : ℕ) → is_source rows every n ≡ true → s.change n ≡ true)
+        → filter_map (record_read within) (filter (λ (r : RecordEntry). true) rows.records) ≡ filter_map (record_read rows) rows.records
     records_there chosen = ap (filter_map (record_read within)) (filter-true rows.records) ∙ records_read rows.records chosen
 
   -- with these alarms and shelves the quota is used up by others than the tag's
@@ -134,17 +148,22 @@ module _ (rows : UnitRows) (p : Name) (t : ℕ) where
   quota_used alarms shelves a = nat_le (unit_read rows).quota (others_shelved (facts_of (record rows { alarms = alarms; shelves = shelves })) a t)
 
   quota_same : (m : Bool) (a : Name) → is_crowded rows ≡ m
-      → quota_used (filter (λ r. m || same_name a r.tag) rows.alarms) (filter (λ r. m || same_name a r.tag) rows.shelves) a ≡ quota_used rows.alarms rows.shelves a
+      → quota_used (filter (λ r. m || same_name a r.tag) rows.alarms)
+      (filter (λ r. m || same_name a r.tag) rows.shelves) a ≡ quota_used rows.alarms rows.shelves a
   quota_same true a is = λ i. quota_used (filter-true rows.alarms i) (filter-true rows.shelves i) a
   quota_same false a is =
       fewer (unit_read rows).quota (length rows.shelves) _ is (few_kept (λ (r : ShelfRow). same_name a r.tag) _ rows.shelves)
       ∙ sym (fewer (unit_read rows).quota (length rows.shelves) _ is (count_by-le-length _ rows.shelves))
 
   -- the record of one alarm
-  rationale_there : (a : Name) (s : Selection) → ((n : ℕ) → is_source rows (same_name a) n ≡ true → s.change n ≡ true) → option_and_then (record_read (within s)) (row_at name_cmp record_tag a (filter (λ (r : RecordEntry). same_name a r.tag) rows.records)) ≡ option_and_then (record_read rows) (record_found rows a)
+  rationale_there : (a : Name) (s : Selection) → ((n : ℕ) → is_source rows (same_name a) n ≡ true → s.change n ≡ true)
+      → option_and_then (record_read (within s))
+      (row_at name_cmp record_tag a (filter (λ (r : RecordEntry). same_name a r.tag) rows.records)) ≡ option_and_then (record_read rows)
+      (record_found rows a)
   rationale_there a s chosen =
       ap (option_and_then (record_read (within s))) (entry_there a)
-      ∙ then-same (record_read (within s)) (record_read rows) (record_found rows a) (λ r e. record_there s r (chosen r.change_no (source_found a rows.records r e)))
+      ∙ then-same (record_read (within s)) (record_read rows) (record_found rows a)
+      (λ r e. record_there s r (chosen r.change_no (source_found a rows.records r e)))
 
   -- the line of a shelf whose alarm is selected, and those of shelves that all have their alarms selected
   abbrev line_by : List AlarmRow → ShelfRow → Option ShelfLine
@@ -158,7 +177,8 @@ module _ (rows : UnitRows) (p : Name) (t : ℕ) where
       ap (λ o. line_of s (shelf_state (shelf_left (Some s)) (option_and_then (λ (r : AlarmRow). r.return_s) o) t))
       (row_at-filter name_cmp alarm_tag s.tag (λ r. test r.tag) (λ r e. passes_name test s.tag r.tag holds e) rows.alarms)
 
-  lines_there : (test : Name → Bool) (shelves : List ShelfRow) → ((a : Name) → has_shelf shelves a ≡ true → test a ≡ true) → filter_map (line_by (passing test)) shelves ≡ filter_map (line_by rows.alarms) shelves
+  lines_there : (test : Name → Bool) (shelves : List ShelfRow) → ((a : Name) → has_shelf shelves a ≡ true → test a ≡ true)
+      → filter_map (line_by (passing test)) shelves ≡ filter_map (line_by rows.alarms) shelves
   lines_there test [] chosen = refl
   lines_there test (s ∷ shelves) chosen =
       ap (λ o. cons_option o (filter_map (line_by (passing test)) shelves)) (line_there test s (chosen s.tag (or_left _ _ (itself_name s.tag))))
@@ -185,7 +205,8 @@ module _ (rows : UnitRows) (p : Name) (t : ℕ) where
   with_rationales records = record (facts_of rows) { rationales = records }
 
   -- a change of a number, and what an approval of it looks at
-  numbered_there : (n : ℕ) → option_map (change_read (within (of_number n))) (change_found (within (of_number n)) n) ≡ option_map (change_read rows) (change_found rows n)
+  numbered_there : (n : ℕ)
+      → option_map (change_read (within (of_number n))) (change_found (within (of_number n)) n) ≡ option_map (change_read rows) (change_found rows n)
   numbered_there n = change_there (of_number n) n (is_same_number n) (is_same_number n)
 
   -- a change from the columns that its topic looks at
@@ -194,7 +215,8 @@ module _ (rows : UnitRows) (p : Name) (t : ℕ) where
   kind_as MatrixTopic a s m max = Matrix m
   kind_as LimitTopic a s m max = Limit a max
 
-  kind_is : (c : ChangeEntry) (k : ChangeTopic) → kind_read rows c k ≡ kind_as k (unwrap_or c.tag []) (sheet_read c) (matrix_read rows c.number) (unwrap_or c.max_s 0)
+  kind_is : (c : ChangeEntry) (k : ChangeTopic)
+      → kind_read rows c k ≡ kind_as k (unwrap_or c.tag []) (sheet_read c) (matrix_read rows c.number) (unwrap_or c.max_s 0)
   kind_is c RecordTopic = refl
   kind_is c _ = refl
 
@@ -205,24 +227,37 @@ module _ (rows : UnitRows) (p : Name) (t : ℕ) where
   abbrev approved : ℕ → Option Name → ChangeTopic → Selection
   approved n tag k = with_number n (of_topic rows tag k)
 
-  matrix_in_force : (n : ℕ) (s : Selection) → s.matrix (unit_read rows).matrix_no ≡ true → matrix_read (within (with_number n s)) (unit_read rows).matrix_no ≡ matrix_read rows (unit_read rows).matrix_no
+  matrix_in_force : (n : ℕ) (s : Selection) → s.matrix (unit_read rows).matrix_no ≡ true
+      → matrix_read (within (with_number n s)) (unit_read rows).matrix_no ≡ matrix_read rows (unit_read rows).matrix_no
   matrix_in_force n s holds = matrix_there (with_number n s) (unit_read rows).matrix_no (or_left _ _ holds)
 
-  sources_there : (n : ℕ) → filter_map (record_read (within (with_number n (of_records rows)))) (filter (λ (r : RecordEntry). true) rows.records) ≡ filter_map (record_read rows) rows.records
+  sources_there : (n : ℕ)
+      → filter_map (record_read (within (with_number n (of_records rows))))
+      (filter (λ (r : RecordEntry). true) rows.records) ≡ filter_map (record_read rows) rows.records
   sources_there n = records_there (with_number n (of_records rows)) (λ m e. or_left _ _ e)
 
   -- the refusals of a change's kind with what it brings into force, from what its topic looks at
   abbrev outcome : Facts → ℕ → ℕ → ChangeKind → List (Bool × Refused) × List RowEdit
   outcome f base number k = (kind_refusals f base k, in_force f number k)
 
-  kind_same : (n base number : ℕ) (tag : Option Name) (k : ChangeTopic) (s : Sheet) (m : Grid) (max : ℕ) → outcome (chosen (approved n tag k)) base number (kind_as k (unwrap_or tag []) s m max) ≡ outcome (facts_of rows) base number (kind_as k (unwrap_or tag []) s m max)
+  kind_same : (n base number : ℕ) (tag : Option Name) (k : ChangeTopic) (s : Sheet) (m : Grid) (max : ℕ)
+      → outcome (chosen (approved n tag k)) base number (kind_as k (unwrap_or tag []) s m max)
+      ≡ outcome (facts_of rows) base number (kind_as k (unwrap_or tag []) s m max)
   kind_same n base number tag MatrixTopic s m max = ap (λ records. outcome (with_rationales records) base number (Matrix m)) (sources_there n)
-  kind_same n base number (Some a) RecordTopic s m max = λ i. outcome (with_content None (entry_there a i) (matrix_in_force n (of_content rows a) (is_same_number (unit_read rows).matrix_no) i)) base number (Rationale a s)
-  kind_same n base number None RecordTopic s m max = λ i. outcome (with_content None (row_at name_cmp record_tag [] (filter-true rows.records i)) (matrix_in_force n (of_records rows) (is_same_number (unit_read rows).matrix_no) i)) base number (Rationale [] s)
-  kind_same n base number (Some a) LimitTopic s m max = ap (λ alarm. outcome (with_content alarm None no_matrix.1) base number (Limit a max)) (own_alarm false a)
+  kind_same n base number (Some a) RecordTopic s m max =
+      λ i. outcome (with_content None (entry_there a i) (matrix_in_force n (of_content rows a) (is_same_number (unit_read rows).matrix_no) i)) base
+      number (Rationale a s)
+  kind_same n base number None RecordTopic s m max =
+      λ i. outcome
+      (with_content None (row_at name_cmp record_tag [] (filter-true rows.records i))
+      (matrix_in_force n (of_records rows) (is_same_number (unit_read rows).matrix_no) i)) base number (Rationale [] s)
+  kind_same n base number (Some a) LimitTopic s m max =
+      ap (λ alarm. outcome (with_content alarm None no_matrix.1) base number (Limit a max)) (own_alarm false a)
   kind_same n base number None LimitTopic s m max = ap (λ alarms. outcome (with_alarms alarms) base number (Limit [] max)) (filter-true rows.alarms)
 
-  outcome_same : (n : ℕ) (c : ChangeEntry) → outcome (chosen (approved n c.tag c.kind_no)) c.base c.number (change_read rows c).kind ≡ outcome (facts_of rows) c.base c.number (change_read rows c).kind
+  outcome_same : (n : ℕ) (c : ChangeEntry)
+      → outcome (chosen (approved n c.tag c.kind_no)) c.base c.number (change_read rows c).kind
+      ≡ outcome (facts_of rows) c.base c.number (change_read rows c).kind
   outcome_same n c =
       let kind = kind_is c c.kind_no in
       ap (outcome (chosen (approved n c.tag c.kind_no)) c.base c.number) kind
@@ -233,26 +268,35 @@ module _ (rows : UnitRows) (p : Name) (t : ℕ) where
   abbrev refusals_by : Facts → ChangeRow → List (Bool × Refused)
   refusals_by f c = (same_name p c.proposer, SamePerson) ∷ kind_refusals f c.base c.kind
 
-  refusals_same : (n : ℕ) (c : ChangeEntry) → refusals_by (chosen (approved n c.tag c.kind_no)) (change_read rows c) ≡ refusals_by (facts_of rows) (change_read rows c)
+  refusals_same : (n : ℕ) (c : ChangeEntry)
+      → refusals_by (chosen (approved n c.tag c.kind_no)) (change_read rows c) ≡ refusals_by (facts_of rows) (change_read rows c)
   refusals_same n c = ap (λ o. (same_name p c.proposer, SamePerson) ∷ o.0) (outcome_same n c)
 
-  brought_same : (n : ℕ) (c : ChangeEntry) → approval_changes (chosen (approved n c.tag c.kind_no)) p t (change_read rows c) ≡ approval_changes (facts_of rows) p t (change_read rows c)
+  brought_same : (n : ℕ) (c : ChangeEntry)
+      → approval_changes (chosen (approved n c.tag c.kind_no)) p t (change_read rows c) ≡ approval_changes (facts_of rows) p t (change_read rows c)
   brought_same n c = ap (λ o. decision_change Approved p t (change_read rows c) ∷ o.1) (outcome_same n c)
 
-  approved_there : (n : ℕ) (o : Option ChangeEntry) → change_found rows n ≡ o → (chosen (of_approved rows n o)).change n ≡ option_map (change_read rows) o
+  approved_there : (n : ℕ) (o : Option ChangeEntry) → change_found rows n ≡ o
+      → (chosen (of_approved rows n o)).change n ≡ option_map (change_read rows) o
   approved_there n None e = numbered_there n ∙ ap (option_map (change_read rows)) e
-  approved_there n (Some c) e = change_there (approved n c.tag c.kind_no) n (or_right _ _ (is_same_number n)) (or_right _ _ (is_same_number n)) ∙ ap (option_map (change_read rows)) e
+  approved_there n (Some c) e = change_there (approved n c.tag c.kind_no) n (or_right _ _ (is_same_number n)) (or_right _ _ (is_same_number n))
+      ∙ ap (option_map (change_read rows)) e
 
   abbrev row_after : Option ChangeRow → RowEdit
   row_after c = Put (UnitPut (approved_row t (unit_read rows) c))
 
-  approval_refused : (n : ℕ) (o : Option ChangeEntry) → change_found rows n ≡ o → of_change ((chosen (of_approved rows n o)).change n) (refusals_by (chosen (of_approved rows n o))) ≡ of_change (option_map (change_read rows) o) (refusals_by (facts_of rows))
+  approval_refused : (n : ℕ) (o : Option ChangeEntry) → change_found rows n ≡ o
+      → of_change ((chosen (of_approved rows n o)).change n)
+      (refusals_by (chosen (of_approved rows n o))) ≡ of_change (option_map (change_read rows) o) (refusals_by (facts_of rows))
   approval_refused n None e = ap (λ c. of_change c (refusals_by (chosen (of_number n)))) (approved_there n None e)
   approval_refused n (Some c) e =
       ap (λ x. of_change x (refusals_by (chosen (approved n c.tag c.kind_no)))) (approved_there n (Some c) e)
       ∙ ap (λ refusals. (not (is_open c.state_no), NotProposed c.state_no) ∷ refusals) (refusals_same n c)
 
-  approval_made : (n : ℕ) (o : Option ChangeEntry) → change_found rows n ≡ o → row_after ((chosen (of_approved rows n o)).change n) ∷ for_change ((chosen (of_approved rows n o)).change n) (approval_changes (chosen (of_approved rows n o)) p t) ≡ row_after (option_map (change_read rows) o) ∷ for_change (option_map (change_read rows) o) (approval_changes (facts_of rows) p t)
+  approval_made : (n : ℕ) (o : Option ChangeEntry) → change_found rows n ≡ o
+      → row_after ((chosen (of_approved rows n o)).change n) ∷ for_change ((chosen (of_approved rows n o)).change n)
+      (approval_changes (chosen (of_approved rows n o)) p t) ≡ row_after (option_map (change_read rows) o)
+      ∷ for_change (option_map (change_read rows) o) (approval_changes (facts_of rows) p t)
   approval_made n None e = ap (λ c. row_after c ∷ for_change c (approval_changes (chosen (of_number n)) p t)) (approved_there n None e)
   approval_made n (Some c) e =
       ap (λ x. row_after x ∷ for_change x (approval_changes (chosen (approved n c.tag c.kind_no)) p t)) (approved_there n (Some c) e)
@@ -265,15 +309,21 @@ module _ (rows : UnitRows) (p : Name) (t : ℕ) where
   content_matrix : (a : Name) → matrix_read (within (of_content rows a)) (unit_read rows).matrix_no ≡ matrix_read rows (unit_read rows).matrix_no
   content_matrix a = matrix_there (of_content rows a) (unit_read rows).matrix_no (is_same_number (unit_read rows).matrix_no)
 
-  proposal_same : (u : Name) (k : ChangeKind) (base : ℕ) → own_refusals (of_part (Propose u (proposal k base))) p t (Propose u (proposal k base)) ≡ own_refusals (facts_of rows) p t (Propose u (proposal k base))
-  proposal_same u (Rationale a s) base = λ i. own_refusals (with_content (own_alarm false a i) (entry_there a i) (content_matrix a i)) p t (Propose u (proposal (Rationale a s) base))
-  proposal_same u (Matrix m) base = ap (λ records. own_refusals (with_rationales records) p t (Propose u (proposal (Matrix m) base))) (records_there (of_records rows) (λ n e. e))
-  proposal_same u (Limit a max) base = λ i. own_refusals (with_content (own_alarm false a i) (entry_there a i) (content_matrix a i)) p t (Propose u (proposal (Limit a max) base))
+  proposal_same : (u : Name) (k : ChangeKind) (base : ℕ)
+      → own_refusals (of_part (Propose u (proposal k base))) p t (Propose u (proposal k base))
+      ≡ own_refusals (facts_of rows) p t (Propose u (proposal k base))
+  proposal_same u (Rationale a s) base =
+      λ i. own_refusals (with_content (own_alarm false a i) (entry_there a i) (content_matrix a i)) p t (Propose u (proposal (Rationale a s) base))
+  proposal_same u (Matrix m) base =
+      ap (λ records. own_refusals (with_rationales records) p t (Propose u (proposal (Matrix m) base))) (records_there (of_records rows) (λ n e. e))
+  proposal_same u (Limit a max) base =
+      λ i. own_refusals (with_content (own_alarm false a i) (entry_there a i) (content_matrix a i)) p t (Propose u (proposal (Limit a max) base))
 
   own_same : (q : Request) → own_refusals (of_part q) p t q ≡ own_refusals (facts_of rows) p t q
   own_same (Grant u q r) = ap (λ gs. own_refusals (with_grants gs) p t (Grant u q r)) (all_grants p rows.grants)
   own_same (Withdraw u q r) = ap (λ gs. own_refusals (with_grants gs) p t (Withdraw u q r)) (all_grants p rows.grants)
-  own_same (Register u a l max) = ap (λ o. (nat_le max_alarms (length rows.alarms), UnitFull TooManyAlarms) ∷ (is_some o, AlarmTaken) ∷ []) (own_alarm false a)
+  own_same (Register u a l max) =
+      ap (λ o. (nat_le max_alarms (length rows.alarms), UnitFull TooManyAlarms) ∷ (is_some o, AlarmTaken) ∷ []) (own_alarm false a)
   own_same (Import u file) = ap (λ alarms. own_refusals (with_alarms alarms) p t (Import u file)) (filter-true rows.alarms)
   own_same (TimedShelve u a d w) = λ i.
       (is_none (own_alarm (is_crowded rows) a i), AlarmUnknown)
@@ -284,7 +334,9 @@ module _ (rows : UnitRows) (p : Name) (t : ℕ) where
       (is_none (own_alarm (is_crowded rows) a i), AlarmUnknown)
       ∷ (is_one_shot (state_now (own_alarm (is_crowded rows) a i) (own_shelf (is_crowded rows) a i)), ConditionAlreadyShelved)
       ∷ (quota_same (is_crowded rows) a refl i, ShelfQuota (unit_read rows).quota) ∷ []
-  own_same (Unshelve u a) = λ i. (is_none (own_alarm false a i), AlarmUnknown) ∷ (is_unshelved (state_now (own_alarm false a i) (own_shelf false a i)), ConditionNotShelved) ∷ []
+  own_same (Unshelve u a) =
+      λ i. (is_none (own_alarm false a i), AlarmUnknown) ∷ (is_unshelved (state_now (own_alarm false a i) (own_shelf false a i)), ConditionNotShelved)
+      ∷ []
   own_same (RemoveFromService u a w) = ap (λ o. (is_none o, AlarmUnknown) ∷ (removed o, AlreadyOutOfService) ∷ []) (own_alarm false a)
   own_same (PlaceInService u a) = ap (λ o. (is_none o, AlarmUnknown) ∷ (not (removed o), NotOutOfService) ∷ []) (own_alarm false a)
   own_same (Propose u x) = proposal_same u x.kind x.base
@@ -292,7 +344,9 @@ module _ (rows : UnitRows) (p : Name) (t : ℕ) where
   own_same (Approve u n) = approval_refused n (change_found rows n) refl
   own_same (Reject u n) = ap (λ c. own_refusals (with_change c) p t (Reject u n)) (numbered_there n)
   own_same (Status u a) = ap (λ o. (is_none o, AlarmUnknown) ∷ []) (own_alarm false a)
-  own_same (RecordOf u a) = λ i. (is_none (own_alarm false a i), AlarmUnknown) ∷ (is_none (rationale_there a (selected rows (RecordOf u a)) (λ n e. e) i), RecordUnknown) ∷ []
+  own_same (RecordOf u a) =
+      λ i. (is_none (own_alarm false a i), AlarmUnknown) ∷ (is_none (rationale_there a (selected rows (RecordOf u a)) (λ n e. e) i), RecordUnknown)
+      ∷ []
   own_same (ChangeOf u n) = ap (λ c. own_refusals (with_change c) p t (ChangeOf u n)) (numbered_there n)
   own_same _ = refl
 
@@ -301,15 +355,19 @@ module _ (rows : UnitRows) (p : Name) (t : ℕ) where
   reply_same (RecordOf u a) = ap record_reply (rationale_there a (selected rows (RecordOf u a)) (λ n e. e))
   reply_same (ChangeOf u n) = ap change_reply (numbered_there n)
   reply_same (Shelves u) = ap (λ lines. ShelvesOf u t lines)
-      (ap (filter_map (line_by (passing (has_shelf rows.shelves)))) (filter-true rows.shelves) ∙ lines_there (has_shelf rows.shelves) rows.shelves (λ a e. e))
+      (ap (filter_map (line_by (passing (has_shelf rows.shelves)))) (filter-true rows.shelves)
+      ∙ lines_there (has_shelf rows.shelves) rows.shelves (λ a e. e))
   reply_same (Alarms u) = λ i. reply (with_records (filter-true rows.alarms i) (filter-true rows.shelves i) (filter-true rows.records i)) t (Alarms u)
-  reply_same (Standing u) = λ i. reply (with_records (filter-true rows.alarms i) (filter-true rows.shelves i) (filter-true rows.records i)) t (Standing u)
+  reply_same (Standing u) =
+      λ i. reply (with_records (filter-true rows.alarms i) (filter-true rows.shelves i) (filter-true rows.records i)) t (Standing u)
   reply_same _ = refl
 
   -- for one who holds a role the verdict from the part is the verdict from all rows
   holder_verdict : (q : Request) → verdict_of (of_part q) (asked q) ≡ verdict_of (facts_of rows) (asked q)
   holder_verdict q = λ i.
-      refused_or (first_refusal ((not (own_roles q i), NotGranted) ∷ (own_lack q (role_needed q) i ++ (nat_lt t (unit_read rows).last_s, MomentBehind (unit_read rows).last_s) ∷ own_same q i))) (reply_same q i)
+      refused_or (first_refusal ((not (own_roles q i), NotGranted)
+          ∷ (own_lack q (role_needed q) i ++ (nat_lt t (unit_read rows).last_s, MomentBehind (unit_read rows).last_s)
+          ∷ own_same q i))) (reply_same q i)
 
   abbrev alarm_changed : (AlarmRow → AlarmRow) → Option AlarmRow → List RowEdit
   alarm_changed g o = Put (UnitPut (record (unit_read rows) { last_s = t })) ∷ map (λ r. Put (AlarmPut (g r))) (option_to_list o)
@@ -317,7 +375,9 @@ module _ (rows : UnitRows) (p : Name) (t : ℕ) where
   -- and so are the changes
   holder_changes : (q : Request) → changes_for (of_part q) (asked q) ≡ changes_for (facts_of rows) (asked q)
   holder_changes (Import u file) = ap (λ alarms. changes_for (with_alarms alarms) (asked (Import u file))) (filter-true rows.alarms)
-  holder_changes (OneShotShelve u a w) = ap (λ max. Put (UnitPut (record (unit_read rows) { last_s = t })) ∷ Put (ShelfPut (shelf_row_as true t (t + max) p w a)) ∷ []) (ap longest (own_alarm (is_crowded rows) a))
+  holder_changes (OneShotShelve u a w) =
+      ap (λ max. Put (UnitPut (record (unit_read rows) { last_s = t })) ∷ Put (ShelfPut (shelf_row_as true t (t + max) p w a)) ∷ [])
+      (ap longest (own_alarm (is_crowded rows) a))
   holder_changes (RemoveFromService u a w) = ap (alarm_changed (taken_out p t w)) (own_alarm false a)
   holder_changes (PlaceInService u a) = ap (alarm_changed placed_in) (own_alarm false a)
   holder_changes (WithdrawChange u n) = ap (λ c. changes_for (with_change c) (asked (WithdrawChange u n))) (numbered_there n)
@@ -347,15 +407,21 @@ module _ (rows : UnitRows) (p : Name) (t : ℕ) where
   -- the verdict from the part, with all events beside it, is the verdict from all rows
   pub part_verdict : (q : Request) → verdict_of (facts_among (part_of (asked q) rows) rows.events) (asked q) ≡ verdict_of (facts_of rows) (asked q)
   part_verdict q = by (holds_by rows.grants t p) refl where
-    by : (b : Bool) → holds_by rows.grants t p ≡ b → verdict_of (facts_among (if b then part_of_holder (asked q) rows else part_of_stranger (asked q) rows) rows.events) (asked q) ≡ verdict_of (facts_of rows) (asked q)
+    by : (b : Bool) → holds_by rows.grants t p ≡ b
+        → verdict_of (facts_among (if b then part_of_holder (asked q) rows else part_of_stranger (asked q) rows) rows.events)
+        (asked q) ≡ verdict_of (facts_of rows) (asked q)
     by true some = holder_verdict q
     by false none =
-        stranger_refused (facts_among (part_of_stranger (asked q) rows) rows.events) (asked q) (part_holds (part_of_stranger (asked q) rows) rows.events ∙ own_holds ∙ none)
+        stranger_refused (facts_among (part_of_stranger (asked q) rows) rows.events) (asked q)
+            (part_holds (part_of_stranger (asked q) rows) rows.events ∙ own_holds ∙ none)
         ∙ sym (stranger_refused (facts_of rows) (asked q) (rows_hold rows (length rows.alarms) (last_number rows.changes) ∙ none))
 
   -- the changes matter where the call is accepted, and so by one who holds a role
-  pub part_changes : (q : Request) → holds_by rows.grants t p ≡ true → changes_for (facts_among (part_of (asked q) rows) rows.events) (asked q) ≡ changes_for (facts_of rows) (asked q)
-  part_changes q some = ap (λ b. changes_for (facts_among (if b then part_of_holder (asked q) rows else part_of_stranger (asked q) rows) rows.events) (asked q)) some ∙ holder_changes q
+  pub part_changes : (q : Request) → holds_by rows.grants t p ≡ true
+      → changes_for (facts_among (part_of (asked q) rows) rows.events) (asked q) ≡ changes_for (facts_of rows) (asked q)
+  part_changes q some =
+      ap (λ b. changes_for (facts_among (if b then part_of_holder (asked q) rows else part_of_stranger (asked q) rows) rows.events) (asked q)) some
+      ∙ holder_changes q
 
   pub stranger_verdict : (q : Request) → holds_by rows.grants t p ≡ false → verdict_of (facts_of rows) (asked q) ≡ Err NotGranted
   stranger_verdict q none = stranger_refused (facts_of rows) (asked q) (rows_hold rows (length rows.alarms) (last_number rows.changes) ∙ none)

@@ -14,7 +14,9 @@ same_bands a b e =
     λ i. (first i, second i)
 
 pub cell_total : IsTotalOrder cell_cmp
-cell_total = then_total (on_total (λ (k : CellKey). k.0) nat_cmp_total) (then_total (on_total (λ (k : CellKey). k.1) nat_cmp_total) (on_total (λ (k : CellKey). k.2) nat_cmp_total))
+cell_total =
+    then_total (on_total (λ (k : CellKey). k.0) nat_cmp_total)
+    (then_total (on_total (λ (k : CellKey). k.1) nat_cmp_total) (on_total (λ (k : CellKey). k.2) nat_cmp_total))
 
 pub same_cells : (a b : CellKey) → cell_cmp a b ≡ Equal → a ≡ b
 same_cells a b e =

@@ -23,41 +23,55 @@ use Rattle.plant_types.proofs.public.Halves.{first, second}
 
 -- The rows of a table whose keys pass a test
 module _ {K X : Type 0} (R : K → K → Ordering) (key : X → K) where
-  below_left : (p : X → Bool) (k : K) (rows : List X) → T (below_all R k (map (λ r. (key r, r)) rows)) → T (below_all R k (map (λ r. (key r, r)) (filter p rows)))
+  below_left : (p : X → Bool) (k : K) (rows : List X) → T (below_all R k (map (λ r. (key r, r)) rows))
+      → T (below_all R k (map (λ r. (key r, r)) (filter p rows)))
   below_left p k [] h = tt
   below_left p k (r ∷ rows) h =
       let rest = below_left p k rows (second _ _ h) in
-      elim (p r) as (λ b. T (below_all R k (map (λ r. (key r, r)) (cond b (r ∷ filter p rows) (filter p rows))))) [ true ↦ both _ _ (first _ _ h) rest | false ↦ rest ]
+      elim (p r) as (λ b. T (below_all R k (map (λ r. (key r, r)) (cond b (r ∷ filter p rows) (filter p rows)))))
+          [ true ↦ both _ _ (first _ _ h) rest | false ↦ rest ]
 
   -- rows in order stay in order where some are left out
   pub left_in_order : (p : X → Bool) (rows : List X) → IsInOrder R key rows → IsInOrder R key (filter p rows)
   left_in_order p [] h = tt
   left_in_order p (r ∷ rows) h =
       let rest = left_in_order p rows (second _ _ h) in
-      elim (p r) as (λ b. IsInOrder R key (cond b (r ∷ filter p rows) (filter p rows))) [ true ↦ both _ _ (below_left p (key r) rows (first _ _ h)) rest | false ↦ rest ]
+      elim (p r) as (λ b. IsInOrder R key (cond b (r
+          ∷ filter p rows) (filter p rows))) [ true ↦ both _ _ (below_left p (key r) rows (first _ _ h)) rest | false ↦ rest ]
 
   module _ (o : IsTotalOrder R) (same : (x y : K) → R x y ≡ Equal → x ≡ y) (test : K → Bool) where
     pub row_at-left : (q : K) (rows : List X) → row_at R key q (filter (λ r. test (key r)) rows) ≡ cond (test q) (row_at R key q rows) None
     row_at-left q [] = elim (test q) as (λ b. ◌≡◌ {A = Option X} None (cond b None None)) [ true ↦ refl | false ↦ refl ]
     row_at-left q (r ∷ rows) =
         let rest = row_at-left q rows in
-        elim (test (key r)) as (λ b. test (key r) ≡ b → row_at R key q (cond b (r ∷ filter (λ r. test (key r)) rows) (filter (λ r. test (key r)) rows)) ≡ cond (test q) (row_at R key q (r ∷ rows)) None) [
-          | true ↦ λ t. elim (eq_by_cmp R q (key r)) as (λ b. eq_by_cmp R q (key r) ≡ b → cond b (Some r) (row_at R key q (filter (λ r. test (key r)) rows)) ≡ cond (test q) (cond b (Some r) (row_at R key q rows)) None) [
+        elim (test (key r)) as (λ b. test (key r) ≡ b
+            → row_at R key q (cond b (r ∷ filter (λ r. test (key r)) rows) (filter (λ r. test (key r)) rows)) ≡ cond (test q)
+            (row_at R key q (r ∷ rows)) None) [
+          | true ↦ λ t. elim (eq_by_cmp R q (key r)) as (λ b. eq_by_cmp R q (key r) ≡ b
+              → cond b (Some r) (row_at R key q (filter (λ r. test (key r)) rows)) ≡ cond (test q) (cond b (Some r) (row_at R key q rows)) None) [
             | true ↦ λ e. sym (ap (λ b. cond b (Some r) None) (ap test (same q (key r) (tied _ true e refl)) ∙ t))
             | false ↦ λ _. rest
           ] refl
-          | false ↦ λ t. rest ∙ elim (eq_by_cmp R q (key r)) as (λ b. eq_by_cmp R q (key r) ≡ b → cond (test q) (row_at R key q rows) None ≡ cond (test q) (cond b (Some r) (row_at R key q rows)) None) [
-            | true ↦ λ e. let no : test q ≡ false = ap test (same q (key r) (tied _ true e refl)) ∙ t in ap (λ b. cond b (row_at R key q rows) None) no ∙ sym (ap (λ b. cond b (Some r) None) no)
+          | false ↦ λ t. rest
+              ∙ elim (eq_by_cmp R q (key r)) as (λ b. eq_by_cmp R q (key r) ≡ b
+              → cond (test q) (row_at R key q rows) None ≡ cond (test q) (cond b (Some r) (row_at R key q rows)) None) [
+            | true ↦ λ e. let no : test q ≡ false = ap test (same q (key r) (tied _ true e refl)) ∙ t in
+                ap (λ b. cond b (row_at R key q rows) None) no ∙ sym (ap (λ b. cond b (Some r) None) no)
             | false ↦ λ _. refl
           ] refl
         ] refl
 
     -- they are those that another function tells at rising places
-    left_rows : (told : K → Option X) (ks : List K) → Tells R key told ks → (row : K → Option X) (places : List K) → ((k : K) (r : X) → row k ≡ Some r → key r ≡ k) → IsInOrder R (λ k. k) places → ((q : K) → (row q ≡ None) ⊎ (list_any (eq_by_cmp R q) places ≡ true)) → ((q : K) → cond (test q) (told q) None ≡ row q) → filter (λ r. test (key r)) (filter_map told (in_order R ks)) ≡ filter_map row places
+    left_rows : (told : K → Option X) (ks : List K) → Tells R key told ks → (row : K → Option X) (places : List K)
+        → ((k : K) (r : X) → row k ≡ Some r → key r ≡ k) → IsInOrder R (λ k. k) places
+        → ((q : K) → (row q ≡ None) ⊎ (list_any (eq_by_cmp R q) places ≡ true)) → ((q : K) → cond (test q) (told q) None ≡ row q)
+        → filter (λ r. test (key r)) (filter_map told (in_order R ks)) ≡ filter_map row places
     left_rows told ks t row places at_key rise among is =
-        same_rows R key o same _ _ (left_in_order (λ r. test (key r)) _ (IsInOrder-rows told ks t)) (IsInOrder-told R key o same row at_key places rise)
+        same_rows R key o same _ _ (left_in_order (λ r. test (key r)) _ (IsInOrder-rows told ks t))
+            (IsInOrder-told R key o same row at_key places rise)
         (λ q. row_at-left q _ ∙ ap (λ x. cond (test q) x None) (row_at-rows told ks t q) ∙ is q
-        ∙ sym (row_at-told R key o same row at_key q places ∙ ap (λ b. cond b (row q) None) (is_some-find (eq_by_cmp R q) places) ∙ settled _ _ (among q)))
+        ∙ sym (row_at-told R key o same row at_key q places ∙ ap (λ b. cond b (row q) None) (is_some-find (eq_by_cmp R q) places)
+        ∙ settled _ _ (among q)))
 
 -- The elements of a list, one for each of its places
 get-after : {A : Type 0} (pre : List A) (x : A) (post : List A) → slice_get (pre ++ x ∷ post) (length pre) ≡ Some x
@@ -72,7 +86,8 @@ filter_map-map f g [] = refl
 filter_map-map f g (x ∷ xs) = ap (cons_option (f (g x))) (filter_map-map f g xs)
 
 -- rows made of the elements at the places of a list are made of its elements in their order
-pub listed : {A B : Type 0} (make : ℕ → A → B) (whole pre xs : List A) (s : ℕ) → s ≡ length pre + 1 → whole ≡ pre ++ xs → filter_map (λ b. option_map (make b) (at_place whole b)) (range_with_len s (length xs)) ≡ map (λ e. make e.0 e.1) (enumerate_from s xs)
+pub listed : {A B : Type 0} (make : ℕ → A → B) (whole pre xs : List A) (s : ℕ) → s ≡ length pre + 1 → whole ≡ pre ++ xs
+    → filter_map (λ b. option_map (make b) (at_place whole b)) (range_with_len s (length xs)) ≡ map (λ e. make e.0 e.1) (enumerate_from s xs)
 listed make whole pre [] s at is = refl
 listed make whole pre (x ∷ xs) s at is =
     let here : at_place whole s ≡ Some x = ap (λ w. at_place w s) is ∙ ap (at_place (pre ++ x ∷ xs)) at ∙ place-after pre x xs in
@@ -80,7 +95,8 @@ listed make whole pre (x ∷ xs) s at is =
     let rest = listed make whole (pre ++ x ∷ []) xs (s + 1) more (is ∙ sym (append_assoc pre (x ∷ []) xs)) in
     λ i. cons_option (option_map (make s) (here i)) (rest i)
 
-told_back : {A B : Type 0} (make : ℕ → A → B) (get : B → A) → ((b : ℕ) (x : A) → get (make b x) ≡ x) → (xs : List A) (s : ℕ) → map get (map (λ e. make e.0 e.1) (enumerate_from s xs)) ≡ xs
+told_back : {A B : Type 0} (make : ℕ → A → B) (get : B → A) → ((b : ℕ) (x : A) → get (make b x) ≡ x) → (xs : List A) (s : ℕ)
+    → map get (map (λ e. make e.0 e.1) (enumerate_from s xs)) ≡ xs
 told_back make get back [] s = refl
 told_back make get back (x ∷ xs) s = λ i. back s x i ∷ told_back make get back xs (s + 1) i
 
@@ -106,17 +122,22 @@ module _ (h : List Call) (n : ℕ) (m : Grid) (numbered : matrix_numbered h n �
   band_make b l = record { matrix_no = n; band_no = b; limit_s = l }
 
   band_kept : (q : BandKey) (r : BandRow) → at_band q ≡ Some r → band_key r ≡ q
-  band_kept q r e = elim (same_number n q.0) as (λ b. cond b (band_at q m) None ≡ Some r → band_key r ≡ q) [ true ↦ band_keyed q m r | false ↦ λ no. cc ] e
+  band_kept q r e =
+      elim (same_number n q.0) as (λ b. cond b (band_at q m) None ≡ Some r → band_key r ≡ q) [ true ↦ band_keyed q m r | false ↦ λ no. cc ] e
 
   band_among : (q : BandKey) → (at_band q ≡ None) ⊎ (list_any (eq_by_cmp band_cmp q) (band_places n m) ≡ true)
-  band_among q = elim (same_number n q.0) as (λ b. same_number n q.0 ≡ b → (cond b (band_at q m) None ≡ None) ⊎ (list_any (eq_by_cmp band_cmp q) (band_places n m) ≡ true)) [
-    | true ↦ λ s. subst (λ k. (band_at q m ≡ None) ⊎ (list_any (eq_by_cmp band_cmp q) (band_places k m) ≡ true)) (sym (same_number_of n q.0 s)) (band_here q.0 q.1 m)
+  band_among q =
+      elim (same_number n q.0) as (λ b. same_number n q.0 ≡ b
+      → (cond b (band_at q m) None ≡ None) ⊎ (list_any (eq_by_cmp band_cmp q) (band_places n m) ≡ true)) [
+    | true ↦ λ s. subst (λ k. (band_at q m ≡ None) ⊎ (list_any (eq_by_cmp band_cmp q) (band_places k m) ≡ true)) (sym (same_number_of n q.0 s))
+        (band_here q.0 q.1 m)
     | false ↦ λ _. inl refl
   ] refl
 
   band_told : (q : BandKey) → cond (same_number n q.0) (band_row h q) None ≡ at_band q
   band_told q = elim (same_number n q.0) as (λ b. same_number n q.0 ≡ b → cond b (band_row h q) None ≡ cond b (band_at q m) None) [
-    | true ↦ λ s. ap (λ k. option_and_then (band_at q) (matrix_numbered h k)) (sym (same_number_of n q.0 s)) ∙ ap (option_and_then (band_at q)) numbered
+    | true ↦ λ s. ap (λ k. option_and_then (band_at q) (matrix_numbered h k)) (sym (same_number_of n q.0 s))
+        ∙ ap (option_and_then (band_at q)) numbered
     | false ↦ λ _. refl
   ] refl
 
@@ -124,7 +145,10 @@ module _ (h : List Call) (n : ℕ) (m : Grid) (numbered : matrix_numbered h n �
   unfolding band_make
   limits_back =
       ap (map (λ (b : BandRow). b.limit_s)) (
-      left_rows band_cmp band_key band_total same_bands (λ k. same_number n k.0) (band_row h) (band_keys h) (bands_told h) at_band (band_places n m) band_kept (places_rise band_cmp (band_key_of n) (λ a b less. ap (λ o. is_lt (ordering_then o (nat_cmp a b))) (level n) ∙ lower a b less) 1 (length m.limits)) band_among band_told
+      left_rows band_cmp band_key band_total same_bands (λ k. same_number n k.0) (band_row h) (band_keys h)
+          (bands_told h) at_band (band_places n m) band_kept
+          (places_rise band_cmp (band_key_of n) (λ a b less. ap (λ o. is_lt (ordering_then o (nat_cmp a b))) (level n)
+          ∙ lower a b less) 1 (length m.limits)) band_among band_told
       ∙ filter_map-map at_band (band_key_of n) (range_with_len 1 (length m.limits))
       ∙ (λ i. filter_map (λ b. cond (is_same_number n i) (option_map (band_make b) (at_place m.limits b)) None) (range_with_len 1 (length m.limits)))
       ∙ listed band_make m.limits [] m.limits 1 refl refl)
@@ -148,7 +172,8 @@ module _ (h : List Call) (n : ℕ) (m : Grid) (numbered : matrix_numbered h n �
 
     cell_kept : (q : CellKey) (r : CellRow) → at_cell q ≡ Some r → cell_key r ≡ q
     cell_kept q r e = elim (is_cell q) as (λ b. cond b (cell_made q) None ≡ Some r → cell_key r ≡ q) [
-      | true ↦ mapped_key cell_key (λ c. record { matrix_no = q.0; severity = q.1; band_no = q.2; cell_no = c }) q (at_place row_there q.2) r (λ x. refl)
+      | true ↦ mapped_key cell_key (λ c. record { matrix_no = q.0; severity = q.1; band_no = q.2;
+          cell_no = c }) q (at_place row_there q.2) r (λ x. refl)
       | false ↦ λ no. cc
     ] e
 
@@ -158,12 +183,15 @@ module _ (h : List Call) (n : ℕ) (m : Grid) (numbered : matrix_numbered h n �
     abbrev cell_range : List CellKey
     cell_range = map (cell_key_of n s) (range_with_len 1 (length row_there))
 
-    among_of : (q : CellKey) → n ≡ q.0 → s ≡ q.1 → (at_place row_there q.2 ≡ None) ⊎ (list_any (eq_by_cmp cell_cmp (cell_key_of n s q.2)) cell_range ≡ true) → (cell_made q ≡ None) ⊎ (list_any (eq_by_cmp cell_cmp q) cell_range ≡ true)
+    among_of : (q : CellKey) → n ≡ q.0 → s ≡ q.1
+        → (at_place row_there q.2 ≡ None) ⊎ (list_any (eq_by_cmp cell_cmp (cell_key_of n s q.2)) cell_range ≡ true)
+        → (cell_made q ≡ None) ⊎ (list_any (eq_by_cmp cell_cmp q) cell_range ≡ true)
     among_of q a b (inl none) = inl (ap (option_map (λ c. record { matrix_no = q.0; severity = q.1; band_no = q.2; cell_no = c })) none)
     among_of q a b (inr there) = inr ((λ i. list_any (eq_by_cmp cell_cmp (sym a i, sym b i, q.2)) cell_range) ∙ there)
 
     cell_among : (q : CellKey) → (at_cell q ≡ None) ⊎ (list_any (eq_by_cmp cell_cmp q) cell_range ≡ true)
-    cell_among q = elim (is_cell q) as (λ b. is_cell q ≡ b → (cond b (cell_made q) None ≡ None) ⊎ (list_any (eq_by_cmp cell_cmp q) cell_range ≡ true)) [
+    cell_among q =
+        elim (is_cell q) as (λ b. is_cell q ≡ b → (cond b (cell_made q) None ≡ None) ⊎ (list_any (eq_by_cmp cell_cmp q) cell_range ≡ true)) [
       | true ↦ λ t. among_of q (cell_keyed q t).0 (cell_keyed q t).1 (row_here n s q.2 row_there)
       | false ↦ λ _. inl refl
     ] refl
@@ -178,7 +206,8 @@ module _ (h : List Call) (n : ℕ) (m : Grid) (numbered : matrix_numbered h n �
       | true ↦ λ t.
           let keys = cell_keyed q t in
           ap (λ k. option_and_then (cell_of q) (matrix_numbered h k)) (sym keys.0) ∙ ap (option_and_then (cell_of q)) numbered
-          ∙ ap (option_map (λ c. record { matrix_no = q.0; severity = q.1; band_no = q.2; cell_no = c })) (row_of_place (at_place m.cells q.1) q.2 ∙ ap (λ k. at_place (unwrap_or (at_place m.cells k) []) q.2) (sym keys.1))
+          ∙ ap (option_map (λ c. record { matrix_no = q.0; severity = q.1; band_no = q.2; cell_no = c }))
+          (row_of_place (at_place m.cells q.1) q.2 ∙ ap (λ k. at_place (unwrap_or (at_place m.cells k) []) q.2) (sym keys.1))
       | false ↦ λ _. refl
     ] refl
 
@@ -189,7 +218,10 @@ module _ (h : List Call) (n : ℕ) (m : Grid) (numbered : matrix_numbered h n �
     unfolding cell_make
     cells_back =
         ap (map (λ (c : CellRow). c.cell_no)) (
-        left_rows cell_cmp cell_key cell_total same_cells is_cell (cell_row h) (cell_keys h) (cells_told h) at_cell (map (cell_key_of n s) (range_with_len 1 (length row_there))) cell_kept (places_rise cell_cmp (cell_key_of n s) (λ a b less. (λ i. is_lt (ordering_then (level n i) (ordering_then (level s i) (nat_cmp a b)))) ∙ lower a b less) 1 (length row_there)) cell_among cell_told
+        left_rows cell_cmp cell_key cell_total same_cells is_cell (cell_row h) (cell_keys h)
+            (cells_told h) at_cell (map (cell_key_of n s) (range_with_len 1 (length row_there))) cell_kept
+            (places_rise cell_cmp (cell_key_of n s) (λ a b less. (λ i. is_lt (ordering_then (level n i) (ordering_then (level s i) (nat_cmp a b))))
+            ∙ lower a b less) 1 (length row_there)) cell_among cell_told
         ∙ filter_map-map at_cell (cell_key_of n s) (range_with_len 1 (length row_there))
         ∙ (λ i. filter_map (λ b. cond (both_same i) (option_map (cell_make b) (at_place row_there b)) None) (range_with_len 1 (length row_there)))
         ∙ listed cell_make row_there [] row_there 1 refl refl)
@@ -206,7 +238,8 @@ all_full width (row ∷ rows) e =
     let parts = and_parts (length row == width + 1) (list_all (λ row. length row == width + 1) rows) e in
     λ i. cond (full width row parts.0 i) (row ∷ all_full width rows parts.1 i) (filter has_cells rows)
 
-five_rows : (rows : List (List Cell)) → length rows ≤ 5 → filter has_cells rows ≡ rows → filter has_cells (map (λ s. unwrap_or (at_place rows s) []) (range_with_len 1 5)) ≡ rows
+five_rows : (rows : List (List Cell)) → length rows ≤ 5 → filter has_cells rows ≡ rows
+    → filter has_cells (map (λ s. unwrap_or (at_place rows s) []) (range_with_len 1 5)) ≡ rows
 five_rows (a ∷ b ∷ c ∷ d ∷ e ∷ f ∷ rest) few all = absurd (omega (arith, few))
 five_rows rows few all = all
 
@@ -218,13 +251,16 @@ read_back h n m numbered shape =
     let all = all_full (length m.limits) m.cells (and_parts _ _ most).1 in
     λ i. record {
       limits = limits_back h n m numbered i;
-      cells = ((λ j. filter has_cells (cells_back h n m numbered 1 j ∷ cells_back h n m numbered 2 j ∷ cells_back h n m numbered 3 j ∷ cells_back h n m numbered 4 j ∷ cells_back h n m numbered 5 j ∷ [])) ∙ five_rows m.cells few all) i;
+      cells = ((λ j. filter has_cells (cells_back h n m numbered 1 j ∷ cells_back h n m numbered 2 j ∷ cells_back h n m numbered 3 j
+          ∷ cells_back h n m numbered 4 j ∷ cells_back h n m numbered 5 j ∷ [])) ∙ five_rows m.cells few all) i;
     }
 
 -- The matrix of a proposed change is that of its number
-positive_step : (h : List Call) (n : ℕ) (d : Draft) (p : Name) (t : ℕ) (q : Request) → (draft h n ≡ Some d → 1 ≤ n) → or_else (said_of_draft n p t h q) (draft h n) ≡ Some d → 1 ≤ n
+positive_step : (h : List Call) (n : ℕ) (d : Draft) (p : Name) (t : ℕ) (q : Request) → (draft h n ≡ Some d → 1 ≤ n)
+    → or_else (said_of_draft n p t h q) (draft h n) ≡ Some d → 1 ≤ n
 positive_step h n d p t (Propose u x) before e =
-    elim (same_number n (proposals h + 1)) as (λ b. same_number n (proposals h + 1) ≡ b → or_else (when b (record { proposer = p; proposed = t; kind = x.kind; base = x.base })) (draft h n) ≡ Some d → 1 ≤ n) [
+    elim (same_number n (proposals h + 1)) as (λ b. same_number n (proposals h + 1) ≡ b
+        → or_else (when b (record { proposer = p; proposed = t; kind = x.kind; base = x.base })) (draft h n) ≡ Some d → 1 ≤ n) [
       | true ↦ λ s _. let is : n ≡ proposals h + 1 = same_number_of n (proposals h + 1) s in omega (arith, is)
       | false ↦ λ _ rest. before rest
     ] refl e
@@ -235,20 +271,32 @@ draft_positive [] n d e = cc
 draft_positive (c ∷ h) n d e = positive_step h n d c.person c.moment c.request (draft_positive h n d) e
 
 drafted_kind : (h : List Call) (n : ℕ) (k : ChangeKind) → kind_of_change h n ≡ Some k → 1 ≤ n
-drafted_kind h n k e = elim (draft h n) as (λ o. draft h n ≡ o → option_map (λ (d : Draft). d.kind) o ≡ Some k → 1 ≤ n) [ None ↦ λ _ no. cc | Some d ↦ λ is _. draft_positive h n d is ] refl e
+drafted_kind h n k e =
+    elim (draft h n) as (λ o. draft h n ≡ o → option_map (λ (d : Draft). d.kind) o ≡ Some k
+    → 1 ≤ n) [ None ↦ λ _ no. cc | Some d ↦ λ is _. draft_positive h n d is ] refl e
 
-other_matrix : (n k : ℕ) (kind : ChangeKind) (rest : Option Grid) → same_number n k ≡ false → or_else (when_number n (matrix_in k (Some kind))) rest ≡ rest
+other_matrix : (n k : ℕ) (kind : ChangeKind) (rest : Option Grid) → same_number n k ≡ false
+    → or_else (when_number n (matrix_in k (Some kind))) rest ≡ rest
 other_matrix n k (Matrix m) rest other = ap (λ b. or_else (when b m) rest) other
 other_matrix n k _ rest other = refl
 
-own_matrix : (n k : ℕ) (kind : ChangeKind) (m : Grid) (rest : Option Grid) → same_number n k ≡ true → Some kind ≡ Some (Matrix m) → or_else (when_number n (matrix_in k (Some kind))) rest ≡ Some m
+own_matrix : (n k : ℕ) (kind : ChangeKind) (m : Grid) (rest : Option Grid) → same_number n k ≡ true → Some kind ≡ Some (Matrix m)
+    → or_else (when_number n (matrix_in k (Some kind))) rest ≡ Some m
 own_matrix n k (Matrix x) m rest own e = ap (λ b. or_else (when b x) rest) own ∙ (let same : x ≡ m = cc in ap (λ y. Some y) same)
 own_matrix n k _ m rest own e = cc
 
-numbered_step : (h : List Call) (n : ℕ) (m : Grid) (p : Name) (t : ℕ) (q : Request) → 1 ≤ n → (kind_of_change h n ≡ Some (Matrix m) → matrix_numbered h n ≡ Some m) → option_map (λ (d : Draft). d.kind) (or_else (said_of_draft n p t h q) (draft h n)) ≡ Some (Matrix m) → or_else (when_number n (numbered_matrix h q)) (matrix_numbered h n) ≡ Some m
-numbered_step h n m p t (OpenUnit u s x k) above before e = ap (λ b. or_else (when b x) (matrix_numbered h n)) (false_from_ne_true (same_number n 0) (λ z. let is : n ≡ 0 = same_number_of n 0 z in omega (arith, above, is))) ∙ before e
+numbered_step : (h : List Call) (n : ℕ) (m : Grid) (p : Name) (t : ℕ) (q : Request) → 1 ≤ n
+    → (kind_of_change h n ≡ Some (Matrix m) → matrix_numbered h n ≡ Some m)
+    → option_map (λ (d : Draft). d.kind) (or_else (said_of_draft n p t h q) (draft h n)) ≡ Some (Matrix m)
+    → or_else (when_number n (numbered_matrix h q)) (matrix_numbered h n) ≡ Some m
+numbered_step h n m p t (OpenUnit u s x k) above before e =
+    ap (λ b. or_else (when b x) (matrix_numbered h n))
+    (false_from_ne_true (same_number n 0) (λ z. let is : n ≡ 0 = same_number_of n 0 z in omega (arith, above, is))) ∙ before e
 numbered_step h n m p t (Propose u x) above before e =
-    elim (same_number n (proposals h + 1)) as (λ b. same_number n (proposals h + 1) ≡ b → option_map (λ (d : Draft). d.kind) (or_else (when b (record { proposer = p; proposed = t; kind = x.kind; base = x.base })) (draft h n)) ≡ Some (Matrix m) → or_else (when_number n (matrix_in (proposals h + 1) (Some x.kind))) (matrix_numbered h n) ≡ Some m) [
+    elim (same_number n (proposals h + 1)) as (λ b. same_number n (proposals h + 1) ≡ b
+        → option_map (λ (d : Draft). d.kind)
+        (or_else (when b (record { proposer = p; proposed = t; kind = x.kind; base = x.base })) (draft h n)) ≡ Some (Matrix m)
+        → or_else (when_number n (matrix_in (proposals h + 1) (Some x.kind))) (matrix_numbered h n) ≡ Some m) [
       | true ↦ λ s here. own_matrix n (proposals h + 1) x.kind m (matrix_numbered h n) s here
       | false ↦ λ s rest. other_matrix n (proposals h + 1) x.kind (matrix_numbered h n) s ∙ before rest
     ] refl e
@@ -259,7 +307,8 @@ proposed_matrix [] n m e = cc
 proposed_matrix (c ∷ h) n m e = numbered_step h n m c.person c.moment c.request (drafted_kind (c ∷ h) n (Matrix m) e) (proposed_matrix h n m) e
 
 -- each matrix of a legal history is one
-shape_here : (h : List Call) (n : ℕ) (q : Request) (m : Grid) → has_matrix q ≡ true → when_number n (numbered_matrix h q) ≡ Some m → is_matrix m.limits m.cells ≡ true
+shape_here : (h : List Call) (n : ℕ) (q : Request) (m : Grid) → has_matrix q ≡ true → when_number n (numbered_matrix h q) ≡ Some m
+    → is_matrix m.limits m.cells ≡ true
 shape_here h n (OpenUnit u s x k) m has e = ap (λ (y : Grid). is_matrix y.limits y.cells) (sym (when_Some (same_number n 0) x m e)) ∙ has
 shape_here h n (Propose u x) m has e = by x.kind has e where
   by : (k : ChangeKind) → is_matrix_kind k ≡ true → when_number n (matrix_in (proposals h + 1) (Some k)) ≡ Some m → is_matrix m.limits m.cells ≡ true
@@ -270,27 +319,34 @@ shape_here h n _ m has e = cc
 
 pub shaped : (h : List Call) → IsLegal h → (n : ℕ) (m : Grid) → matrix_numbered h n ≡ Some m → is_matrix m.limits m.cells ≡ true
 shaped h legal n =
-    latest_legal (λ c before. when_number n (numbered_matrix before c.request)) (λ h m. is_matrix m.limits m.cells ≡ true) (λ p t u s x k shape m e. shape_here [] n (OpenUnit u s x k) m shape e)
+    latest_legal (λ c before. when_number n (numbered_matrix before c.request)) (λ h m. is_matrix m.limits m.cells ≡ true)
+        (λ p t u s x k shape m e. shape_here [] n (OpenUnit u s x k) m shape e)
     (λ h c f m e. shape_here h n c.request m f.matrix e) (λ h c f m e. e) h legal
 
 -- the matrix in force has its number
 abbrev matrix_said : List Call → Option (ℕ × Grid)
 matrix_said h = latest (λ c before. said_of_matrix before c.request) h
 
-matrix_stays : (h : List Call) (q : Request) (k : ℕ) (m : Grid) → is_opening q ≡ false → matrix_numbered h k ≡ Some m → or_else (when_number k (numbered_matrix h q)) (matrix_numbered h k) ≡ Some m
+matrix_stays : (h : List Call) (q : Request) (k : ℕ) (m : Grid) → is_opening q ≡ false → matrix_numbered h k ≡ Some m
+    → or_else (when_number k (numbered_matrix h q)) (matrix_numbered h k) ≡ Some m
 matrix_stays h (OpenUnit u s x n) k m plain e = cc
 matrix_stays h (Propose u x) k m plain e =
-    other_matrix k (proposals h + 1) x.kind (matrix_numbered h k) (false_from_ne_true (same_number k (proposals h + 1)) (λ z. let is : k ≡ proposals h + 1 = same_number_of k (proposals h + 1) z in let less : k ≤ proposals h = number_bound h k m e in omega (arith, is, less))) ∙ e
+    other_matrix k (proposals h + 1) x.kind (matrix_numbered h k)
+        (false_from_ne_true (same_number k (proposals h + 1)) (λ z. let is : k ≡ proposals h + 1 = same_number_of k (proposals h + 1) z in
+        let less : k ≤ proposals h = number_bound h k m e in omega (arith, is, less))) ∙ e
 matrix_stays h _ k m plain e = e
 
 matrix_approved : (n : ℕ) (k : Option ChangeKind) (x : ℕ × Grid) → matrix_in n k ≡ Some x → (n ≡ x.0) × (k ≡ Some (Matrix x.1))
-matrix_approved n (Some (Matrix m)) x e = let same : (n, m) ≡ x = cc in (ap (λ (y : ℕ × Grid). y.0) same, ap (λ (y : ℕ × Grid). Some (Matrix y.1)) same)
+matrix_approved n (Some (Matrix m)) x e = let same : (n, m) ≡ x = cc in
+    (ap (λ (y : ℕ × Grid). y.0) same, ap (λ (y : ℕ × Grid). Some (Matrix y.1)) same)
 matrix_approved n _ x e = cc
 
-said_numbered : (h : List Call) (q : Request) (x : ℕ × Grid) → said_of_matrix h q ≡ Some x → or_else (when_number x.0 (numbered_matrix h q)) (matrix_numbered h x.0) ≡ Some x.1
+said_numbered : (h : List Call) (q : Request) (x : ℕ × Grid) → said_of_matrix h q ≡ Some x
+    → or_else (when_number x.0 (numbered_matrix h q)) (matrix_numbered h x.0) ≡ Some x.1
 said_numbered h (OpenUnit u s m k) x e =
     let same : (0, m) ≡ x = cc in
-    subst (λ (y : ℕ × Grid). or_else (when (same_number y.0 0) m) (matrix_numbered h y.0) ≡ Some y.1) same (ap (λ b. or_else (when b m) (matrix_numbered h 0)) (is_same_number 0))
+    subst (λ (y : ℕ × Grid). or_else (when (same_number y.0 0) m) (matrix_numbered h y.0)
+        ≡ Some y.1) same (ap (λ b. or_else (when b m) (matrix_numbered h 0)) (is_same_number 0))
 said_numbered h (Approve u n) x e =
     let known = matrix_approved n (kind_of_change h n) x e in
     proposed_matrix h x.0 x.1 (ap (kind_of_change h) (sym known.0) ∙ known.1)
@@ -298,7 +354,8 @@ said_numbered h _ x e = cc
 
 matrix_in_force : (h : List Call) → IsLegal h → (x : ℕ × Grid) → matrix_said h ≡ Some x → matrix_numbered h x.0 ≡ Some x.1
 matrix_in_force =
-    latest_legal (λ c before. said_of_matrix before c.request) (λ h x. matrix_numbered h x.0 ≡ Some x.1) (λ p t u s m k shape x e. said_numbered [] (OpenUnit u s m k) x e)
+    latest_legal (λ c before. said_of_matrix before c.request) (λ h x. matrix_numbered h x.0 ≡ Some x.1)
+        (λ p t u s m k shape x e. said_numbered [] (OpenUnit u s m k) x e)
     (λ h c f x e. said_numbered h c.request x e) (λ h c f x e. matrix_stays h c.request x.0 x.1 (not-true _ f.plain) e)
 
 -- there is one
@@ -307,17 +364,21 @@ else_some None p e = e
 else_some (Some x) p e = refl
 
 matrix_there : (h : List Call) → IsLegal h → is_some (matrix_said h) ≡ true
-matrix_there = by_legal (λ h. is_some (matrix_said h) ≡ true) (λ p t u s m k shape. refl) (λ h c f. else_some (said_of_matrix h c.request) (matrix_said h))
+matrix_there =
+    by_legal (λ h. is_some (matrix_said h) ≡ true) (λ p t u s m k shape. refl) (λ h c f. else_some (said_of_matrix h c.request) (matrix_said h))
 
 pub in_force_numbered : (h : List Call) → IsLegal h → matrix_numbered h (matrix h).0 ≡ Some (matrix h).1
 in_force_numbered h legal =
-    elim (matrix_said h) as (λ o. matrix_said h ≡ o → is_some o ≡ true → matrix_numbered h (unwrap_or o no_matrix).0 ≡ Some (unwrap_or o no_matrix).1) [ None ↦ λ _ there. cc | Some x ↦ λ is _. matrix_in_force h legal x is ] refl (matrix_there h legal)
+    elim (matrix_said h) as (λ o. matrix_said h ≡ o → is_some o ≡ true
+        → matrix_numbered h (unwrap_or o no_matrix).0
+        ≡ Some (unwrap_or o no_matrix).1) [ None ↦ λ _ there. cc | Some x ↦ λ is _. matrix_in_force h legal x is ] refl (matrix_there h legal)
 
 pub readable : (h : List Call) → IsLegal h → AreReadable h
 readable h legal =
     record {
       proposed = λ n m is. let numbered = proposed_matrix h n m is in read_back h n m numbered (shaped h legal n m numbered);
-      in_force = let numbered = in_force_numbered h legal in read_back h (matrix h).0 (matrix h).1 numbered (shaped h legal (matrix h).0 (matrix h).1 numbered);
+      in_force = let numbered = in_force_numbered h legal in
+          read_back h (matrix h).0 (matrix h).1 numbered (shaped h legal (matrix h).0 (matrix h).1 numbered);
     }
 
 -- There are as many rows of changes as proposals
@@ -331,15 +392,18 @@ numbers_told h =
       order = told.order;
       same = told.same;
       at_key = λ n r e. mapped_key (λ k. k) (λ (d : Draft). n) n (draft h n) r (λ x. refl) e;
-      among = λ n. elim (told.among n) [ inl none ↦ inl (elim (draft h n) as (λ o. option_map (change_with h n) o ≡ None → option_map (λ d. n) o ≡ None) [ None ↦ λ _. refl | Some d ↦ λ e. cc ] none) | inr there ↦ inr there ];
+      among = λ n. elim (told.among n) [ inl none ↦ inl (elim (draft h n) as (λ o. option_map (change_with h n) o ≡ None
+          → option_map (λ d. n) o ≡ None) [ None ↦ λ _. refl | Some d ↦ λ e. cc ] none) | inr there ↦ inr there ];
     }
 
 abbrev numbers_kept : List Call → List ℕ
 numbers_kept h = filter_map (numbered_draft h) (in_order nat_cmp (numbers_of_changes h))
 
-number_anew : (n k : ℕ) (d : Draft) (rest : Option Draft) → option_map (λ d. k) (or_else (when (same_number k n) d) rest) ≡ cond (same_number k n) (Some n) (option_map (λ d. k) rest)
+number_anew : (n k : ℕ) (d : Draft) (rest : Option Draft)
+    → option_map (λ d. k) (or_else (when (same_number k n) d) rest) ≡ cond (same_number k n) (Some n) (option_map (λ d. k) rest)
 number_anew n k d rest =
-    elim (same_number k n) as (λ s. same_number k n ≡ s → option_map (λ d. k) (or_else (when s d) rest) ≡ cond s (Some n) (option_map (λ d. k) rest)) [
+    elim (same_number k n) as (λ s. same_number k n ≡ s
+        → option_map (λ d. k) (or_else (when s d) rest) ≡ cond s (Some n) (option_map (λ d. k) rest)) [
       | true ↦ λ e. ap (λ y. Some y) (same_number_of k n e)
       | false ↦ λ e. refl
     ] refl
@@ -356,14 +420,19 @@ next_put s (suc k) =
     ∙ ap (λ n. s ∷ put_row nat_cmp (λ n. n) n rest) moved
     ∙ ap (λ ns. s ∷ ns) (next_put (s + 1) k)
 
-kept_step : (h : List Call) (p : Name) (t : ℕ) (q : Request) → numbers_kept h ≡ range_with_len 1 (proposals h) → numbers_kept (record { person = p; moment = t; request = q } ∷ h) ≡ range_with_len 1 (proposals (record { person = p; moment = t; request = q } ∷ h))
+kept_step : (h : List Call) (p : Name) (t : ℕ) (q : Request) → numbers_kept h ≡ range_with_len 1 (proposals h)
+    → numbers_kept (record { person = p; moment = t; request = q } ∷ h)
+    ≡ range_with_len 1 (proposals (record { person = p; moment = t; request = q } ∷ h))
 kept_step h p t (Propose u x) before =
     let c : List Call = record { person = p; moment = t; request = Propose u x } ∷ h in
     let n : ℕ = proposals h + 1 in
-    let put : put_row nat_cmp (λ k. k) n (numbers_kept h) ≡ numbers_kept c = put-rows (numbered_draft h) (numbered_draft c) (numbers_of_changes h) (numbers_of_changes c) n (numbers_told h) (numbers_told c) (λ k. number_anew n k (record { proposer = p; proposed = t; kind = x.kind; base = x.base }) (draft h k)) in
+    let put : put_row nat_cmp (λ k. k) n (numbers_kept h) ≡ numbers_kept c =
+        put-rows (numbered_draft h) (numbered_draft c) (numbers_of_changes h) (numbers_of_changes c) n (numbers_told h) (numbers_told c)
+        (λ k. number_anew n k (record { proposer = p; proposed = t; kind = x.kind; base = x.base }) (draft h k)) in
     let one : n ≡ 1 + proposals h = omega arith in
     let next : suc (proposals h) ≡ n = omega arith in
-    sym put ∙ ap (put_row nat_cmp (λ k. k) n) before ∙ ap (λ m. put_row nat_cmp (λ k. k) m (range_with_len 1 (proposals h))) one ∙ next_put 1 (proposals h) ∙ ap (range_with_len 1) next
+    sym put ∙ ap (put_row nat_cmp (λ k. k) n) before ∙ ap (λ m. put_row nat_cmp (λ k. k) m (range_with_len 1 (proposals h))) one
+        ∙ next_put 1 (proposals h) ∙ ap (range_with_len 1) next
 kept_step h p t _ before = before
 
 -- the numbers of the changes are those from 1 to the number of proposals
@@ -374,20 +443,25 @@ kept_all (c ∷ h) = kept_step h c.person c.moment c.request (kept_all h)
 numbers_shown : (h : List Call) (ks : List ℕ) → map change_number (map change_entry (filter_map (change h) ks)) ≡ filter_map (numbered_draft h) ks
 numbers_shown h [] = refl
 numbers_shown h (k ∷ ks) =
-    elim (draft h k) as (λ o. map change_number (map change_entry (cons_option (option_map (change_with h k) o) (filter_map (change h) ks))) ≡ cons_option (option_map (λ d. k) o) (filter_map (numbered_draft h) ks)) [
+    elim (draft h k) as (λ o. map change_number (map change_entry (cons_option (option_map (change_with h k) o) (filter_map (change h) ks)))
+        ≡ cons_option (option_map (λ d. k) o) (filter_map (numbered_draft h) ks)) [
       | None ↦ numbers_shown h ks
       | Some d ↦ ap (λ ns. k ∷ ns) (numbers_shown h ks)
     ]
 
 last_of_numbers : (n : ℕ) → unwrap_or (slice_get (range_with_len 1 n) (n - 1)) 0 ≡ n
 last_of_numbers zero = refl
-last_of_numbers (suc k) = unwrap_or-slice_get (range_with_len 1 (suc k)) (suc k - 1) 0 ∙ get_or-range_with_len 1 (suc k) (suc k - 1) 0 (omega arith) ∙ (let e : 1 + (suc k - 1) ≡ suc k = omega arith in e)
+last_of_numbers (suc k) = unwrap_or-slice_get (range_with_len 1 (suc k)) (suc k - 1) 0 ∙ get_or-range_with_len 1 (suc k) (suc k - 1) 0 (omega arith)
+    ∙ (let e : 1 + (suc k - 1) ≡ suc k = omega arith in e)
 
 pub change_count : (h : List Call) → last_number (change_rows h) ≡ proposals h
 change_count h =
-    let numbers : map change_number (change_rows h) ≡ range_with_len 1 (proposals h) = numbers_shown h (in_order nat_cmp (numbers_of_changes h)) ∙ kept_all h in
-    let many : length (change_rows h) ≡ proposals h = sym (length-map (change_rows h) change_number) ∙ ap length numbers ∙ length-range_with_len 1 (proposals h) in
-    ap (λ o. unwrap_or o 0) (sym (slice_get-map change_number (change_rows h) (length (change_rows h) - 1)) ∙ (λ i. slice_get (numbers i) (many i - 1)))
+    let numbers : map change_number (change_rows h) ≡ range_with_len 1 (proposals h) = numbers_shown h (in_order nat_cmp (numbers_of_changes h))
+        ∙ kept_all h in
+    let many : length (change_rows h) ≡ proposals h = sym (length-map (change_rows h) change_number) ∙ ap length numbers
+        ∙ length-range_with_len 1 (proposals h) in
+    ap (λ o. unwrap_or o 0)
+        (sym (slice_get-map change_number (change_rows h) (length (change_rows h) - 1)) ∙ (λ i. slice_get (numbers i) (many i - 1)))
     ∙ last_of_numbers (proposals h)
 
 -- the rows of a legal history give its facts

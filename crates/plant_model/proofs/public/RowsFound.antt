@@ -34,7 +34,8 @@ module _ {K : Type 0} {R : K → K → Ordering} (total : IsTotalOrder R) where
 
 -- the row at a place, and none past the end
 pub get_some : {X : Type 0} (xs : List X) (p : ℕ) (x : X) → true ≡ nat_lt p (length xs) → x ≡ get_or xs p x → Some x ≡ slice_get xs p
-get_some {X} xs p x within is = ap (λ (y : X). let o : Option X = Some y in o) is ∙ sym (slice_get-get_or xs p x (ltb-true p (length xs) (sym within)))
+get_some {X} xs p x within is = ap (λ (y : X). let o : Option X = Some y in o) is
+    ∙ sym (slice_get-get_or xs p x (ltb-true p (length xs) (sym within)))
 
 pub get_none : {X : Type 0} (xs : List X) (p : ℕ) → false ≡ nat_lt p (length xs) → None ≡ slice_get xs p
 get_none xs p past = sym (slice_get_past xs p (ltb-false p (length xs) (sym past)))
@@ -85,10 +86,12 @@ module _ {K X : Type 0} (R : K → K → Ordering) (key : X → K) where
     pub parted : (rows : List X) (t : K) → IsInOrder R key rows → IsPartitionedBy (λ r. is_lt (R (key r) t)) rows
     parted rows t order = by rows (ordered rows order)
       where
-        by : (xs : List X) → Ordered xs → (i j : ℕ) (d : X) → i ≤ j → j < length xs → is_lt (R (key (get_or xs j d)) t) ≡ true → is_lt (R (key (get_or xs i d)) t) ≡ true
+        by : (xs : List X) → Ordered xs → (i j : ℕ) (d : X) → i ≤ j → j < length xs → is_lt (R (key (get_or xs j d)) t) ≡ true
+            → is_lt (R (key (get_or xs i d)) t) ≡ true
         by [] h i j d le lt e = absurd (omega arith)
         by (x ∷ xs) h zero zero d le lt e = e
-        by (x ∷ xs) h zero (suc j) d le lt e = ap is_lt (total.trans (key x) (key (get_or xs j d)) t (after_at (key x) xs h.0 j d (omega arith)) (lesser (R (key (get_or xs j d)) t) e))
+        by (x ∷ xs) h zero (suc j) d le lt e =
+            ap is_lt (total.trans (key x) (key (get_or xs j d)) t (after_at (key x) xs h.0 j d (omega arith)) (lesser (R (key (get_or xs j d)) t) e))
         by (x ∷ xs) h (suc i) zero d le lt e = absurd (omega arith)
         by (x ∷ xs) h (suc i) (suc j) d le lt e = by xs h.1 i j d (omega arith) (omega arith) e
 
@@ -97,7 +100,8 @@ module _ {K X : Type 0} (R : K → K → Ordering) (key : X → K) where
     row_found (x ∷ rows) t zero order h = by (R t (key x)) refl where
       by : (o : Ordering) → R t (key x) ≡ o → when (eq_by_cmp R (key x) t) x ≡ row_at R key t (x ∷ rows)
       by Less e = ap (λ v. when (is_eq v) x) (turned total t (key x) e) ∙ sym (none_after t (x ∷ rows) (e, after_more t (key x) rows e order.0))
-      by Equal e = ap (λ v. when (is_eq v) x) (total.antisymm (key x) t ∙ ap ordering_reverse e) ∙ sym (ap (λ v. cond (is_eq v) (Some x) (row_at R key t rows)) e)
+      by Equal e = ap (λ v. when (is_eq v) x) (total.antisymm (key x) t ∙ ap ordering_reverse e)
+          ∙ sym (ap (λ v. cond (is_eq v) (Some x) (row_at R key t rows)) e)
       by Greater e = absurd (true≢false (ap is_lt (sym (back total t (key x) e)) ∙ h.1 0 x (omega arith) (omega arith)))
     row_found (x ∷ rows) t (suc p) order h =
         let low : R (key x) t ≡ Less = lesser (R (key x) t) (h.0 0 x (omega arith) (omega arith)) in
@@ -107,14 +111,17 @@ module _ {K X : Type 0} (R : K → K → Ordering) (key : X → K) where
     pub none_found : (rows : List X) (t : K) (p : ℕ) → Ordered rows → Parts t rows p → slice_get rows p ≡ None → None ≡ row_at R key t rows
     none_found rows t p order h none = ap (at_place t) (sym none) ∙ row_found rows t p order h
 
-    pub one_found : (rows : List X) (t : K) (p : ℕ) → Ordered rows → Parts t rows p → (r : X) → slice_get rows p ≡ Some r → eq_by_cmp R (key r) t ≡ true → Some r ≡ row_at R key t rows
+    pub one_found : (rows : List X) (t : K) (p : ℕ) → Ordered rows → Parts t rows p → (r : X) → slice_get rows p ≡ Some r
+        → eq_by_cmp R (key r) t ≡ true → Some r ≡ row_at R key t rows
     one_found rows t p order h r there same = ap (λ b. when b r) (sym same) ∙ ap (at_place t) (sym there) ∙ row_found rows t p order h
 
-    pub other_found : (rows : List X) (t : K) (p : ℕ) → Ordered rows → Parts t rows p → (r : X) → slice_get rows p ≡ Some r → eq_by_cmp R (key r) t ≡ false → None ≡ row_at R key t rows
+    pub other_found : (rows : List X) (t : K) (p : ℕ) → Ordered rows → Parts t rows p → (r : X) → slice_get rows p ≡ Some r
+        → eq_by_cmp R (key r) t ≡ false → None ≡ row_at R key t rows
     other_found rows t p order h r there same = ap (λ b. when b r) (sym same) ∙ ap (at_place t) (sym there) ∙ row_found rows t p order h
 
     -- the row of a key is the one that has it, wherever it stands
-    pub row_there : ((a b : K) → R a b ≡ Equal → a ≡ b) → (rows : List X) (t : K) (p : ℕ) → Ordered rows → (r : X) → slice_get rows p ≡ Some r → eq_by_cmp R (key r) t ≡ true → Some r ≡ row_at R key t rows
+    pub row_there : ((a b : K) → R a b ≡ Equal → a ≡ b) → (rows : List X) (t : K) (p : ℕ) → Ordered rows → (r : X) → slice_get rows p ≡ Some r
+        → eq_by_cmp R (key r) t ≡ true → Some r ≡ row_at R key t rows
     row_there only [] t p order r there same = cc
     row_there only (x ∷ rows) t zero order r there same =
         let is : R (key x) t ≡ Equal = ap (λ o. R (key (unwrap_or o x)) t) there ∙ tied (R (key r) t) true same refl in
@@ -135,6 +142,8 @@ untied_numbers m n differs = false_from_ne_true (same_number m n) (λ t. differs
 pub lower : (m n : ℕ) → m < n → is_lt (nat_cmp m n) ≡ true
 lower m n less = sym (ap is_lt (nat_cmp_is m n Less less))
 
-pub number_parts : {X : Type 0} (key : X → ℕ) (n : ℕ) (rows : List X) (p : ℕ) → IsPartitionPoint (λ r. key r < n) (λ r. n ≤ key r) rows p → Parts nat_cmp key n rows p
+pub number_parts : {X : Type 0} (key : X → ℕ) (n : ℕ) (rows : List X) (p : ℕ) → IsPartitionPoint (λ r. key r < n) (λ r. n ≤ key r) rows p
+    → Parts nat_cmp key n rows p
 number_parts key n rows p h =
-    (λ k d low high. lower _ n (h.0 k d low high), λ k d low high. false_from_ne_true _ (λ t. let lt = ranked _ n Less (sym (lesser _ t)) in let le = h.1 k d low high in omega (arith, lt, le)))
+    (λ k d low high. lower _ n (h.0 k d low high), λ k d low high. false_from_ne_true _ (λ t. let lt = ranked _ n Less (sym (lesser _ t)) in
+    let le = h.1 k d low high in omega (arith, lt, le)))

@@ -29,7 +29,8 @@ registered h a there = sym (latched_of h a) ∙ some_of (alarm_row h a) there
 pub registered_stays : (c : Call) (h : List Call) (a : Name) → is_some (latching h a) ≡ true → is_some (latching (c ∷ h) a) ≡ true
 registered_stays c h a e = elim (said_of_latching a c.request) as (λ o. is_some (or_else o (latching h a)) ≡ true) [ None ↦ e | Some l ↦ refl ]
 
-removed_is_there : (h : List Call) (p : Name) (t : ℕ) (q : Request) (a : Name) (o : Outage) → IsEntry h (made p t q) → said_of_outage a p t q ≡ Some (Begins o) → is_some (latching h a) ≡ true
+removed_is_there : (h : List Call) (p : Name) (t : ℕ) (q : Request) (a : Name) (o : Outage) → IsEntry h (made p t q)
+    → said_of_outage a p t q ≡ Some (Begins o) → is_some (latching h a) ≡ true
 removed_is_there h p t (RemoveFromService u b w) a o entry e =
     ap (λ y. is_some (latching h y)) (when_same a b _ _ e) ∙ registered h b (unrefused h (made p t (RemoveFromService u b w)) entry).1.1.1.0
 removed_is_there h p t (PlaceInService u b) a o entry e = let no = when_Some (same_name a b) Over (Begins o) e in cc
@@ -38,9 +39,11 @@ removed_is_there h p t _ a o entry e = cc
 abbrev served : List Call → Name → Option (Said Outage)
 served h a = latest (λ c before. said_of_outage a c.person c.moment c.request) h
 
-removed_known : (h : List Call) → IsLegal h → (a : Name) (v : Said Outage) → served h a ≡ Some v → (o : Outage) → v ≡ Begins o → is_some (latching h a) ≡ true
+removed_known : (h : List Call) → IsLegal h → (a : Name) (v : Said Outage) → served h a ≡ Some v → (o : Outage) → v ≡ Begins o
+    → is_some (latching h a) ≡ true
 removed_known h legal a =
-    latest_legal (λ c before. said_of_outage a c.person c.moment c.request) (λ h v. (o : Outage) → v ≡ Begins o → is_some (latching h a) ≡ true) (λ p t u s m k shape v e o is. cc)
+    latest_legal (λ c before. said_of_outage a c.person c.moment c.request) (λ h v. (o : Outage) → v ≡ Begins o → is_some (latching h a) ≡ true)
+        (λ p t u s m k shape v e o is. cc)
     (λ h c f v said o is. registered_stays c h a (removed_is_there h c.person c.moment c.request a o f.entry (said ∙ ap (λ v. Some v) is)))
     (λ h c f v rest o is. registered_stays c h a (rest o is)) h legal
 
@@ -56,5 +59,6 @@ no_outage h legal a unregistered =
     ] refl
 
 -- a registration is of an alarm that was not there
-pub registered_anew : (h : List Call) (p : Name) (t : ℕ) (u a : Name) (l : Bool) (max : ℕ) → IsEntry h (made p t (Register u a l max)) → latching h a ≡ None
+pub registered_anew : (h : List Call) (p : Name) (t : ℕ) (u a : Name) (l : Bool) (max : ℕ) → IsEntry h (made p t (Register u a l max))
+    → latching h a ≡ None
 registered_anew h p t u a l max entry = none_of (latching h a) (sym (latched_of h a) ∙ (unrefused h (made p t (Register u a l max)) entry).1.1.1.1.0)

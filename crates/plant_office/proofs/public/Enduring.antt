@@ -18,7 +18,8 @@ confirmed_more : (cs : List Call) (xs : List Answer) (c : Call) (a : Answer) →
 confirmed_more [] [] c a long = refl
 confirmed_more (d ∷ cs) (y ∷ xs) c a long =
     let rest = confirmed_more cs xs c a (omega (arith, long)) in
-    elim (confirms d y) as (λ b. (if b then d ∷ confirmed (cs ++ c ∷ []) (xs ++ a ∷ []) else confirmed (cs ++ c ∷ []) (xs ++ a ∷ [])) ≡ (if b then d ∷ confirmed cs xs else confirmed cs xs) ++ (if confirms c a then c ∷ [] else []))
+    elim (confirms d y) as (λ b. (if b then d ∷ confirmed (cs ++ c ∷ []) (xs ++ a ∷ []) else confirmed (cs ++ c ∷ []) (xs ++ a ∷ []))
+        ≡ (if b then d ∷ confirmed cs xs else confirmed cs xs) ++ (if confirms c a then c ∷ [] else []))
     [ true ↦ ap (λ l. d ∷ l) rest | false ↦ rest ]
 confirmed_more [] (y ∷ xs) c a long = absurd (omega (arith, long))
 confirmed_more (d ∷ cs) [] c a long = absurd (omega (arith, long))
@@ -27,35 +28,44 @@ after_more : (w : World) (cs : List Call) (c : Call) → after_calls w (cs ++ c 
 after_more w [] c = refl
 after_more w (d ∷ cs) c = after_more (next w d) cs c
 
-plain : (cs : List Call) (xs : List Answer) (c : Call) (a : Answer) → length xs ≡ length cs → confirms c a ≡ false → confirmed (cs ++ c ∷ []) (xs ++ a ∷ []) ≡ confirmed cs xs
-plain cs xs c a long none = confirmed_more cs xs c a long ∙ ap (λ (b : Bool). confirmed cs xs ++ (if b then c ∷ [] else [])) none ∙ append-nil (confirmed cs xs)
+plain : (cs : List Call) (xs : List Answer) (c : Call) (a : Answer) → length xs ≡ length cs → confirms c a ≡ false
+    → confirmed (cs ++ c ∷ []) (xs ++ a ∷ []) ≡ confirmed cs xs
+plain cs xs c a long none = confirmed_more cs xs c a long ∙ ap (λ (b : Bool). confirmed cs xs ++ (if b then c ∷ [] else [])) none
+    ∙ append-nil (confirmed cs xs)
 
-with_it : (cs : List Call) (xs : List Answer) (c : Call) (a : Answer) → length xs ≡ length cs → confirms c a ≡ true → confirmed (cs ++ c ∷ []) (xs ++ a ∷ []) ≡ confirmed cs xs ++ c ∷ []
+with_it : (cs : List Call) (xs : List Answer) (c : Call) (a : Answer) → length xs ≡ length cs → confirms c a ≡ true
+    → confirmed (cs ++ c ∷ []) (xs ++ a ∷ []) ≡ confirmed cs xs ++ c ∷ []
 with_it cs xs c a long told = confirmed_more cs xs c a long ∙ ap (λ (b : Bool). confirmed cs xs ++ (if b then c ∷ [] else [])) told
 
-doubt_more : (d : Call) (cs : List Call) (xs : List Answer) (c : Call) (a : Answer) → length xs ≡ length cs → confirms c a ≡ false → IsInDoubt d cs xs → IsInDoubt d (cs ++ c ∷ []) (xs ++ a ∷ [])
+doubt_more : (d : Call) (cs : List Call) (xs : List Answer) (c : Call) (a : Answer) → length xs ≡ length cs → confirms c a ≡ false → IsInDoubt d cs xs
+    → IsInDoubt d (cs ++ c ∷ []) (xs ++ a ∷ [])
 doubt_more d [] xs c a long none doubt = absurd doubt
 doubt_more d (e ∷ cs) [] c a long none doubt = absurd doubt
 doubt_more d (e ∷ cs) (y ∷ xs) c a long none (inl (is, faulted, last)) = inl (is, faulted, plain cs xs c a (omega (arith, long)) none ∙ last)
 doubt_more d (e ∷ cs) (y ∷ xs) c a long none (inr later) = inr (doubt_more d cs xs c a (omega (arith, long)) none later)
 
-doubt_new : (cs : List Call) (xs : List Answer) (c : Call) (a : Answer) → length xs ≡ length cs → is_fault a ≡ true → IsInDoubt c (cs ++ c ∷ []) (xs ++ a ∷ [])
+doubt_new : (cs : List Call) (xs : List Answer) (c : Call) (a : Answer) → length xs ≡ length cs → is_fault a ≡ true
+    → IsInDoubt c (cs ++ c ∷ []) (xs ++ a ∷ [])
 doubt_new [] [] c a long faulted = inl (refl, faulted, refl)
 doubt_new (d ∷ cs) (y ∷ xs) c a long faulted = inr (doubt_new cs xs c a (omega (arith, long)) faulted)
 doubt_new [] (y ∷ xs) c a long faulted = absurd (omega (arith, long))
 doubt_new (d ∷ cs) [] c a long faulted = absurd (omega (arith, long))
 
-made_more : (cs : List Call) (xs : List Answer) (c : Call) (a : Answer) (made : List Call) → length xs ≡ length cs → confirms c a ≡ false → AreMade cs xs made → AreMade (cs ++ c ∷ []) (xs ++ a ∷ []) made
+made_more : (cs : List Call) (xs : List Answer) (c : Call) (a : Answer) (made : List Call) → length xs ≡ length cs → confirms c a ≡ false
+    → AreMade cs xs made → AreMade (cs ++ c ∷ []) (xs ++ a ∷ []) made
 made_more cs xs c a made long none (inl is) = inl (is ∙ sym (plain cs xs c a long none))
-made_more cs xs c a made long none (inr (d, doubt, is)) = inr (d, doubt_more d cs xs c a long none doubt, is ∙ ap (λ l. l ++ d ∷ []) (sym (plain cs xs c a long none)))
+made_more cs xs c a made long none (inr (d, doubt, is)) =
+    inr (d, doubt_more d cs xs c a long none doubt, is ∙ ap (λ l. l ++ d ∷ []) (sym (plain cs xs c a long none)))
 
 module _ (w : World) (calls : List Call) (answers : List Answer) (long : length answers ≡ length calls) (c : Call) (a : Answer) where
   -- a call that was not confirmed
   outcome_same : confirms c a ≡ false → (x : Content) → IsOutcome w calls answers x → IsOutcome w (calls ++ c ∷ []) (answers ++ a ∷ []) x
-  outcome_same none x o = record { made = o.made; are_made = made_more calls answers c a o.made long none o.are_made; holds = o.holds; legal = o.legal }
+  outcome_same none x o =
+      record { made = o.made; are_made = made_more calls answers c a o.made long none o.are_made; holds = o.holds; legal = o.legal }
 
   one_more : (x : Content) → AreMade (calls ++ c ∷ []) (answers ++ a ∷ []) (confirmed calls answers ++ c ∷ [])
-      → Holds x (next (after_calls w (confirmed calls answers)) c) → IsLegalWorld (next (after_calls w (confirmed calls answers)) c) → IsOutcome w (calls ++ c ∷ []) (answers ++ a ∷ []) x
+      → Holds x (next (after_calls w (confirmed calls answers)) c) → IsLegalWorld (next (after_calls w (confirmed calls answers)) c)
+      → IsOutcome w (calls ++ c ∷ []) (answers ++ a ∷ []) x
   one_more x are_made h legal = record {
     made = confirmed calls answers ++ c ∷ [];
     are_made = are_made;
@@ -64,7 +74,8 @@ module _ (w : World) (calls : List Call) (answers : List Answer) (long : length 
   }
 
 -- before any call, on books that a crash leaves as they are
-pub after_none : (w : World) (m : Content) (books : BooksState) → books.held m → Holds m w → IsLegalWorld w → books.sound → ((x : Content) → books.leaves x → Alike x m) → AreAfter w [] [] books
+pub after_none : (w : World) (m : Content) (books : BooksState) → books.held m → Holds m w → IsLegalWorld w → books.sound
+    → ((x : Content) → books.leaves x → Alike x m) → AreAfter w [] [] books
 after_none w m books held holds legal all same = record {
   long = refl;
   now = record { content = m; held = held; holds = holds; legal = legal };
@@ -72,19 +83,23 @@ after_none w m books held holds legal all same = record {
   outcomes = λ x l. record { made = []; are_made = inl refl; holds = holds_alike x m w (same x l) holds; legal = legal };
 }
 
-module _ (w : World) (calls : List Call) (answers : List Answer) (before after : BooksState) (c : Call) (so_far : AreAfter w calls answers before) where
+module _ (w : World) (calls : List Call) (answers : List Answer) (before after : BooksState) (c : Call)
+    (so_far : AreAfter w calls answers before) where
   abbrev old : World
   old = after_calls w (confirmed calls answers)
 
-  outcome_each : (a : Answer) → EnduresSettled c a before after → after.clean → (x : Content) → after.leaves x → IsOutcome w (calls ++ c ∷ []) (answers ++ a ∷ []) x
+  outcome_each : (a : Answer) → EnduresSettled c a before after → after.clean → (x : Content) → after.leaves x
+      → IsOutcome w (calls ++ c ∷ []) (answers ++ a ∷ []) x
   outcome_each (Faulted f) it tidy x l =
       elim (it.endures.each tidy old so_far.now x l) [
         | inl earlier ↦ outcome_same w calls answers so_far.long c (Faulted f) refl x (so_far.outcomes x earlier)
         | inr made ↦
             one_more w calls answers so_far.long c (Faulted f) x
-            (inr (c, doubt_new calls answers c (Faulted f) so_far.long refl, ap (λ l. l ++ c ∷ []) (sym (plain calls answers c (Faulted f) so_far.long refl)))) made.0 made.1
+            (inr (c, doubt_new calls answers c (Faulted f) so_far.long refl, ap (λ l. l ++ c
+            ∷ []) (sym (plain calls answers c (Faulted f) so_far.long refl)))) made.0 made.1
       ]
-  outcome_each (WasRefused r) it tidy x l = outcome_same w calls answers so_far.long c (WasRefused r) refl x (so_far.outcomes x (it.endures.quiet tidy tt x l))
+  outcome_each (WasRefused r) it tidy x l =
+      outcome_same w calls answers so_far.long c (WasRefused r) refl x (so_far.outcomes x (it.endures.quiet tidy tt x l))
   outcome_each (Replied r) it tidy x l = go (cases_Bool (is_read c.request))
     where
       go : (is_read c.request ≡ true) ⊎ (is_read c.request ≡ false) → IsOutcome w (calls ++ c ∷ []) (answers ++ Replied r ∷ []) x
@@ -96,12 +111,16 @@ module _ (w : World) (calls : List Call) (answers : List Answer) (before after :
           one_more w calls answers so_far.long c (Replied r) x (inl (sym (with_it calls answers c (Replied r) so_far.long told)))
           (holds_alike x now.content (next old c) (it.settled is_open now.content now.held x l) now.holds) now.legal
 
-  now_as : (a : Answer) → EnduresSettled c a before after → after.clean → (b : Bool) → confirms c a ≡ b → HoldsWorld (after_calls w (confirmed (calls ++ c ∷ []) (answers ++ a ∷ []))) after
+  now_as : (a : Answer) → EnduresSettled c a before after → after.clean → (b : Bool) → confirms c a ≡ b
+      → HoldsWorld (after_calls w (confirmed (calls ++ c ∷ []) (answers ++ a ∷ []))) after
   now_as a it tidy true told =
-      subst (λ v. HoldsWorld v after) (sym (ap (after_calls w) (with_it calls answers c a so_far.long told) ∙ after_more w (confirmed calls answers) c)) (it.endures.made (it.endures.kept tidy told) told old so_far.now)
+      subst (λ v. HoldsWorld v after)
+          (sym (ap (after_calls w) (with_it calls answers c a so_far.long told) ∙ after_more w (confirmed calls answers) c))
+          (it.endures.made (it.endures.kept tidy told) told old so_far.now)
   now_as a it tidy false none =
       let was = so_far.now in
-      subst (λ v. HoldsWorld v after) (sym (ap (after_calls w) (plain calls answers c a so_far.long none))) (record { content = was.content; held = it.endures.unmade none was.content was.held; holds = was.holds; legal = was.legal })
+      subst (λ v. HoldsWorld v after) (sym (ap (after_calls w) (plain calls answers c a so_far.long none)))
+          (record { content = was.content; held = it.endures.unmade none was.content was.held; holds = was.holds; legal = was.legal })
 
   -- one call more
   pub after_next : (a : Answer) → EnduresSettled c a before after → after.clean → AreAfter w (calls ++ c ∷ []) (answers ++ a ∷ []) after
@@ -117,13 +136,17 @@ module _ (w : World) (calls : List Call) (answers : List Answer) (before after :
 pub all_none : (books : BooksState) → EnduresAll books books [] []
 all_none books = record {
   clean = λ h. h;
-  goes_on = λ w earlier said tidy k. subst (λ cs. AreAfter w cs (said ++ []) books) (sym (append-nil earlier)) (subst (λ xs. AreAfter w earlier xs books) (sym (append-nil said)) k);
+  goes_on =
+      λ w earlier said tidy k. subst (λ cs. AreAfter w cs (said ++ []) books) (sym (append-nil earlier))
+      (subst (λ xs. AreAfter w earlier xs books) (sym (append-nil said)) k);
 }
 
 pub all_one : (before after : BooksState) (c : Call) (a : Answer) → EnduresSettled c a before after → EnduresAll before after (c ∷ []) (a ∷ [])
-all_one before after c a it = record { clean = it.endures.clean; goes_on = λ w earlier said tidy k. after_next w earlier said before after c k a it tidy }
+all_one before after c a it =
+    record { clean = it.endures.clean; goes_on = λ w earlier said tidy k. after_next w earlier said before after c k a it tidy }
 
-pub all_then : (before mid after : BooksState) (cs ds : List Call) (xs ys : List Answer) → EnduresAll before mid cs xs → EnduresAll mid after ds ys → EnduresAll before after (cs ++ ds) (xs ++ ys)
+pub all_then : (before mid after : BooksState) (cs ds : List Call) (xs ys : List Answer) → EnduresAll before mid cs xs → EnduresAll mid after ds ys
+    → EnduresAll before after (cs ++ ds) (xs ++ ys)
 all_then before mid after cs ds xs ys one two = record {
   clean = λ h. one.clean (two.clean h);
   goes_on = λ w earlier said tidy k.

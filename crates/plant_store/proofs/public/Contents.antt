@@ -32,7 +32,8 @@ comes_there (Remove (GrantKey p r) ∷ cs) rows h = comes_there cs (changed (Rem
 comes_there (c ∷ cs) rows h = comes_there cs (changed c rows) h
 
 -- the content after changes is what is kept after them
-pub keeps_after : (old new : State) (m : Content) (u : Name) (cs : List RowEdit) → HasContent old m → IsKnownTo m u cs → Applies u cs old.now new.now → HasContent new (after_changes m u cs)
+pub keeps_after : (old new : State) (m : Content) (u : Name) (cs : List RowEdit) → HasContent old m → IsKnownTo m u cs → Applies u cs old.now new.now
+    → HasContent new (after_changes m u cs)
 keeps_after old new m u cs k known it = record {
   books = it.books;
   office = it.office ∙ k.office;
@@ -46,7 +47,8 @@ keeps_after old new m u cs k known it = record {
     kept_at : (q : Name) → get (after_changes m u cs).units q ≡ cond (same_name q u) (Some (changed_by cs (rows_in m u))) (get m.units q)
     kept_at q = get-insert nat_list_cmp_total m.units u (changed_by cs (rows_in m u)) q
 
-    seen : (q : Name) (b : Bool) → same_name q u ≡ b → AreSeen q new.now (unwrap_or (cond b (Some (changed_by cs (rows_in m u))) (get m.units q)) no_rows)
+    seen : (q : Name) (b : Bool) → same_name q u ≡ b
+        → AreSeen q new.now (unwrap_or (cond b (Some (changed_by cs (rows_in m u))) (get m.units q)) no_rows)
     seen q true h = subst (λ x. AreSeen x new.now (changed_by cs (rows_in m u))) (sym (same_codes q u h)) (it.mine (rows_in m u) (k.seen u))
     seen q false h = λ i. it.others q (λ e. differs q u h (sym e)) i ∙ k.seen q i
 
@@ -54,7 +56,9 @@ keeps_after old new m u cs k known it = record {
     there (inl h) = still_there cs (rows_in m u) (sym (k.opened u) ∙ h)
     there (inr h) = comes_there cs (rows_in m u) h
 
-    opened : (q : Name) (b : Bool) → same_name q u ≡ b → is_some (cond b (Some (changed_by cs (rows_in m u))) (get m.units q)) ≡ has_any (unwrap_or (cond b (Some (changed_by cs (rows_in m u))) (get m.units q)) no_rows).units
+    opened : (q : Name) (b : Bool) → same_name q u ≡ b
+        → is_some (cond b (Some (changed_by cs (rows_in m u))) (get m.units q))
+        ≡ has_any (unwrap_or (cond b (Some (changed_by cs (rows_in m u))) (get m.units q)) no_rows).units
     opened q true h = sym (there known)
     opened q false h = k.opened q
 
@@ -87,11 +91,13 @@ module _ (s : State) (m : Content) (u : Name) (k : HasContent s m) where
   pub never_opened : has_any (rows_seen u s.now.trees Units) ≡ false → get m.units u ≡ None
   never_opened h = no_some (get m.units u) (was_opened ∙ h)
 
-pub any_is : {A : Type 0} (xs : List A) → Rattle.std.proofs.Common.not (Rattle.std.specs.Prelude.nat_eq (Rattle.std.proofs.Common.length xs) 0) ≡ has_any xs
+pub any_is : {A : Type 0} (xs : List A)
+    → Rattle.std.proofs.Common.not (Rattle.std.specs.Prelude.nat_eq (Rattle.std.proofs.Common.length xs) 0) ≡ has_any xs
 any_is [] = refl
 any_is (x ∷ xs) = ap Rattle.std.proofs.Common.not (Rattle.std.proofs.Math.Dec.eqb-suc-zero (Rattle.std.proofs.Common.length xs))
 
-pub none_found : (s : State) (m : Content) (u : Name) → HasContent s m → (units : List Rattle.plant_model.specs.declared.rows.UnitRow.UnitRow) → units ≡ rows_seen u s.now.trees Units → has_any units ≡ false → ◌≡◌ {A = Option UnitRows} None (get m.units u)
+pub none_found : (s : State) (m : Content) (u : Name) → HasContent s m → (units : List Rattle.plant_model.specs.declared.rows.UnitRow.UnitRow)
+    → units ≡ rows_seen u s.now.trees Units → has_any units ≡ false → ◌≡◌ {A = Option UnitRows} None (get m.units u)
 none_found s m u k units is any = sym (never_opened s m u k (ap has_any (sym is) ∙ any))
 
 -- ---- new books

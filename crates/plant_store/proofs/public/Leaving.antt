@@ -48,7 +48,8 @@ one_content s x m d p q = record {
 
 -- ---- while the store is open, a crash leaves what the tables show
 
-module _ (s : State) (law : (db : Trees) → s.may_leave db → db ≡ s.committed.trees) (settled : s.now ≡ s.committed) (live : IsDatabase s.now) (m : Content) (k : HaveRows m s.now) where
+module _ (s : State) (law : (db : Trees) → s.may_leave db → db ≡ s.committed.trees) (settled : s.now ≡ s.committed) (live : IsDatabase s.now)
+    (m : Content) (k : HaveRows m s.now) where
   shown_trees : (db : Trees) → s.may_leave db → db ≡ s.now.trees
   shown_trees db may = law db may ∙ ap (λ (d : Database). d.trees) (sym settled)
 
@@ -74,7 +75,8 @@ module _ (a b : State) where
     changed_rows : (m : Content) → HaveRows m a.now → IsKnownTo m u cs → (d : Database) → Applies u cs a.now d → HaveRows (after_changes m u cs) d
     changed_rows m k known d it = keeps_after a (showing a d) m u cs k known it
 
-    pub fewer_changed : (x : Content) → LeavesContent b x → LeavesContent a x ⊎ (IsHonest a × ((m : Content) → (IsHonest a → HasContent a m) → IsKnownTo m u cs → Alike x (after_changes m u cs)))
+    pub fewer_changed : (x : Content) → LeavesContent b x
+        → LeavesContent a x ⊎ (IsHonest a × ((m : Content) → (IsHonest a → HasContent a m) → IsKnownTo m u cs → Alike x (after_changes m u cs)))
     fewer_changed x (d, may, it) = elim (made.crash clean d.trees may) [
       | inl was ↦ inl (d, was, it)
       | inr new ↦ inr (
@@ -108,7 +110,8 @@ module _ {S : Type 0} (g : Ghosts S) where
   abbrev holds : Kept → Content → Type 0
   holds t m = (t.0.1 ≡ m.admin) × Represents (shown t) m
 
-  pub loses_nothing : (a b : Kept) → Survives (shown a) (shown b) (λ _. ⊥) → LosesNothing holds (λ t. IsHonest (shown t)) (λ t. HasCleanDisk (shown t)) (λ t. LeavesBooks (shown t)) (λ t m. LeavesContent (shown t) m) a b
+  pub loses_nothing : (a b : Kept) → Survives (shown a) (shown b) (λ _. ⊥)
+      → LosesNothing holds (λ t. IsHonest (shown t)) (λ t. HasCleanDisk (shown t)) (λ t. LeavesBooks (shown t)) (λ t m. LeavesContent (shown t) m) a b
   loses_nothing a b quiet = record {
     clean = λ clean. let was : HasCleanDisk (shown a) = omega (arith, clean, quiet.clean) in was;
     fewer = fewer (shown a) (shown b) quiet;
@@ -116,7 +119,8 @@ module _ {S : Type 0} (g : Ghosts S) where
   }
 
   pub loses_no_part : (a b : Kept) (u : Name) (cs : List RowEdit) → Survives (shown a) (shown b) (AreChangedHonestly (shown a) u cs)
-      → LosesNoPart holds (λ t. IsHonest (shown t)) (λ t. HasCleanDisk (shown t)) (λ t. LeavesBooks (shown t)) (λ t m. LeavesContent (shown t) m) u cs a b
+      → LosesNoPart holds (λ t. IsHonest (shown t)) (λ t. HasCleanDisk (shown t)) (λ t. LeavesBooks (shown t))
+      (λ t m. LeavesContent (shown t) m) u cs a b
   loses_no_part a b u cs made = record {
     clean = λ clean. let was : HasCleanDisk (shown a) = omega (arith, clean, made.clean) in was;
     fewer = λ clean x l. elim (fewer_changed (shown a) (shown b) u cs made clean x l) [
@@ -126,7 +130,8 @@ module _ {S : Type 0} (g : Ghosts S) where
     sound = λ clean m held known. sound_changed (shown a) (shown b) u cs made clean m held.1 known;
   }
 
-  pub is_settled : (t : Kept) → ((db : Trees) → IsTrue (shown t).is_open → (shown t).may_leave db → db ≡ (shown t).committed.trees) → (IsTrue (shown t).is_open → (shown t).now ≡ (shown t).committed) → IsLive (shown t)
+  pub is_settled : (t : Kept) → ((db : Trees) → IsTrue (shown t).is_open → (shown t).may_leave db → db ≡ (shown t).committed.trees)
+      → (IsTrue (shown t).is_open → (shown t).now ≡ (shown t).committed) → IsLive (shown t)
       → IsSettled holds (λ t. IsHonest (shown t)) (λ t. HasCleanDisk (shown t)) (λ t. LeavesBooks (shown t)) (λ t m. LeavesContent (shown t) m) t
   is_settled t law settled live = record {
     sound = λ honest m held. settled_sound (shown t) (λ db. law db honest.1) (settled honest.1) (live honest.1).0 m (held.1 honest);
@@ -134,7 +139,8 @@ module _ {S : Type 0} (g : Ghosts S) where
   }
 
 -- books that were settled, and then read
-pub settled_alike_read : (s t : State) → (IsTrue s.is_open → s.now ≡ s.committed) → IsLive s → ((db : Trees) → IsTrue s.is_open → s.may_leave db → db ≡ s.committed.trees) → Survives s t (λ _. ⊥)
+pub settled_alike_read : (s t : State) → (IsTrue s.is_open → s.now ≡ s.committed) → IsLive s
+    → ((db : Trees) → IsTrue s.is_open → s.may_leave db → db ≡ s.committed.trees) → Survives s t (λ _. ⊥)
     → (m : Content) → Represents s m → LeavesAlike s t m
 settled_alike_read s t settled live law quiet m keeps clean opened =
     let early : HasCleanDisk s = omega (arith, clean, quiet.clean) in

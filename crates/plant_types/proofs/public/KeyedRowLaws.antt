@@ -28,9 +28,11 @@ module _ {K X : Type 0} (R : K → K → Ordering) (key : X → K) where
     keyed-put r [] = refl
     keyed-put r (e ∷ es) = grind (arith, keyed-put r es, same (key r) (key e))
 
-    pub row_at-put_row : (q : K) (r : X) (rows : List X) → row_at R key q (put_row R key r rows) ≡ cond (eq_by_cmp R q (key r)) (Some r) (row_at R key q rows)
+    pub row_at-put_row : (q : K) (r : X) (rows : List X)
+        → row_at R key q (put_row R key r rows) ≡ cond (eq_by_cmp R q (key r)) (Some r) (row_at R key q rows)
     row_at-put_row q r rows =
-        row_at-found q _ ∙ ap (found R q) (keyed-put r rows) ∙ find-put R o q (key r) r (keyed rows) ∙ ap (cond (eq_by_cmp R q (key r)) (Some r)) (sym (row_at-found q rows))
+        row_at-found q _ ∙ ap (found R q) (keyed-put r rows) ∙ find-put R o q (key r) r (keyed rows)
+            ∙ ap (cond (eq_by_cmp R q (key r)) (Some r)) (sym (row_at-found q rows))
 
     pub IsInOrder-put_row : (r : X) (rows : List X) → IsInOrder R key rows → IsInOrder R key (put_row R key r rows)
     IsInOrder-put_row r rows h = subst (λ es. T (is_sorted R es)) (sym (keyed-put r rows)) (is_sorted-put R o (key r) r (keyed rows) h)
@@ -46,12 +48,16 @@ module _ {K X : Type 0} (R : K → K → Ordering) (key : X → K) where
         ∙ ap (cond (eq_by_cmp R q k) None) (sym (row_at-found q rows))
 
     pub IsInOrder-remove_row : (k : K) (rows : List X) → IsInOrder R key rows → IsInOrder R key (remove_row R key k rows)
-    IsInOrder-remove_row k rows h = subst (λ es. T (is_sorted R es)) (sym (keyed-where (λ x. not (eq_by_cmp R k x)) rows)) (is_sorted-where_key R (λ x. not (eq_by_cmp R k x)) (keyed rows) h)
+    IsInOrder-remove_row k rows h =
+        subst (λ es. T (is_sorted R es)) (sym (keyed-where (λ x. not (eq_by_cmp R k x)) rows))
+        (is_sorted-where_key R (λ x. not (eq_by_cmp R k x)) (keyed rows) h)
 
     -- rows in order with the same at each key are the same
     pub same_rows : (xs ys : List X) → IsInOrder R key xs → IsInOrder R key ys → ((q : K) → row_at R key q xs ≡ row_at R key q ys) → xs ≡ ys
     same_rows xs ys g h is =
-        sym (unkeyed xs) ∙ ap (map (λ e. e.1)) (same_entries R o same (keyed xs) (keyed ys) g h (λ q. sym (row_at-found q xs) ∙ is q ∙ row_at-found q ys)) ∙ unkeyed ys
+        sym (unkeyed xs)
+            ∙ ap (map (λ e. e.1)) (same_entries R o same (keyed xs) (keyed ys) g h (λ q. sym (row_at-found q xs) ∙ is q ∙ row_at-found q ys))
+            ∙ unkeyed ys
 
     -- rows from their keys, where a key's row has that key
     module _ (row : K → Option X) (at_key : (k : K) (r : X) → row k ≡ Some r → key r ≡ k) where
@@ -76,7 +82,8 @@ module _ {K X : Type 0} (R : K → K → Ordering) (key : X → K) where
           let rest = IsInOrder-told ks (second _ _ h) in
           elim (row k) as (λ o. row k ≡ o → T (is_sorted R (keyed (cons_option o (filter_map row ks))))) [
             | None ↦ λ none. rest
-            | Some r ↦ λ some. both _ _ (subst (λ y. T (below_all R y (keyed (filter_map row ks)))) (sym (at_key k r some)) (below_told k ks (first _ _ h))) rest
+            | Some r ↦ λ some. both _ _
+                (subst (λ y. T (below_all R y (keyed (filter_map row ks)))) (sym (at_key k r some)) (below_told k ks (first _ _ h))) rest
           ] refl
 
 module _ {K : Type 0} (R : K → K → Ordering) (o : IsTotalOrder R) (same : (x y : K) → R x y ≡ Equal → x ≡ y) where
@@ -90,7 +97,8 @@ module _ {K : Type 0} (R : K → K → Ordering) (o : IsTotalOrder R) (same : (x
   pub row_at-in_order : (q : K) (ks : List K) → is_some (row_at R (λ k. k) q (in_order R ks)) ≡ list_any (eq_by_cmp R q) ks
   row_at-in_order q [] = refl
   row_at-in_order q (k ∷ ks) =
-      ap is_some (row_at-put_row R (λ k. k) o same q k (in_order R ks)) ∙ is_some-cond (eq_by_cmp R q k) k _ ∙ ap (λ b. eq_by_cmp R q k || b) (row_at-in_order q ks)
+      ap is_some (row_at-put_row R (λ k. k) o same q k (in_order R ks)) ∙ is_some-cond (eq_by_cmp R q k) k _
+          ∙ ap (λ b. eq_by_cmp R q k || b) (row_at-in_order q ks)
 
 -- a function gives the rows of these keys: its rows have their keys, and it has none at other keys
 pub record Tells {K X : Type 0} (R : K → K → Ordering) (key : X → K) (row : K → Option X) (ks : List K) : Type 0 where
@@ -113,12 +121,18 @@ module _ {K X : Type 0} {R : K → K → Ordering} {key : X → K} where
       row_at-told R key t.order t.same row t.at_key q (in_order R ks)
       ∙ ap (λ b. cond b (row q) None) (row_at-in_order R t.order t.same q ks) ∙ settled _ _ (t.among q)
 
-  pub put-rows : (old new : K → Option X) (ks ks' : List K) (r : X) → Tells R key old ks → Tells R key new ks' → ((q : K) → new q ≡ cond (eq_by_cmp R q (key r)) (Some r) (old q)) → put_row R key r (filter_map old (in_order R ks)) ≡ filter_map new (in_order R ks')
+  pub put-rows : (old new : K → Option X) (ks ks' : List K) (r : X) → Tells R key old ks → Tells R key new ks'
+      → ((q : K) → new q ≡ cond (eq_by_cmp R q (key r)) (Some r) (old q))
+      → put_row R key r (filter_map old (in_order R ks)) ≡ filter_map new (in_order R ks')
   put-rows old new ks ks' r t u is =
       same_rows R key t.order t.same _ _ (IsInOrder-put_row R key t.order t.same r _ (IsInOrder-rows old ks t)) (IsInOrder-rows new ks' u)
-      (λ q. row_at-put_row R key t.order t.same q r _ ∙ ap (cond (eq_by_cmp R q (key r)) (Some r)) (row_at-rows old ks t q) ∙ sym (is q) ∙ sym (row_at-rows new ks' u q))
+      (λ q. row_at-put_row R key t.order t.same q r _ ∙ ap (cond (eq_by_cmp R q (key r)) (Some r)) (row_at-rows old ks t q) ∙ sym (is q)
+      ∙ sym (row_at-rows new ks' u q))
 
-  pub remove-rows : (old new : K → Option X) (ks ks' : List K) (k : K) → Tells R key old ks → Tells R key new ks' → ((q : K) → new q ≡ cond (eq_by_cmp R q k) None (old q)) → remove_row R key k (filter_map old (in_order R ks)) ≡ filter_map new (in_order R ks')
+  pub remove-rows : (old new : K → Option X) (ks ks' : List K) (k : K) → Tells R key old ks → Tells R key new ks'
+      → ((q : K) → new q ≡ cond (eq_by_cmp R q k) None (old q))
+      → remove_row R key k (filter_map old (in_order R ks)) ≡ filter_map new (in_order R ks')
   remove-rows old new ks ks' k t u is =
       same_rows R key t.order t.same _ _ (IsInOrder-remove_row R key t.order t.same k _ (IsInOrder-rows old ks t)) (IsInOrder-rows new ks' u)
-      (λ q. row_at-remove_row R key t.order t.same q k _ ∙ ap (cond (eq_by_cmp R q k) None) (row_at-rows old ks t q) ∙ sym (is q) ∙ sym (row_at-rows new ks' u q))
+      (λ q. row_at-remove_row R key t.order t.same q k _ ∙ ap (cond (eq_by_cmp R q k) None) (row_at-rows old ks t q) ∙ sym (is q)
+      ∙ sym (row_at-rows new ks' u q))

@@ -11,7 +11,9 @@ module _ {X : Type 0} (name : X → Name) where
   pub has_none : (s : BTreeSet Name) → btree_set_len s ≡ 0 → HasNames s []
   has_none s none a = ap (list_any (is_at (name_cmp a))) (nil_from_length s.keys none)
 
-  pub has_more : (s n : BTreeSet Name) (xs : List X) (i : ℕ) (x : X) (k : Name) → i < length xs → x ≡ get_or xs i x → k ≡ name x → UpdatesBy name_cmp (name_cmp k) s n true → HasNames s (take i xs) → HasNames n (take (i + 1) xs)
+  pub has_more : (s n : BTreeSet Name) (xs : List X) (i : ℕ) (x : X) (k : Name) → i < length xs → x ≡ get_or xs i x → k ≡ name x
+      → UpdatesBy name_cmp (name_cmp k) s n true → HasNames s (take i xs) → HasNames n (take (i + 1) xs)
   has_more s n xs i x k lt is own new are a =
-      let turned : eq_by_cmp name_cmp k a ≡ same_name a (name x) = ap (λ y. same_name y a) own ∙ (eq_by_cmp_equiv nat_list_cmp_total).symm (name x) a in
+      let turned : eq_by_cmp name_cmp k a ≡ same_name a (name x) = ap (λ y. same_name y a) own
+          ∙ (eq_by_cmp_equiv nat_list_cmp_total).symm (name x) a in
       grind (arith, new.0 a, turned, are a, list_any_more (λ y. same_name a (name y)) xs i x)

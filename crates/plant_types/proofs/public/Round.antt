@@ -19,13 +19,25 @@ decimal_four n = omega arith
 
 pub form_of : (y m d h mi s : ℕ) → y < 10000 → m < 100 → d < 100 → h < 100 → mi < 100 → s < 100 → has_form (spelled y m d h mi s) ≡ true
 form_of y m d h mi s hy hm hd hh hmi hs =
-    two (dig (y / 100 / 10) (omega arith)) (two (dig (y / 100 % 10) (omega arith)) (two (dig (y % 100 / 10) (omega arith)) (two (dig (y % 100 % 10) (omega arith)) (two (dig (m / 10) (omega arith)) (two (dig (m % 10) (omega arith)) (two (dig (d / 10) (omega arith)) (two (dig (d % 10) (omega arith)) (two (dig (h / 10) (omega arith)) (two (dig (h % 10) (omega arith)) (two (dig (mi / 10) (omega arith)) (two (dig (mi % 10) (omega arith)) (two (dig (s / 10) (omega arith)) (two (dig (s % 10) (omega arith)) (refl))))))))))))))
+    two (dig (y / 100 / 10) (omega arith))
+        (two (dig (y / 100 % 10) (omega arith))
+        (two (dig (y % 100 / 10) (omega arith))
+        (two (dig (y % 100 % 10) (omega arith))
+        (two (dig (m / 10) (omega arith))
+        (two (dig (m % 10) (omega arith))
+        (two (dig (d / 10) (omega arith))
+        (two (dig (d % 10) (omega arith))
+        (two (dig (h / 10) (omega arith))
+        (two (dig (h % 10) (omega arith))
+        (two (dig (mi / 10) (omega arith))
+        (two (dig (mi % 10) (omega arith)) (two (dig (s / 10) (omega arith)) (two (dig (s % 10) (omega arith)) (refl))))))))))))))
 
 pub round : (y m d h mi s : ℕ) → is_date y m d ≡ true → is_time h mi s ≡ true → y < 10000 → m < 100 → d < 100 → h < 100 → mi < 100 → s < 100
     → moment_of (spelled y m d h mi s) ≡ Some (86400 * days_since_2000 y m d + 3600 * h + 60 * mi + s)
 unfolding moment_of
 round y m d h mi s date time hy hm hd hh hmi hs =
-    rw (form_of y m d h mi s hy hm hd hh hmi hs, decimal_four y, decimal_two m hm, decimal_two d hd, decimal_two h hh, decimal_two mi hmi, decimal_two s hs, date, time) refl
+    rw (form_of y m d h mi s hy hm hd hh hmi hs, decimal_four y, decimal_two m hm, decimal_two d hd, decimal_two h hh, decimal_two mi hmi, decimal_two
+        s hs, date, time) refl
 
 -- the parts of a date are small
 pub date_bounds : (y m d : ℕ) → is_date y m d ≡ true → (y < 10000) × (m < 100) × (d < 100)
@@ -44,6 +56,7 @@ pub written : (n y m d : ℕ) (text : List ℕ) → is_date y m d ≡ true → d
 written n y m d text date days e =
     let small = date_bounds y m d date in
     ap moment_of e
-    ∙ round y m d (n % 86400 / 60 / 60) (n % 86400 / 60 % 60) (n % 86400 % 60) date (time_true (n % 86400) (omega arith)) small.0 small.1 small.2 (omega arith) (omega arith) (omega arith)
+    ∙ round y m d (n % 86400 / 60 / 60) (n % 86400 / 60 % 60)
+    (n % 86400 % 60) date (time_true (n % 86400) (omega arith)) small.0 small.1 small.2 (omega arith) (omega arith) (omega arith)
     ∙ ap (λ v. Some (86400 * v + 3600 * (n % 86400 / 60 / 60) + 60 * (n % 86400 / 60 % 60) + n % 86400 % 60)) days
     ∙ ap Some (time_sum n)

@@ -48,11 +48,13 @@ ran_none books count = record {
 -- one call was
 pub ran_one : (before after : BooksState) (count counted_to : ℕ) (call : Call) (answer : Answer)
     → ((m : Content) → before.held m → (w : World) → IsLegalWorld w → Holds m w → after.honest → IfSaid answer (λ a. IsServed w call a after.held))
-    → ((m : Content) → before.held m → OnFault answer (after.held m)) → CountsAnswer count counted_to answer → EnduresSettled call answer before after → Ran before after count counted_to (call ∷ []) (answer ∷ [])
+    → ((m : Content) → before.held m → OnFault answer (after.held m)) → CountsAnswer count counted_to answer → EnduresSettled call answer before after
+    → Ran before after count counted_to (call ∷ []) (answer ∷ [])
 ran_one before after count counted_to call answer served fault counts endured =
     record {
       run = λ m h w legal holds t.
-          run_more w [] [] call answer before.held after.held (run_none w m before.held h holds legal) (λ m' h' w' legal' holds'. served m' h' w' legal' holds' t) fault;
+          run_more w [] [] call answer before.held after.held (run_none w m before.held h holds legal)
+              (λ m' h' w' legal' holds'. served m' h' w' legal' holds' t) fault;
       counted = counted_one count counted_to answer counts;
       endures = all_one before after call answer endured;
     }

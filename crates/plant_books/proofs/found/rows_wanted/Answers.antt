@@ -5,7 +5,8 @@ use Rattle.plant_types.specs.{KeyedRows.{row_at}, Names.{name_cmp}}
 use Rattle.plant_books.proofs.found.rows_wanted.Goals as goal
 
 pub returns-in-Nothing-clause-value : goal.returns-in-Nothing-clause-value
-returns-in-Nothing-clause-value g c order = c.new.ensures ∙ sym (none_passes (λ r. ap (λ w. is_wanted w (g.T.Tagged.key r)) c.in-Nothing.is) c.args.rows.now)
+returns-in-Nothing-clause-value g c order = c.new.ensures
+    ∙ sym (none_passes (λ r. ap (λ w. is_wanted w (g.T.Tagged.key r)) c.in-Nothing.is) c.args.rows.now)
 
 pub returns-in-One-clause-value : goal.returns-in-One-clause-value
 returns-in-One-clause-value g c order =
@@ -13,7 +14,8 @@ returns-in-One-clause-value g c order =
     let rows = c.args.rows.now in
     let found : option_copied c.row_of.result ≡ row_at name_cmp g.T.Tagged.key tag rows = (rw c.as_slice.ensures at c.row_of.ensures) order in
     subst (λ xs. IfOk c.one_copy.result (λ found. found ≡ xs))
-    (ap option_to_list found ∙ sym (one_passes g.T.Tagged.key tag rows (ordered name_cmp g.T.Tagged.key rows order)) ∙ sym (passing_as (λ r. ap (λ w. is_wanted w (g.T.Tagged.key r)) c.in-One.is) rows))
+    (ap option_to_list found ∙ sym (one_passes g.T.Tagged.key tag rows (ordered name_cmp g.T.Tagged.key rows order))
+    ∙ sym (passing_as (λ r. ap (λ w. is_wanted w (g.T.Tagged.key r)) c.in-One.is) rows))
     c.one_copy.ensures.value
 
 pub returns-in-Every-clause-value : goal.returns-in-Every-clause-value

@@ -12,9 +12,12 @@ loop-shelf-preserved c alarms_rise shelves_rise =
     let so = c.loop-shelf.invariant alarms_rise shelves_rise in
     elim c.match-row_of.branch [
       | in-Some+in_ok-duplicate+in_ok-push w ↦
-          ap (λ l. l ++ shelved (drop (i + 1) shelves) alarms) (w.found-is ∙ w.in_ok-push.ensures.ok ∙ ap (λ x. so_far ++ x ∷ []) w.in_ok-duplicate.ensures.value)
-          ∙ next_shelved shelves alarms i c.shelf-item.result (Some w.in-Some.alarm.now) so_far alarms_rise shelves_rise c.loop-shelf-test.true c.shelf-item.is (sym (ap option_copied w.in-Some.is) ∙ c.row_of.ensures alarms_rise) so
+          ap (λ l. l ++ shelved (drop (i + 1) shelves) alarms)
+              (w.found-is ∙ w.in_ok-push.ensures.ok ∙ ap (λ x. so_far ++ x ∷ []) w.in_ok-duplicate.ensures.value)
+          ∙ next_shelved shelves alarms i c.shelf-item.result (Some w.in-Some.alarm.now) so_far alarms_rise shelves_rise c.loop-shelf-test.true
+          c.shelf-item.is (sym (ap option_copied w.in-Some.is) ∙ c.row_of.ensures alarms_rise) so
       | in_default w ↦
           ap (λ l. l ++ shelved (drop (i + 1) shelves) alarms) (w.found-is ∙ sym (append-nil so_far))
-          ∙ next_shelved shelves alarms i c.shelf-item.result None so_far alarms_rise shelves_rise c.loop-shelf-test.true c.shelf-item.is (sym (ap option_copied w.in_default.is) ∙ c.row_of.ensures alarms_rise) so
+          ∙ next_shelved shelves alarms i c.shelf-item.result None so_far alarms_rise shelves_rise c.loop-shelf-test.true c.shelf-item.is
+          (sym (ap option_copied w.in_default.is) ∙ c.row_of.ensures alarms_rise) so
     ]

@@ -14,5 +14,6 @@ loop-number-preserved g c =
       append_assoc before (n ∷ []) c.next.new.self ∙ cut,
       λ rise.
           c.in_ok-push_all.ensures.ok
-          ∙ goes_on g.T.Numbered.number xs c.args.numbers.now.keys before c.next.new.self n c.rows_of_number.result.now c.loop-number.found all.4 (cut ∙ all.0) rise (so.2 rise) (c.rows_of_number.ensures rise),
+          ∙ goes_on g.T.Numbered.number xs c.args.numbers.now.keys before c.next.new.self n c.rows_of_number.result.now c.loop-number.found all.4 (cut
+          ∙ all.0) rise (so.2 rise) (c.rows_of_number.ensures rise),
     )

@@ -15,11 +15,21 @@ returns-then-records c is =
     let cells : c.rise-cells.result ≡ true = search rules in
     let records : c.rise-records.result ≡ true = search rules in
     record {
-      alarms = keys_rise name_cmp alarm_tag c.args.rows.now.alarms ((rw c.as_slice.ensures at c.rise-alarms.ensures) (on_total alarm_tag name_total) alarms);
-      shelves = keys_rise name_cmp shelf_tag c.args.rows.now.shelves ((rw c.as_slice-2.ensures at c.rise-shelves.ensures) (on_total shelf_tag name_total) shelves);
-      events = keys_rise nat_cmp event_number c.args.rows.now.events ((rw c.as_slice-3.ensures at c.rise-events.ensures) (on_total event_number nat_cmp_total) events);
-      bands = keys_rise band_cmp band_key c.args.rows.now.bands ((rw c.as_slice-4.ensures at c.rise-bands.ensures) (on_total band_key band_total) bands);
-      cells = keys_rise cell_cmp cell_key c.args.rows.now.cells ((rw c.as_slice-5.ensures at c.rise-cells.ensures) (on_total cell_key cell_total) cells);
-      records = keys_rise name_cmp record_tag c.args.rows.now.records ((rw c.as_slice-6.ensures at c.rise-records.ensures) (on_total record_tag name_total) records);
-      changes = keys_rise nat_cmp change_number c.args.rows.now.changes ((rw c.as_slice-7.ensures at c.rise-changes.ensures) (on_total change_number nat_cmp_total) is);
+      alarms = keys_rise name_cmp alarm_tag c.args.rows.now.alarms
+          ((rw c.as_slice.ensures at c.rise-alarms.ensures) (on_total alarm_tag name_total) alarms);
+      shelves =
+          keys_rise name_cmp shelf_tag c.args.rows.now.shelves
+          ((rw c.as_slice-2.ensures at c.rise-shelves.ensures) (on_total shelf_tag name_total) shelves);
+      events = keys_rise nat_cmp event_number c.args.rows.now.events
+          ((rw c.as_slice-3.ensures at c.rise-events.ensures) (on_total event_number nat_cmp_total) events);
+      bands = keys_rise band_cmp band_key c.args.rows.now.bands
+          ((rw c.as_slice-4.ensures at c.rise-bands.ensures) (on_total band_key band_total) bands);
+      cells = keys_rise cell_cmp cell_key c.args.rows.now.cells
+          ((rw c.as_slice-5.ensures at c.rise-cells.ensures) (on_total cell_key cell_total) cells);
+      records =
+          keys_rise name_cmp record_tag c.args.rows.now.records
+          ((rw c.as_slice-6.ensures at c.rise-records.ensures) (on_total record_tag name_total) records);
+      changes =
+          keys_rise nat_cmp change_number c.args.rows.now.changes
+          ((rw c.as_slice-7.ensures at c.rise-changes.ensures) (on_total change_number nat_cmp_total) is);
     }

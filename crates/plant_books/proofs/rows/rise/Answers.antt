@@ -6,4 +6,6 @@ pub returns : goal.returns
 returns g c total is =
     let rises : c.is_sorted_by.result ≡ true = search rules in
     neighbours_rise g.T.Keyed.order total c.args.rows.now
-    (λ k d within. sym (subst (λ r. IsAllAdjacentAnswer (λ x y b. b ≡ is_lt (g.T.Keyed.order x y)) c.args.rows.now r) rises (c.is_sorted_by.ensures.cases (λ x y. is_lt (g.T.Keyed.order x y)) (answers_always _ _ _ (λ f a r f' k. search rules))) k d within))
+    (λ k d within. sym (subst (λ r. IsAllAdjacentAnswer (λ x y b. b
+    ≡ is_lt (g.T.Keyed.order x y)) c.args.rows.now r) rises
+    (c.is_sorted_by.ensures.cases (λ x y. is_lt (g.T.Keyed.order x y)) (answers_always _ _ _ (λ f a r f' k. search rules))) k d within))

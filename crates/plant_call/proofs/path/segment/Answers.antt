@@ -6,4 +6,5 @@ pub loop-slash-init : goal.loop-slash-init
 loop-slash-init c = sym (after_slashes-none c.args.path.now)
 
 pub loop-slash-preserved : goal.loop-slash-preserved
-loop-slash-preserved c = c.split_at_slash.ensures.after ∙ ap after_slash c.loop-slash.invariant ∙ sym (after_slashes-more c.loop-slash._slash c.args.path.now)
+loop-slash-preserved c = c.split_at_slash.ensures.after ∙ ap after_slash c.loop-slash.invariant
+    ∙ sym (after_slashes-more c.loop-slash._slash c.args.path.now)

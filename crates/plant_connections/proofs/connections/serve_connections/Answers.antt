@@ -25,7 +25,9 @@ connections-preserved g c =
         omega (arith, c.in_ok-end.ensures.counted, served.3),
         omega (arith, served.4),
       );
-      ran = ran_more (books_state g.B.Books c.args.office.now.books) (books_state g.B.Books c.connections.office.books) (books_state g.B.Books c.serve_next.new.office.books) (g.B.Books.stores c.args.office.now.books) (g.B.Books.stores c.connections.office.books) (g.B.Books.stores c.serve_next.new.office.books) c.in_ok-end.ensures.honest
+      ran = ran_more (books_state g.B.Books c.args.office.now.books) (books_state g.B.Books c.connections.office.books)
+          (books_state g.B.Books c.serve_next.new.office.books) (g.B.Books.stores c.args.office.now.books)
+          (g.B.Books.stores c.connections.office.books) (g.B.Books.stores c.serve_next.new.office.books) c.in_ok-end.ensures.honest
           c.connections.invariant.ran (made end c.in_ok-end.ensures.does);
       honest = λ t. c.connections.invariant.honest (c.in_ok-end.ensures.honest t);
       failed = c.in_ok-end.ensures.ok ∙ c.connections.invariant.failed;

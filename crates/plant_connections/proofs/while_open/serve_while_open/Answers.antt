@@ -27,7 +27,9 @@ connections-preserved g c =
         omega (arith, c.in-Ok.ensures.counted, served.3),
         omega (arith, served.4),
       );
-      ran = ran_more (books_state g.B.Books c.args.office.now.books) (books_state g.B.Books c.connections.office.books) (books_state g.B.Books c.serve_next.new.office.books) (g.B.Books.stores c.args.office.now.books) (g.B.Books.stores c.connections.office.books) (g.B.Books.stores c.serve_next.new.office.books) c.in-Ok.ensures.honest
+      ran = ran_more (books_state g.B.Books c.args.office.now.books) (books_state g.B.Books c.connections.office.books)
+          (books_state g.B.Books c.serve_next.new.office.books) (g.B.Books.stores c.args.office.now.books)
+          (g.B.Books.stores c.connections.office.books) (g.B.Books.stores c.serve_next.new.office.books) c.in-Ok.ensures.honest
           c.connections.invariant.ran (made end c.in-Ok.ensures.does);
       honest = λ t. c.connections.invariant.honest (c.in-Ok.ensures.honest t);
       failed = c.in-Ok.ensures.ok ∙ c.connections.invariant.failed;

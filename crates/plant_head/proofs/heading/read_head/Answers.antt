@@ -7,7 +7,8 @@ pub returns-else-bytes-lt-MAX_HEAD : goal.returns-else-bytes-lt-MAX_HEAD
 returns-else-bytes-lt-MAX_HEAD c = (
   record {
     none = subst (λ (x : List ℕ). HasNoRequest x) c.front_of.ensures.value (rw c.in-Ok-Partial.field-0-is at c.in-Ok-Partial.ensures.partial);
-    unfinished = subst (λ (x : List ℕ). MayBecomeRequest x) c.front_of.ensures.value (rw c.in-Ok-Partial.field-0-is at c.in-Ok-Partial.ensures.unfinished);
+    unfinished =
+        subst (λ (x : List ℕ). MayBecomeRequest x) c.front_of.ensures.value (rw c.in-Ok-Partial.field-0-is at c.in-Ok-Partial.ensures.unfinished);
   },
   c.if-bytes-lt-MAX_HEAD.false,
 )

@@ -7,20 +7,29 @@ use Rattle.plant_alarm.specs.declared.event.Event.{Event}
 use Rattle.plant_import.proofs.merging.merge.Goals as goal
 
 pub loop-i-init : goal.loop-i-init
-loop-i-init c = record { count = rw c.new-fresh.ensures refl; so = λ rising. ([], rw c.new-fresh.ensures (stand_none c.tree_for-rising.result c.args.file.now c.tree_for-rising.ensures), rw c.new-fresh.ensures (so_none c.args.tags.now c.args.now c.args.kept.now)) }
+loop-i-init c =
+    record { count = rw c.new-fresh.ensures refl;
+    so = λ rising. ([], rw c.new-fresh.ensures (stand_none c.tree_for-rising.result c.args.file.now c.tree_for-rising.ensures), rw c.new-fresh.ensures
+    (so_none c.args.tags.now c.args.now c.args.kept.now)) }
 
 pub returns-in-Err-clause-value : goal.returns-in-Err-clause-value
 returns-in-Err-clause-value c rising =
     let so = c.loop-i.invariant.so rising in
-    let is = subst (λ (r : Result Bool Cause). JudgesRow c.args.tags.now c.args.now c.args.kept.now so.0 c.index-file-i.result r) c.in-Err.is (c.judged.ensures c.args.tags.now c.in_ok-known.ensures.value rising so.0 so.2.rises
-    (stand_nearest c.loop-i.rising c.as_slice.result.now c.args.file.now so.0 c.loop-i.i c.index-file-i.result c.nearest_new-nearest.result (omega arith) c.index-file-i.is (rw c.as_slice.ensures so.1) c.nearest_new-nearest.ensures.by_number c.nearest_new-nearest.ensures.below)) in
-    sym (so_fault_at c.args.tags.now c.args.now c.args.kept.now c.args.file.now c.loop-i.fresh so.0 c.loop-i.repeated c.loop-i.i c.index-file-i.result c.in-Err.cause (omega arith) c.index-file-i.is so.2 is)
+    let is = subst (λ (r : Result Bool Cause). JudgesRow c.args.tags.now c.args.now c.args.kept.now so.0 c.index-file-i.result r) c.in-Err.is
+        (c.judged.ensures c.args.tags.now c.in_ok-known.ensures.value rising so.0 so.2.rises
+    (stand_nearest c.loop-i.rising c.as_slice.result.now c.args.file.now so.0 c.loop-i.i c.index-file-i.result c.nearest_new-nearest.result
+    (omega arith) c.index-file-i.is (rw c.as_slice.ensures so.1) c.nearest_new-nearest.ensures.by_number c.nearest_new-nearest.ensures.below)) in
+    sym (so_fault_at c.args.tags.now c.args.now c.args.kept.now c.args.file.now c.loop-i.fresh so.0 c.loop-i.repeated c.loop-i.i c.index-file-i.result
+        c.in-Err.cause (omega arith) c.index-file-i.is so.2 is)
 
 pub loop-i-preserved : goal.loop-i-preserved
 loop-i-preserved c =
-    let judged : IsRising c.args.kept.now → (seen : List Event) → StandSo c.loop-i.rising c.loop-i.fresh (drop c.loop-i.i c.args.file.now) seen → IsRising seen → JudgesRow c.args.tags.now c.args.now c.args.kept.now seen c.index-file-i.result (Ok c.in-Ok.is_new) =
-    λ rising seen stand rises. subst (λ (r : Result Bool Cause). JudgesRow c.args.tags.now c.args.now c.args.kept.now seen c.index-file-i.result r) c.in-Ok.is (c.judged.ensures c.args.tags.now c.in_ok-known.ensures.value rising seen rises
-    (stand_nearest c.loop-i.rising c.as_slice.result.now c.args.file.now seen c.loop-i.i c.index-file-i.result c.nearest_new-nearest.result (omega arith) c.index-file-i.is (rw c.as_slice.ensures stand) c.nearest_new-nearest.ensures.by_number c.nearest_new-nearest.ensures.below)) in
+    let judged : IsRising c.args.kept.now → (seen : List Event) → StandSo c.loop-i.rising c.loop-i.fresh (drop c.loop-i.i c.args.file.now) seen
+        → IsRising seen → JudgesRow c.args.tags.now c.args.now c.args.kept.now seen c.index-file-i.result (Ok c.in-Ok.is_new) =
+    λ rising seen stand rises. subst (λ (r : Result Bool Cause). JudgesRow c.args.tags.now c.args.now c.args.kept.now seen c.index-file-i.result r)
+        c.in-Ok.is (c.judged.ensures c.args.tags.now c.in_ok-known.ensures.value rising seen rises
+    (stand_nearest c.loop-i.rising c.as_slice.result.now c.args.file.now seen c.loop-i.i c.index-file-i.result c.nearest_new-nearest.result
+    (omega arith) c.index-file-i.is (rw c.as_slice.ensures stand) c.nearest_new-nearest.ensures.by_number c.nearest_new-nearest.ensures.below)) in
     elim c.if-is_new.branch [
       | then-is_new+in_ok-add w ↦
           let added : w.add.new.fresh ≡ c.loop-i.fresh ++ c.index-file-i.result ∷ [] = search rules in
@@ -30,9 +39,13 @@ loop-i-preserved c =
                 let so = c.loop-i.invariant.so rising in
                 let is = rw w.if-is_new.true at (judged rising so.0 so.1 so.2.rises) in (
                   put_in c.index-file-i.result so.0,
-                  rw (w.rising-is, w.fresh-is, added) (stand_new c.loop-i.rising w.add.new.rising c.loop-i.fresh c.args.file.now so.0 c.loop-i.i c.index-file-i.result (omega arith) c.index-file-i.is so.1
+                  rw (w.rising-is, w.fresh-is, added)
+                      (stand_new c.loop-i.rising w.add.new.rising c.loop-i.fresh c.args.file.now so.0 c.loop-i.i c.index-file-i.result (omega arith)
+                      c.index-file-i.is so.1
                       w.in_ok-add.ensures.none (λ m. w.in_ok-add.ensures.rising m so.0)),
-                  rw (w.fresh-is, w.repeated-is, added) (so_new_at c.args.tags.now c.args.now c.args.kept.now c.args.file.now c.loop-i.fresh so.0 c.loop-i.repeated c.loop-i.i c.index-file-i.result (omega arith) c.index-file-i.is so.2 is),
+                  rw (w.fresh-is, w.repeated-is, added)
+                      (so_new_at c.args.tags.now c.args.now c.args.kept.now c.args.file.now c.loop-i.fresh so.0 c.loop-i.repeated c.loop-i.i
+                      c.index-file-i.result (omega arith) c.index-file-i.is so.2 is),
                 );
           }
       | else-is_new w ↦
@@ -42,8 +55,12 @@ loop-i-preserved c =
                 let so = c.loop-i.invariant.so rising in
                 let is = rw w.if-is_new.false at (judged rising so.0 so.1 so.2.rises) in (
                   so.0,
-                  rw (w.rising-is, w.fresh-is) (stand_known c.loop-i.rising c.loop-i.fresh c.args.file.now so.0 c.loop-i.i c.index-file-i.result (omega arith) c.index-file-i.is so.1),
-                  rw (w.fresh-is, w.repeated-is) (so_known_at c.args.tags.now c.args.now c.args.kept.now c.args.file.now c.loop-i.fresh so.0 c.loop-i.repeated c.loop-i.i c.index-file-i.result (omega arith) c.index-file-i.is so.2 is),
+                  rw (w.rising-is, w.fresh-is)
+                      (stand_known c.loop-i.rising c.loop-i.fresh c.args.file.now so.0 c.loop-i.i c.index-file-i.result (omega arith)
+                      c.index-file-i.is so.1),
+                  rw (w.fresh-is, w.repeated-is)
+                      (so_known_at c.args.tags.now c.args.now c.args.kept.now c.args.file.now c.loop-i.fresh so.0 c.loop-i.repeated c.loop-i.i
+                      c.index-file-i.result (omega arith) c.index-file-i.is so.2 is),
                 );
           }
     ]

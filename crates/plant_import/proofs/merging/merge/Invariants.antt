@@ -7,5 +7,7 @@ abbrev pub invariant-loop-i : goal.invariant-loop-i
 invariant-loop-i l =
     record {
       count : l.repeated + length l.fresh ≡ l.i;
-      so : IsRising l.kept → (seen : List Event) × StandSo l.rising l.fresh (drop l.i l.file) seen × MergedSo l.tags l.now l.kept (take l.i l.file) l.fresh seen l.repeated;
+      so : IsRising l.kept
+          → (seen : List Event) × StandSo l.rising l.fresh (drop l.i l.file) seen
+          × MergedSo l.tags l.now l.kept (take l.i l.file) l.fresh seen l.repeated;
     }

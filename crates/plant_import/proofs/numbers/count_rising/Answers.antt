@@ -7,5 +7,7 @@ returns-then-come_after c low high = counted_after c.args.kept.now c.args.file.n
 
 pub returns : goal.returns
 returns c low high =
-    c.loop-event.invariant.new low ∙ ap (λ l. length (filter (is_other c.args.kept.now) l)) (take_all c.loop-event.event-index c.args.file.now (omega (arith, c.loop-event-test.false)))
+    c.loop-event.invariant.new low
+        ∙ ap (λ l. length (filter (is_other c.args.kept.now) l))
+        (take_all c.loop-event.event-index c.args.file.now (omega (arith, c.loop-event-test.false)))
     ∙ counted_rising c.args.kept.now c.args.file.now high

@@ -7,4 +7,5 @@ returns-clause-value c rising =
     let kept = c.args.kept.now in
     let order = in_number_order kept rising in
     let is = c.as_slice.ensures ∙ c.in_ok-rising.ensures.value ∙ ap (with_events []) c.in_ok-duplicated.ensures.value in
-    subst (λ l. IfOk c.joined.result (λ all. all ≡ l)) (ap (with_events kept) is ∙ put_twice kept c.args.more.now order) (c.joined.ensures.value order (subst (λ l. AreNumbered l) (sym is) (order_puts c.args.more.now [] tt)))
+    subst (λ l. IfOk c.joined.result (λ all. all ≡ l)) (ap (with_events kept) is ∙ put_twice kept c.args.more.now order)
+        (c.joined.ensures.value order (subst (λ l. AreNumbered l) (sym is) (order_puts c.args.more.now [] tt)))

@@ -3,4 +3,6 @@ use Rattle.plant_import.{specs.Numbers.{event_number}, proofs.public.Placed.{ris
 use Rattle.plant_import.proofs.numbers.has_number.Goals as goal
 
 pub returns : goal.returns
-returns c order = c.is_at.ensures ∙ sym (there event_number c.args.number c.args.events.now c.place_of.result (rises_of event_number c.args.events.now order) (c.place_of.ensures.place order) c.place_of.ensures.bound)
+returns c order = c.is_at.ensures
+    ∙ sym (there event_number c.args.number c.args.events.now c.place_of.result (rises_of event_number c.args.events.now order)
+    (c.place_of.ensures.place order) c.place_of.ensures.bound)

@@ -6,7 +6,8 @@ no_text : (bs : List ℕ) (b : Bool) → (IsUtf8 bs → ⊥) → is_utf8 bs ≡ 
 no_text bs true h e = absurd (h (IsUtf8-from_is_utf8 bs e))
 no_text bs false h e = refl
 
-tells : {A E : Type 0} (bs : List ℕ) (r : Result A E) (P : A → Type 0) (Q : E → Type 0) → MatchResult r (λ s. P s × IsUtf8 bs) (λ e. (IsUtf8 bs → ⊥) × Q e) → is_ok r ≡ is_utf8 bs
+tells : {A E : Type 0} (bs : List ℕ) (r : Result A E) (P : A → Type 0) (Q : E → Type 0)
+    → MatchResult r (λ s. P s × IsUtf8 bs) (λ e. (IsUtf8 bs → ⊥) × Q e) → is_ok r ≡ is_utf8 bs
 tells bs (Ok s) P Q h = sym (is_utf8-from_IsUtf8 bs h.1)
 tells bs (Err e) P Q h = sym (no_text bs (is_utf8 bs) h.0 refl)
 

@@ -6,8 +6,11 @@ use Rattle.plant_import.proofs.relation.first_from.Goals as goal
 pub returns-in-Some : goal.returns-in-Some
 returns-in-Some c es holds =
     first_value c.in-Some.field-0-0.now c.in-Some.event.now c.next.new.self (relation.from c.args.seq es)
-    (sym c.in-Some.ensures.steps ∙ c.range.ensures.between tt ∙ ap (entries_between nat_cmp (Included c.args.seq) Unbounded) holds ∙ entries_from c.args.seq es)
+    (sym c.in-Some.ensures.steps ∙ c.range.ensures.between tt ∙ ap (entries_between nat_cmp (Included c.args.seq) Unbounded) holds
+    ∙ entries_from c.args.seq es)
 
 pub returns-in-None : goal.returns-in-None
 returns-in-None c es holds =
-    no_first (relation.from c.args.seq es) (sym c.in-None.ensures.steps.0 ∙ c.range.ensures.between tt ∙ ap (entries_between nat_cmp (Included c.args.seq) Unbounded) holds ∙ entries_from c.args.seq es)
+    no_first (relation.from c.args.seq es)
+        (sym c.in-None.ensures.steps.0 ∙ c.range.ensures.between tt ∙ ap (entries_between nat_cmp (Included c.args.seq) Unbounded) holds
+        ∙ entries_from c.args.seq es)

@@ -6,8 +6,11 @@ use Rattle.plant_import.proofs.relation.last_below.Goals as goal
 pub returns-in-Some : goal.returns-in-Some
 returns-in-Some c es holds =
     last_value c.in-Some.field-0-0.now c.in-Some.event.now c.next_back.new.self (relation.below c.args.seq es)
-    (sym c.in-Some.ensures.steps ∙ c.range.ensures.between tt ∙ ap (entries_between nat_cmp Unbounded (Excluded c.args.seq)) holds ∙ entries_below c.args.seq es)
+    (sym c.in-Some.ensures.steps ∙ c.range.ensures.between tt ∙ ap (entries_between nat_cmp Unbounded (Excluded c.args.seq)) holds
+    ∙ entries_below c.args.seq es)
 
 pub returns-in-None : goal.returns-in-None
 returns-in-None c es holds =
-    no_last (relation.below c.args.seq es) (sym c.in-None.ensures.steps.0 ∙ c.range.ensures.between tt ∙ ap (entries_between nat_cmp Unbounded (Excluded c.args.seq)) holds ∙ entries_below c.args.seq es)
+    no_last (relation.below c.args.seq es)
+        (sym c.in-None.ensures.steps.0 ∙ c.range.ensures.between tt ∙ ap (entries_between nat_cmp Unbounded (Excluded c.args.seq)) holds
+        ∙ entries_below c.args.seq es)

@@ -7,12 +7,14 @@ use Rattle.plant_import.proofs.relation.relation_of.Goals as goal
 pub returns-then-is_same : goal.returns-then-is_same
 returns-then-is_same c es rising near =
     let e = c.args.event.now in
-    related_known es (below e.seq es) (from e.seq es) e c.in-Some.other.now (halves e.seq es rising) (sym (ap option_copied c.in-Some.is) ∙ near.1) (search rules)
+    related_known es (below e.seq es) (from e.seq es) e c.in-Some.other.now (halves e.seq es rising) (sym (ap option_copied c.in-Some.is) ∙ near.1)
+        (search rules)
 
 pub returns-else-is_same : goal.returns-else-is_same
 returns-else-is_same c es rising near =
     let e = c.args.event.now in
-    stands_clash es (below e.seq es) (from e.seq es) e c.in-Some.other.now (halves e.seq es rising) (sym (ap option_copied c.in-Some.is) ∙ near.1) (search rules) (search rules)
+    stands_clash es (below e.seq es) (from e.seq es) e c.in-Some.other.now (halves e.seq es rising) (sym (ap option_copied c.in-Some.is) ∙ near.1)
+        (search rules) (search rules)
 
 pub returns-then-is_late : goal.returns-then-is_late
 returns-then-is_late c es rising near =
@@ -21,7 +23,8 @@ returns-then-is_late c es rising near =
     let other : unwrap_or (option_map (λ (x : Event). x.seq == e.seq) (option_copied c.args.nearest.from)) false ≡ false = grind arith in
     let told : (c.is_before_last-is_early.result || c.is_after_first-is_late.result) ≡ true = grind arith in
     stands_apart es (below e.seq es) (from e.seq es) e (option_copied c.args.nearest.from) _ _ true p near.1 other
-    (c.is_before_last-is_early.ensures (below e.seq es) (below_rising es (below e.seq es) (from e.seq es) e.seq p) near.0) (c.is_after_first-is_late.ensures (from e.seq es) (above_rising es (below e.seq es) (from e.seq es) e.seq p) near.1) told
+    (c.is_before_last-is_early.ensures (below e.seq es) (below_rising es (below e.seq es) (from e.seq es) e.seq p) near.0)
+    (c.is_after_first-is_late.ensures (from e.seq es) (above_rising es (below e.seq es) (from e.seq es) e.seq p) near.1) told
 
 pub returns-else-is_late : goal.returns-else-is_late
 returns-else-is_late c es rising near =
@@ -30,4 +33,5 @@ returns-else-is_late c es rising near =
     let other : unwrap_or (option_map (λ (x : Event). x.seq == e.seq) (option_copied c.args.nearest.from)) false ≡ false = grind arith in
     let told : (c.is_before_last-is_early.result || c.is_after_first-is_late.result) ≡ false = grind arith in
     stands_apart es (below e.seq es) (from e.seq es) e (option_copied c.args.nearest.from) _ _ false p near.1 other
-    (c.is_before_last-is_early.ensures (below e.seq es) (below_rising es (below e.seq es) (from e.seq es) e.seq p) near.0) (c.is_after_first-is_late.ensures (from e.seq es) (above_rising es (below e.seq es) (from e.seq es) e.seq p) near.1) told
+    (c.is_before_last-is_early.ensures (below e.seq es) (below_rising es (below e.seq es) (from e.seq es) e.seq p) near.0)
+    (c.is_after_first-is_late.ensures (from e.seq es) (above_rising es (below e.seq es) (from e.seq es) e.seq p) near.1) told

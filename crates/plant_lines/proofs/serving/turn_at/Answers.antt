@@ -19,7 +19,8 @@ close_line-requires-clause-held g c =
     let is = slice_get_read ls (length ls) c.args.at l refl c.requires.within c.index_mut-line.ensures.value in
     record {
       lines =
-          set_lines c.args.held.now.count ls c.args.at l c.turn_and_report.new.line c.requires.held.lines is c.turn_and_report.ensures.turned.went.same
+          set_lines c.args.held.now.count ls c.args.at l c.turn_and_report.new.line c.requires.held.lines is
+              c.turn_and_report.ensures.turned.went.same
           c.turn_and_report.ensures.waits;
       few = c.requires.held.few;
     }
@@ -52,7 +53,8 @@ returns g c =
       happened =
           happened_line g.B.Books c.args.office.now.books c.turn_and_report.new.office.books (g.P.Ports.seen c.args.ports.now)
           (g.P.Ports.seen c.turn_and_report.new.ports)
-          (g.W.Write.contents c.args.reports.now.log) c.args.held.now.count ls c.args.at l l' c.requires.held.lines is c.turn_and_report.ensures.turned;
+          (g.W.Write.contents c.args.reports.now.log) c.args.held.now.count ls c.args.at l l' c.requires.held.lines is
+          c.turn_and_report.ensures.turned;
       held = record {
         lines =
             set_lines c.args.held.now.count ls c.args.at l l' c.requires.held.lines is c.turn_and_report.ensures.turned.went.same

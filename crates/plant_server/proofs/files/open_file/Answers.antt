@@ -12,10 +12,12 @@ returns-in-Ok-clause-kept g c m held =
 pub returns-in-Ok-clause-office : goal.returns-in-Ok-clause-office
 returns-in-Ok-clause-office g c db held tells =
     subst (λ (d : Database). IsThisOffice c.args.admin d)
-    (same_now (image_at g.S.Start) (file_state c.in_ok-conn.conn) c.in_ok-conn.ensures.opened c.in_ok-conn.ensures.found (c.in-Ok.ensures.honest tells) db held)
+    (same_now (image_at g.S.Start) (file_state c.in_ok-conn.conn) c.in_ok-conn.ensures.opened c.in_ok-conn.ensures.found
+    (c.in-Ok.ensures.honest tells) db held)
     (c.in-Ok.ensures.office tells)
 
 pub returns-in-Ok-clause-crash : goal.returns-in-Ok-clause-crash
 returns-in-Ok-clause-crash g c m held clean =
     let conn = file_state c.in_ok-conn.conn in
-    c.in-Ok.ensures.crash m (kept (image_at g.S.Start) conn c.in_ok-conn.ensures.opened c.in_ok-conn.ensures.found m held) clean (λ early. (c.in_ok-conn.ensures.opened early).0.is_open)
+    c.in-Ok.ensures.crash m (kept (image_at g.S.Start) conn c.in_ok-conn.ensures.opened c.in_ok-conn.ensures.found m held) clean
+        (λ early. (c.in_ok-conn.ensures.opened early).0.is_open)

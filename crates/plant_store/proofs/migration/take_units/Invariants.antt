@@ -15,7 +15,8 @@ invariant-loop-line g l =
       mode : l.from.in_transaction ≡ false;
       reads : OnlyReads had has;
       same_reference : l.tx.conn.ghost_name ≡ l.fn.tx.conn.ghost_name;
-      made : IsHonest has → AreOldBooks had.now → units_of l.lines ≡ old_codes had.now.trees → HasCleanDisk now → IsTrue l.fn.tx.conn.now.in_transaction → AreTakenOver [] had.now.trees old.now
+      made : IsHonest has → AreOldBooks had.now → units_of l.lines ≡ old_codes had.now.trees → HasCleanDisk now
+          → IsTrue l.fn.tx.conn.now.in_transaction → AreTakenOver [] had.now.trees old.now
           → AreTakenOver (units_of (take l.line-index l.lines)) had.now.trees now.now × (now.now.trees 0 ≡ old.now.trees 0);
       stays : StaysInside {V = Unit {0}} (Ok tt) old now;
     }

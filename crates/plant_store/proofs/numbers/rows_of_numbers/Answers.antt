@@ -33,9 +33,11 @@ loop-number-preserved g c =
             let early = c.rows_of_number.ensures.reads.honest honest in
             let same = c.loop-number.invariant.reads.same early in
             let these : c.in_ok-read.read ≡ those_of number n (seen old.now.trees) =
-            c.in_ok-read.ensures.rows honest.0 (subst AreBooks (sym same) books) ∙ (λ i. filter (λ r. other_way n (number r) i) (seen (same i).trees)) in
+            c.in_ok-read.ensures.rows honest.0 (subst AreBooks (sym same) books)
+                ∙ (λ i. filter (λ r. other_way n (number r) i) (seen (same i).trees)) in
             c.in_ok-append.ensures
-            ∙ goes_on number (seen old.now.trees) c.args.numbers.now.keys before c.next.new.self n c.in_ok-read.read c.loop-number.rows.items from.4 (cut ∙ from.0) rise (so.2 early books rise) these,
+            ∙ goes_on number (seen old.now.trees) c.args.numbers.now.keys before c.next.new.self n c.in_ok-read.read c.loop-number.rows.items from.4
+            (cut ∙ from.0) rise (so.2 early books rise) these,
       );
       reads = reads_then c.loop-number.invariant.reads c.rows_of_number.ensures.reads;
     }

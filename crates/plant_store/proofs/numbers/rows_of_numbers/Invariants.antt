@@ -14,6 +14,7 @@ invariant-loop-number g l =
     let all = g.T.Stored.seen l.unit old.now.trees in
     record {
       mode : l.conn.in_transaction ≡ false;
-      rows : (before : List ℕ) × (before ++ l.number-iterator ≡ l.initial.number-iterator) × (IsHonest now → AreBooks old.now → NumbersRise number all → l.rows.items ≡ those_among number before all);
+      rows : (before : List ℕ) × (before ++ l.number-iterator ≡ l.initial.number-iterator)
+          × (IsHonest now → AreBooks old.now → NumbersRise number all → l.rows.items ≡ those_among number before all);
       reads : OnlyReads old now;
     }

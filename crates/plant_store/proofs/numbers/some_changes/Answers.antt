@@ -14,5 +14,7 @@ returns-clause-rows g c honest books rows same =
     let taken = λ (r : RecordEntry). (selection_by rows c.args.scope).rationale r.tag in
     let all = sym (filter-filter taken taken (λ x h. h) rows.records) ∙ ap (filter taken) (sym same ∙ sym c.as_slice.ensures) in
     let are : HasNumbers c.in-Ok.numbers (selection_by rows c.args.scope).change =
-    subst (λ said. IfOk said (λ numbers. HasNumbers numbers (selection_by rows c.args.scope).change)) c.in-Ok.is (c.change_numbers.ensures.value rows all) in
-    if_ok c.rows_of_numbers.result (λ found h. h ∙ (λ i. filter (λ r. are r.number i) (rows_seen u db.trees Changes))) (c.rows_of_numbers.ensures.rows honest books (changes_climb u db books))
+    subst (λ said. IfOk said (λ numbers. HasNumbers numbers (selection_by rows c.args.scope).change)) c.in-Ok.is
+        (c.change_numbers.ensures.value rows all) in
+    if_ok c.rows_of_numbers.result (λ found h. h ∙ (λ i. filter (λ r. are r.number i) (rows_seen u db.trees Changes)))
+        (c.rows_of_numbers.ensures.rows honest books (changes_climb u db books))

@@ -18,11 +18,13 @@ returns-clause-same g c honest schema plain =
     let new = state g.S.Store c.query_all.new.self in
     let quiet : IsTrue c.is_autocommit-settled.result = search rules in
     same_now old new (c.is_autocommit-settled.ensures.settled quiet) honest.1
-    (either_way c.args.sql.now (bound c.args.cells.now) old new c.query_all.result (never_returns schema old.now.schema c.args.sql.now plain) (c.query_all.ensures.ok honest.0) (c.query_all.ensures.err honest.0))
+    (either_way c.args.sql.now (bound c.args.cells.now) old new c.query_all.result (never_returns schema old.now.schema c.args.sql.now plain)
+    (c.query_all.ensures.ok honest.0) (c.query_all.ensures.err honest.0))
 
 pub returns-clause-honest : goal.returns-clause-honest
 returns-clause-honest g c honest =
     let old = state g.S.Store c.args.conn.now in
     let new = state g.S.Store c.query_all.new.self in
     let early : HasCleanDisk old = omega (arith, c.query_all.ensures.survives.clean) in
-    (early, was_open c.args.sql.now _ old new (λ (v : Vec Row Global). v.items) c.query_all.result honest.1 (c.query_all.ensures.ok honest.0) (c.query_all.ensures.err honest.0))
+    (early, was_open c.args.sql.now _ old new (λ (v : Vec Row Global). v.items) c.query_all.result honest.1 (c.query_all.ensures.ok honest.0)
+    (c.query_all.ensures.err honest.0))

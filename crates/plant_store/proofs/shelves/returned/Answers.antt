@@ -11,5 +11,7 @@ returns-clause-found g c honest m k =
     let s = c.args.line.shelf in
     let own = c.in_ok-alarms.ensures.rows honest.0 k.books ∙ ap (filter (λ (r : AlarmRow). same_name s.tag r.tag)) (k.seen u Alarms) in
     let at : c.last_return.result ≡ last_return (rows_in m u).alarms s.tag =
-    c.last_return.ensures ∙ ap (λ (rows : List AlarmRow). last_return rows s.tag) (c.as_slice.ensures ∙ own) ∙ ap (option_and_then (λ (r : AlarmRow). r.return_s)) (row_at-filter name_cmp alarm_tag s.tag (λ r. same_name s.tag r.tag) (λ r h. h) (rows_in m u).alarms) in
+    c.last_return.ensures ∙ ap (λ (rows : List AlarmRow). last_return rows s.tag) (c.as_slice.ensures ∙ own)
+        ∙ ap (option_and_then (λ (r : AlarmRow). r.return_s))
+        (row_at-filter name_cmp alarm_tag s.tag (λ r. same_name s.tag r.tag) (λ r h. h) (rows_in m u).alarms) in
     λ i. record { unit = u; shelf = s; last_return = at i }

@@ -12,6 +12,7 @@ invariant-loop-event g l =
     let now = state g.S.Store l.tx.conn.now in
     record {
       same_reference : l.tx.conn.ghost_name ≡ l.fn.tx.conn.ghost_name;
-      made : HasCleanDisk now → IsTrue l.fn.tx.conn.now.in_transaction → AreBooks old.now → Applies l.unit (PutEvents (take l.event-index l.events) ∷ []) old.now now.now;
+      made : HasCleanDisk now → IsTrue l.fn.tx.conn.now.in_transaction → AreBooks old.now
+          → Applies l.unit (PutEvents (take l.event-index l.events) ∷ []) old.now now.now;
       stays : StaysInside {V = Unit {0}} (Ok tt) old now;
     }

@@ -9,5 +9,6 @@ abbrev pub invariant-loop-event : goal.invariant-loop-event
 invariant-loop-event l =
     record {
       long : length l.summaries ≡ length l.initial.summaries;
-      so : IsInOrder name_cmp alarm_tag l.alarms → (es : List Event) → l.initial.summaries ≡ states.summaries l.alarms es → l.summaries ≡ states.summaries l.alarms (es ++ take l.event-index l.events);
+      so : IsInOrder name_cmp alarm_tag l.alarms → (es : List Event) → l.initial.summaries ≡ states.summaries l.alarms es
+          → l.summaries ≡ states.summaries l.alarms (es ++ take l.event-index l.events);
     }

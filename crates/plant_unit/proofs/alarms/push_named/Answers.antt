@@ -7,14 +7,19 @@ use Rattle.plant_unit.proofs.alarms.push_named.Goals as goal
 pub loop-i-preserved : goal.loop-i-preserved
 loop-i-preserved c es fresh named told =
     let r = c.index-alarms-i.result in
-    let told_so = summarized es c.args.alarms.now c.args.summaries.now c.loop-i.i r r c.index-summaries-i.result c.index-summaries-i.result told c.loop-i-test.true c.index-alarms-i.is c.index-summaries-i.is in
+    let told_so =
+        summarized es c.args.alarms.now c.args.summaries.now c.loop-i.i r r c.index-summaries-i.result c.index-summaries-i.result told
+        c.loop-i-test.true c.index-alarms-i.is c.index-summaries-i.is in
     let made : List RowEdit = map (state_put es) (filter (is_named fresh) (take c.loop-i.i c.args.alarms.now)) in
     let next = passing_next (is_named fresh) (state_put es) c.args.alarms.now c.loop-i.i r c.loop-i-test.true
     ∙ ap (λ (x : AlarmRow). made ++ (if is_named fresh x then state_put es x ∷ [] else [])) (sym c.index-alarms-i.is)
     ∙ ap (λ (l : List RowEdit). made ++ l) (sym (c.in_ok-change.ensures.value es fresh named told_so)) in
-    let grows : (new : List RowEdit) → new ≡ c.loop-i.changes ++ option_to_list c.in_ok-change.field-0 → new ≡ c.args.changes.now ++ map (state_put es) (filter (is_named fresh) (take (c.loop-i.i + 1) c.args.alarms.now)) =
+    let grows : (new : List RowEdit) → new ≡ c.loop-i.changes ++ option_to_list c.in_ok-change.field-0
+        → new ≡ c.args.changes.now ++ map (state_put es) (filter (is_named fresh) (take (c.loop-i.i + 1) c.args.alarms.now)) =
     λ new pushed. grown c.args.changes.now c.loop-i.changes new made _ _ pushed (c.loop-i.invariant es fresh named told) next in
     elim c.match-branch-2.branch [
-      | in-Some+in_ok-push w ↦ grows c.match-branch-2.changes (w.changes-is ∙ w.in_ok-push.ensures.ok ∙ ap (λ (o : Option RowEdit). c.loop-i.changes ++ option_to_list o) (sym w.in-Some.is))
-      | in_default w ↦ grows c.match-branch-2.changes (w.changes-is ∙ sym (append-nil c.loop-i.changes) ∙ ap (λ (o : Option RowEdit). c.loop-i.changes ++ option_to_list o) (sym w.in_default.is))
+      | in-Some+in_ok-push w ↦ grows c.match-branch-2.changes (w.changes-is ∙ w.in_ok-push.ensures.ok
+          ∙ ap (λ (o : Option RowEdit). c.loop-i.changes ++ option_to_list o) (sym w.in-Some.is))
+      | in_default w ↦ grows c.match-branch-2.changes (w.changes-is ∙ sym (append-nil c.loop-i.changes)
+          ∙ ap (λ (o : Option RowEdit). c.loop-i.changes ++ option_to_list o) (sym w.in_default.is))
     ]

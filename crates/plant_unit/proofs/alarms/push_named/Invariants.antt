@@ -5,4 +5,5 @@ use Rattle.plant_unit.specs.Summaries as states
 use Rattle.plant_unit.proofs.alarms.push_named.Given as goal
 
 abbrev pub invariant-loop-i : goal.invariant-loop-i
-invariant-loop-i l = (es fresh : List Event) → states.AreNamed l.named fresh → l.summaries ≡ states.summaries l.alarms es → l.changes ≡ l.initial.changes ++ map (state_put es) (filter (states.is_named fresh) (take l.i l.alarms))
+invariant-loop-i l = (es fresh : List Event) → states.AreNamed l.named fresh → l.summaries ≡ states.summaries l.alarms es
+    → l.changes ≡ l.initial.changes ++ map (state_put es) (filter (states.is_named fresh) (take l.i l.alarms))

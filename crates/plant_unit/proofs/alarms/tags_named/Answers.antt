@@ -12,7 +12,8 @@ loop-event-preserved c =
     elim c.if-not-contains.branch [
       | then-not-contains+in_ok-copy+in_ok-insert w ↦
           subst (λ s. AreNamed s (take (i + 1) events)) (sym w.tags-is)
-          (has_more (λ e. e.tag) c.loop-event.tags w.insert.new.self events i e w.in_ok-copy.field-0 (omega arith) c.event-item.is w.in_ok-copy.ensures.value w.in_ok-insert.ensures.updates c.loop-event.invariant)
+          (has_more (λ e. e.tag) c.loop-event.tags w.insert.new.self events i e w.in_ok-copy.field-0 (omega arith) c.event-item.is
+          w.in_ok-copy.ensures.value w.in_ok-insert.ensures.updates c.loop-event.invariant)
       | else-not-contains w ↦
           let has : contains name_cmp c.loop-event.tags e.tag ≡ true = search rules in
           subst (λ s. AreNamed s (take (i + 1) events)) (sym w.tags-is)

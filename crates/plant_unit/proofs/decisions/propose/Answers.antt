@@ -16,5 +16,6 @@ returns-clause-value c kept u is =
     let t = c.args.call.now.moment in
     asked is (made_own f _ (Number c.next_number.result) c.push_proposal.new.changes
     (sym c.in_default.is ∙ c.in_ok-refused.ensures.value kept t p u) (ap Number (c.next_number.ensures kept.count_fits)) refl
-    (c.in_ok-push_proposal.ensures.value kept u ∙ ap (λ (l : List RowEdit). l ++ own_changes f p t (Propose u c.args.proposal.now)) c.in_ok-changes.ensures.value
+    (c.in_ok-push_proposal.ensures.value kept u
+    ∙ ap (λ (l : List RowEdit). l ++ own_changes f p t (Propose u c.args.proposal.now)) c.in_ok-changes.ensures.value
     ∙ ap (λ (r : UnitRow). Put (UnitPut (record r { last_s = t })) ∷ own_changes f p t (Propose u c.args.proposal.now)) (sym c.requires)))

@@ -9,6 +9,7 @@ returns-in-Err-clause-refused c kept = ap result_err (sym c.in-Err.is ∙ c.in_o
 pub returns-clause-added : goal.returns-clause-added
 returns-clause-added c kept none =
     let f = facts_in c.args.part.now in
-    let made = record_made f c.args.change.now.base c.args.tag.now c.args.sheet.now c.in-Ok.cell (sym c.in-Ok.is ∙ c.in_ok-refused.ensures.value kept) in
+    let made =
+        record_made f c.args.change.now.base c.args.tag.now c.args.sheet.now c.in-Ok.cell (sym c.in-Ok.is ∙ c.in_ok-refused.ensures.value kept) in
     let fits = kept.record_fits c.args.tag.now in
     grind (arith, common_steps)

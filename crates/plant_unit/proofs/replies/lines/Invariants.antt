@@ -5,4 +5,5 @@ use Rattle.plant_unit.specs.Additions.{AreKept}
 use Rattle.plant_unit.proofs.replies.lines.Given as goal
 
 abbrev pub invariant-loop-place : goal.invariant-loop-place
-invariant-loop-place l = AreKept l.part → l.lines ≡ filter_map (λ s. line_of s (shelf_state (shelf_left (Some s)) (returned (facts_in l.part) s.tag) l.now)) (take l.place l.shelves)
+invariant-loop-place l = AreKept l.part
+    → l.lines ≡ filter_map (λ s. line_of s (shelf_state (shelf_left (Some s)) (returned (facts_in l.part) s.tag) l.now)) (take l.place l.shelves)

@@ -10,7 +10,8 @@ pub reads-init : goal.reads-init
 reads-init g c =
     rw c.new-buffer.ensures.items record {
       stands = stands_start (g.I.Inlet.remaining c.args.inlet.now) (g.O.Outlet.written c.args.outlet.now)
-          (Ran (books_state g.B.Books c.args.office.now.books) (books_state g.B.Books c.args.office.now.books) (g.B.Books.stores c.args.office.now.books) (g.B.Books.stores c.args.office.now.books))
+          (Ran (books_state g.B.Books c.args.office.now.books) (books_state g.B.Books c.args.office.now.books)
+          (g.B.Books.stores c.args.office.now.books) (g.B.Books.stores c.args.office.now.books))
           (ran_none (books_state g.B.Books c.args.office.now.books) (g.B.Books.stores c.args.office.now.books));
       honest = λ t. t;
       stalls = refl;
@@ -25,7 +26,8 @@ read_more-requires-clause-answered g c = c.reads.invariant.stands.idle
 
 pub answer_all-requires : goal.answer_all-requires
 answer_all-requires g c =
-    waits_more c.reads.buffer.items c.in-More.ensures.0 c.deref.result.now c.reads.wanted (c.deref.ensures.value ∙ c.in-More.ensures.2) c.reads.invariant.waits
+    waits_more c.reads.buffer.items c.in-More.ensures.0 c.deref.result.now c.reads.wanted (c.deref.ensures.value
+        ∙ c.in-More.ensures.2) c.reads.invariant.waits
 
 pub returns-in-Failed-clause-does : goal.returns-in-Failed-clause-does
 returns-in-Failed-clause-does g c = ends_failed c.reads.invariant.stands (g.I.Inlet.remaining c.read_more.new.inlet) c.in-Failed.ensures.0
@@ -37,17 +39,22 @@ pub returns-in-Failed-clause-honest : goal.returns-in-Failed-clause-honest
 returns-in-Failed-clause-honest g c = c.reads.invariant.honest
 
 pub returns-in-Fault-clause-does : goal.returns-in-Fault-clause-does
-returns-in-Fault-clause-does g c = ends_fault c.reads.invariant.stands (g.I.Inlet.remaining c.read_more.new.inlet) c.in-Fault.ensures.0 c.in-Fault.ensures.1
+returns-in-Fault-clause-does g c =
+    ends_fault c.reads.invariant.stands (g.I.Inlet.remaining c.read_more.new.inlet) c.in-Fault.ensures.0 c.in-Fault.ensures.1
 
 pub returns-in-Finished-clause-does : goal.returns-in-Finished-clause-does
 returns-in-Finished-clause-does g c =
     ends_cut c.reads.invariant.stands (g.I.Inlet.remaining c.read_more.new.inlet) (g.I.Inlet.ended c.read_more.new.inlet)
     c.in-Finished.ensures.3 c.in-Finished.ensures.4 c.in-Finished.ensures.0
-    (some_left c.reads.buffer.items c.as_slice.result.now c.is_empty.result (c.as_slice.ensures.value ∙ c.in-Finished.ensures.1) c.is_empty.ensures c.if-is_empty.false)
+    (some_left c.reads.buffer.items c.as_slice.result.now c.is_empty.result (c.as_slice.ensures.value
+    ∙ c.in-Finished.ensures.1) c.is_empty.ensures c.if-is_empty.false)
 
 pub returns-in-Err-WriteFailed-clause-does : goal.returns-in-Err-WriteFailed-clause-does
 returns-in-Err-WriteFailed-clause-does g c =
-    let joins = ran_joins (books_state g.B.Books c.args.office.now.books) (books_state g.B.Books c.reads.office.books) (books_state g.B.Books c.answer_all.new.office.books) (g.B.Books.stores c.args.office.now.books) (g.B.Books.stores c.reads.office.books) (g.B.Books.stores c.answer_all.new.office.books) c.in-Err-WriteFailed.ensures.honest in
+    let joins =
+        ran_joins (books_state g.B.Books c.args.office.now.books) (books_state g.B.Books c.reads.office.books)
+        (books_state g.B.Books c.answer_all.new.office.books) (g.B.Books.stores c.args.office.now.books) (g.B.Books.stores c.reads.office.books)
+        (g.B.Books.stores c.answer_all.new.office.books) c.in-Err-WriteFailed.ensures.honest in
     let h = ends_part c.reads.invariant.stands (g.I.Inlet.remaining c.read_more.new.inlet) c.deref.result.now c.in-More.ensures.0 c.in-More.ensures.1
     (c.deref.ensures.value ∙ c.in-More.ensures.2) joins (g.O.Outlet.written c.answer_all.new.outlet) _ c.in-Err-WriteFailed.ensures.does in
     (h.0, h.1, h.2.0)
@@ -55,30 +62,43 @@ returns-in-Err-WriteFailed-clause-does g c =
 pub returns-in-Err-Fault-clause-does : goal.returns-in-Err-Fault-clause-does
 returns-in-Err-Fault-clause-does g c =
     let h = rw c.in-Err-Fault.field-0-is at c.in-Err-Fault.ensures.does in
-    let joins = ran_joins (books_state g.B.Books c.args.office.now.books) (books_state g.B.Books c.reads.office.books) (books_state g.B.Books c.answer_all.new.office.books) (g.B.Books.stores c.args.office.now.books) (g.B.Books.stores c.reads.office.books) (g.B.Books.stores c.answer_all.new.office.books) c.in-Err-Fault.ensures.honest in
+    let joins =
+        ran_joins (books_state g.B.Books c.args.office.now.books) (books_state g.B.Books c.reads.office.books)
+        (books_state g.B.Books c.answer_all.new.office.books) (g.B.Books.stores c.args.office.now.books) (g.B.Books.stores c.reads.office.books)
+        (g.B.Books.stores c.answer_all.new.office.books) c.in-Err-Fault.ensures.honest in
     ends_part c.reads.invariant.stands (g.I.Inlet.remaining c.read_more.new.inlet) c.deref.result.now c.in-More.ensures.0 c.in-More.ensures.1
     (c.deref.ensures.value ∙ c.in-More.ensures.2) joins (g.O.Outlet.written c.answer_all.new.outlet) Fault h
 
 pub returns-in-Ok-Broken-clause-does : goal.returns-in-Ok-Broken-clause-does
 returns-in-Ok-Broken-clause-does g c =
     let h = rw c.in-Ok-Broken.field-0-is at c.in-Ok-Broken.ensures.does in
-    let joins = ran_joins (books_state g.B.Books c.args.office.now.books) (books_state g.B.Books c.reads.office.books) (books_state g.B.Books c.answer_all.new.office.books) (g.B.Books.stores c.args.office.now.books) (g.B.Books.stores c.reads.office.books) (g.B.Books.stores c.answer_all.new.office.books) c.in-Ok-Broken.ensures.honest in
+    let joins =
+        ran_joins (books_state g.B.Books c.args.office.now.books) (books_state g.B.Books c.reads.office.books)
+        (books_state g.B.Books c.answer_all.new.office.books) (g.B.Books.stores c.args.office.now.books) (g.B.Books.stores c.reads.office.books)
+        (g.B.Books.stores c.answer_all.new.office.books) c.in-Ok-Broken.ensures.honest in
     ends_broken c.reads.invariant.stands (g.I.Inlet.remaining c.read_more.new.inlet) c.deref.result.now c.in-More.ensures.0 c.in-More.ensures.1
     (c.deref.ensures.value ∙ c.in-More.ensures.2) joins (g.I.Inlet.ended c.read_more.new.inlet) (g.O.Outlet.written c.answer_all.new.outlet) h
 
 pub returns-in-Err-clause-does : goal.returns-in-Err-clause-does
 returns-in-Err-clause-does g c =
     let h = rw c.in-Ok-Waits.field-0-is at c.in-Ok-Waits.ensures.does in
-    let joins = ran_joins (books_state g.B.Books c.args.office.now.books) (books_state g.B.Books c.reads.office.books) (books_state g.B.Books c.answer_all.new.office.books) (g.B.Books.stores c.args.office.now.books) (g.B.Books.stores c.reads.office.books) (g.B.Books.stores c.answer_all.new.office.books) c.in-Ok-Waits.ensures.honest in
+    let joins =
+        ran_joins (books_state g.B.Books c.args.office.now.books) (books_state g.B.Books c.reads.office.books)
+        (books_state g.B.Books c.answer_all.new.office.books) (g.B.Books.stores c.args.office.now.books) (g.B.Books.stores c.reads.office.books)
+        (g.B.Books.stores c.answer_all.new.office.books) c.in-Ok-Waits.ensures.honest in
     ends_drop_fault c.reads.invariant.stands (g.I.Inlet.remaining c.read_more.new.inlet) c.deref.result.now c.in-More.ensures.0 c.in-More.ensures.1
     (c.deref.ensures.value ∙ c.in-More.ensures.2) joins (g.O.Outlet.written c.answer_all.new.outlet) _ h.2
 
 pub reads-preserved : goal.reads-preserved
 reads-preserved g c =
     let h = rw c.in-Ok-Waits.field-0-is at c.in-Ok-Waits.ensures.does in
-    let joins = ran_joins (books_state g.B.Books c.args.office.now.books) (books_state g.B.Books c.reads.office.books) (books_state g.B.Books c.answer_all.new.office.books) (g.B.Books.stores c.args.office.now.books) (g.B.Books.stores c.reads.office.books) (g.B.Books.stores c.answer_all.new.office.books) c.in-Ok-Waits.ensures.honest in
+    let joins =
+        ran_joins (books_state g.B.Books c.args.office.now.books) (books_state g.B.Books c.reads.office.books)
+        (books_state g.B.Books c.answer_all.new.office.books) (g.B.Books.stores c.args.office.now.books) (g.B.Books.stores c.reads.office.books)
+        (g.B.Books.stores c.answer_all.new.office.books) c.in-Ok-Waits.ensures.honest in
     record {
-      stands = stands_next c.reads.invariant.stands (g.I.Inlet.remaining c.read_more.new.inlet) c.deref.result.now c.in-More.ensures.0 c.in-More.ensures.1
+      stands = stands_next c.reads.invariant.stands (g.I.Inlet.remaining c.read_more.new.inlet) c.deref.result.now c.in-More.ensures.0
+          c.in-More.ensures.1
           (c.deref.ensures.value ∙ c.in-More.ensures.2) joins (g.O.Outlet.written c.answer_all.new.outlet)
           c.in-Ok-Waits.n c.drop_front.new.buffer.items
           (c.in-Ok.ensures ∙ sym (ap (drop c.in-Ok-Waits.n) c.deref.ensures.value)) h.1 h.2;

@@ -7,19 +7,22 @@ pub returns-in_default-clause-does : goal.returns-in_default-clause-does
 returns-in_default-clause-does g c = (
   [],
   Consumes-nil (g.I.Inlet.remaining c.args.inlet.now),
-  stopped_none [] (g.O.Outlet.written c.args.outlet.now) (ran_none (books_state g.B.Books c.args.office.now.books) (g.B.Books.stores c.args.office.now.books)),
+  stopped_none [] (g.O.Outlet.written c.args.outlet.now)
+      (ran_none (books_state g.B.Books c.args.office.now.books) (g.B.Books.stores c.args.office.now.books)),
 )
 
 pub returns-in_default-new-clause-does : goal.returns-in_default-new-clause-does
 returns-in_default-new-clause-does g c = (
   [],
   Consumes-nil (g.I.Inlet.remaining c.args.inlet.now),
-  stopped_none [] (g.O.Outlet.written c.args.outlet.now) (ran_none (books_state g.B.Books c.args.office.now.books) (g.B.Books.stores c.args.office.now.books)),
+  stopped_none [] (g.O.Outlet.written c.args.outlet.now)
+      (ran_none (books_state g.B.Books c.args.office.now.books) (g.B.Books.stores c.args.office.now.books)),
 )
 
 pub returns-in_default-vec-clause-does : goal.returns-in_default-vec-clause-does
 returns-in_default-vec-clause-does g c = (
   [],
   Consumes-nil (g.I.Inlet.remaining c.args.inlet.now),
-  stopped_none [] (g.O.Outlet.written c.args.outlet.now) (ran_none (books_state g.B.Books c.args.office.now.books) (g.B.Books.stores c.args.office.now.books)),
+  stopped_none [] (g.O.Outlet.written c.args.outlet.now)
+      (ran_none (books_state g.B.Books c.args.office.now.books) (g.B.Books.stores c.args.office.now.books)),
 )

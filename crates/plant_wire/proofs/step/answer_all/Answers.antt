@@ -8,14 +8,16 @@ pub returns-then-bytes-wanted-clause-does : goal.returns-then-bytes-wanted-claus
 returns-then-bytes-wanted-clause-does g c = (
   omega arith,
   waits_now c.args.bytes.now c.args.wanted c.requires c.if-bytes-wanted.true,
-  serves_none c.args.bytes.now (g.O.Outlet.written c.args.outlet.now) (ran_none (books_state g.B.Books c.args.office.now.books) (g.B.Books.stores c.args.office.now.books)),
+  serves_none c.args.bytes.now (g.O.Outlet.written c.args.outlet.now)
+      (ran_none (books_state g.B.Books c.args.office.now.books) (g.B.Books.stores c.args.office.now.books)),
   c.requires,
 )
 
 pub items-init : goal.items-init
 items-init g c = record {
   within = omega arith;
-  serves = serves_none c.args.bytes.now (g.O.Outlet.written c.args.outlet.now) (ran_none (books_state g.B.Books c.args.office.now.books) (g.B.Books.stores c.args.office.now.books));
+  serves = serves_none c.args.bytes.now (g.O.Outlet.written c.args.outlet.now)
+      (ran_none (books_state g.B.Books c.args.office.now.books) (g.B.Books.stores c.args.office.now.books));
   honest = λ t. t;
   stalls = refl;
 }
@@ -23,7 +25,10 @@ items-init g c = record {
 pub items-preserved : goal.items-preserved
 items-preserved g c =
     let h = rw c.in-Ok-Took.field-0-is at c.in-Ok-Took.ensures.does in
-    let joins = ran_joins (books_state g.B.Books c.args.office.now.books) (books_state g.B.Books c.items.office.books) (books_state g.B.Books c.answer_next.new.office.books) (g.B.Books.stores c.args.office.now.books) (g.B.Books.stores c.items.office.books) (g.B.Books.stores c.answer_next.new.office.books) c.in-Ok-Took.ensures.honest in
+    let joins =
+        ran_joins (books_state g.B.Books c.args.office.now.books) (books_state g.B.Books c.items.office.books)
+        (books_state g.B.Books c.answer_next.new.office.books) (g.B.Books.stores c.args.office.now.books) (g.B.Books.stores c.items.office.books)
+        (g.B.Books.stores c.answer_next.new.office.books) c.in-Ok-Took.ensures.honest in
     record {
       within = omega (arith, c.bytes_from.ensures.len, c.items.invariant.within, h.1);
       serves = one_from joins c.args.bytes.now _ c.in-Ok-Took.n c.bytes_from.result.now _ _ _ c.bytes_from.ensures.value c.items.invariant.serves h.2;
@@ -33,18 +38,27 @@ items-preserved g c =
 
 pub returns-in-Err-clause-does : goal.returns-in-Err-clause-does
 returns-in-Err-clause-does g c =
-    let joins = ran_joins (books_state g.B.Books c.args.office.now.books) (books_state g.B.Books c.items.office.books) (books_state g.B.Books c.answer_next.new.office.books) (g.B.Books.stores c.args.office.now.books) (g.B.Books.stores c.items.office.books) (g.B.Books.stores c.answer_next.new.office.books) c.in-Err.ensures.honest in
+    let joins =
+        ran_joins (books_state g.B.Books c.args.office.now.books) (books_state g.B.Books c.items.office.books)
+        (books_state g.B.Books c.answer_next.new.office.books) (g.B.Books.stores c.args.office.now.books) (g.B.Books.stores c.items.office.books)
+        (g.B.Books.stores c.answer_next.new.office.books) c.in-Err.ensures.honest in
     part_from joins c.args.bytes.now _ c.bytes_from.result.now _ _ _ _ c.bytes_from.ensures.value c.items.invariant.serves c.in-Err.ensures.does
 
 pub returns-in-Ok-Waits-clause-does : goal.returns-in-Ok-Waits-clause-does
 returns-in-Ok-Waits-clause-does g c =
     let h = rw c.in-Ok-Waits.field-0-is at c.in-Ok-Waits.ensures.does in
-    let joins = ran_joins (books_state g.B.Books c.args.office.now.books) (books_state g.B.Books c.items.office.books) (books_state g.B.Books c.answer_next.new.office.books) (g.B.Books.stores c.args.office.now.books) (g.B.Books.stores c.items.office.books) (g.B.Books.stores c.answer_next.new.office.books) c.in-Ok-Waits.ensures.honest in
+    let joins =
+        ran_joins (books_state g.B.Books c.args.office.now.books) (books_state g.B.Books c.items.office.books)
+        (books_state g.B.Books c.answer_next.new.office.books) (g.B.Books.stores c.args.office.now.books) (g.B.Books.stores c.items.office.books)
+        (g.B.Books.stores c.answer_next.new.office.books) c.in-Ok-Waits.ensures.honest in
     let both = waits_from joins c.args.bytes.now _ _ c.bytes_from.result.now _ _ _ c.bytes_from.ensures.value c.items.invariant.serves h in
     (c.items.invariant.within, both.0, both.1, both.2)
 
 pub returns-in-Ok-Broken-clause-does : goal.returns-in-Ok-Broken-clause-does
 returns-in-Ok-Broken-clause-does g c =
     let h = rw c.in-Ok-Broken.field-0-is at c.in-Ok-Broken.ensures.does in
-    let joins = ran_joins (books_state g.B.Books c.args.office.now.books) (books_state g.B.Books c.items.office.books) (books_state g.B.Books c.answer_next.new.office.books) (g.B.Books.stores c.args.office.now.books) (g.B.Books.stores c.items.office.books) (g.B.Books.stores c.answer_next.new.office.books) c.in-Ok-Broken.ensures.honest in
+    let joins =
+        ran_joins (books_state g.B.Books c.args.office.now.books) (books_state g.B.Books c.items.office.books)
+        (books_state g.B.Books c.answer_next.new.office.books) (g.B.Books.stores c.args.office.now.books) (g.B.Books.stores c.items.office.books)
+        (g.B.Books.stores c.answer_next.new.office.books) c.in-Ok-Broken.ensures.honest in
     broken_from joins c.args.bytes.now _ c.bytes_from.result.now _ _ _ c.bytes_from.ensures.value c.items.invariant.serves h

@@ -7,7 +7,8 @@ abbrev pub invariant-items : goal.invariant-items
 invariant-items g l = record {
   within : l.at ≤ length l.bytes;
   serves : AnswersFront l.bytes (g.O.Outlet.written l.fn.outlet) (g.O.Outlet.written l.outlet)
-      (Ran (books_state g.B.Books l.fn.office.books) (books_state g.B.Books l.office.books) (g.B.Books.stores l.fn.office.books) (g.B.Books.stores l.office.books)) (drop l.at l.bytes);
+      (Ran (books_state g.B.Books l.fn.office.books) (books_state g.B.Books l.office.books) (g.B.Books.stores l.fn.office.books)
+      (g.B.Books.stores l.office.books)) (drop l.at l.bytes);
   honest : g.B.Books.is_honest l.office.books → g.B.Books.is_honest l.fn.office.books;
   stalls : g.O.Outlet.failures l.outlet ≡ g.O.Outlet.failures l.fn.outlet;
 }

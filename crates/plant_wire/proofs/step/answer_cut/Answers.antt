@@ -15,7 +15,8 @@ returns-in-More-clause-does g c bytes front waits = record {
 
 pub returns-in-Fault-clause-does : goal.returns-in-Fault-clause-does
 returns-in-Fault-clause-does g c bytes front waits =
-    part_none bytes (g.O.Outlet.written c.args.outlet.now) (ran_none (books_state g.B.Books c.args.office.now.books) (g.B.Books.stores c.args.office.now.books))
+    part_none bytes (g.O.Outlet.written c.args.outlet.now)
+        (ran_none (books_state g.B.Books c.args.office.now.books) (g.B.Books.stores c.args.office.now.books))
 
 pub returns-in-Ok-clause-does : goal.returns-in-Ok-clause-does
 returns-in-Ok-clause-does g c bytes front waits = record {
@@ -27,7 +28,8 @@ returns-in-Ok-clause-does g c bytes front waits = record {
 
 pub returns-in-Err-clause-does : goal.returns-in-Err-clause-does
 returns-in-Err-clause-does g c bytes front waits =
-    part_broken bytes _ _ _ c.in-Err.ensures.does.0 _ (rw c.in-Broken.is at front) c.in-Err.ensures.does.1 (ran_none (books_state g.B.Books c.args.office.now.books) (g.B.Books.stores c.args.office.now.books))
+    part_broken bytes _ _ _ c.in-Err.ensures.does.0 _ (rw c.in-Broken.is at front) c.in-Err.ensures.does.1
+        (ran_none (books_state g.B.Books c.args.office.now.books) (g.B.Books.stores c.args.office.now.books))
 
 pub returns-in-Ok-put_cause-clause-does : goal.returns-in-Ok-put_cause-clause-does
 returns-in-Ok-put_cause-clause-does g c bytes front waits = (
@@ -43,8 +45,10 @@ returns-in-Ok-put_cause-clause-does g c bytes front waits = (
 
 pub returns-in-Err-put_cause-clause-does : goal.returns-in-Err-put_cause-clause-does
 returns-in-Err-put_cause-clause-does g c bytes front waits =
-    part_one bytes _ _ (malformed c.in-Malformed.cause) _ c.in-Err-put_cause.ensures.does.0 _ (rw c.in-Malformed.is at front) c.in-Err-put_cause.ensures.does.1
-    (ran_none (books_state g.B.Books c.args.office.now.books) (g.B.Books.stores c.args.office.now.books)) (stops_for (begun (malformed c.in-Malformed.cause)) _ tt)
+    part_one bytes _ _ (malformed c.in-Malformed.cause) _ c.in-Err-put_cause.ensures.does.0 _ (rw c.in-Malformed.is at front)
+        c.in-Err-put_cause.ensures.does.1
+    (ran_none (books_state g.B.Books c.args.office.now.books) (g.B.Books.stores c.args.office.now.books))
+    (stops_for (begun (malformed c.in-Malformed.cause)) _ tt)
 
 pub returns-in-Ok-answer_call-clause-does : goal.returns-in-Ok-answer_call-clause-does
 returns-in-Ok-answer_call-clause-does g c bytes front waits = (

@@ -14,7 +14,9 @@ returns-in-Some g c = record {
           copied = λ honest. c.take.ensures.rest (get m.units) (get m.units) (λ _ _. refl) (h.copied (c.events.ensures.honest honest));
         })
         (λ honest.
-        let copy = taken_there u (get m.units) c.args.self.now.copies.units.entries (c.in-Some.field-0-0, c.in-Some.copy) (h.copied (c.events.ensures.honest honest)) c.in-Some.ensures.taken in
+        let copy =
+            taken_there u (get m.units) c.args.self.now.copies.units.entries (c.in-Some.field-0-0, c.in-Some.copy)
+            (h.copied (c.events.ensures.honest honest)) c.in-Some.ensures.taken in
         ap (option_map (seen true)) (seen_with_events c.in-Some.copy.has_events (get m.units u) rows copy.1.same)
         ∙ ap (λ es. Some (record rows { events = es })) (sym (c.in_ok-events.ensures.found m h.held honest)));
     honest = search rules;

@@ -10,7 +10,9 @@ returns-then-seconds g c =
     record {
       serves = serves_same (λ m k w legal h honest.
           leaves w call _ m (g.B.Books.represents c.mine_units.new.self) legal c.note_matrix.ensures
-          (behind_units m w call c.in_ok-units.units c.latest-last.result h (ap unit_named c.requires) (c.in_ok-units.ensures.found m k honest) (c.latest-last.ensures ∙ ap (λ xs. fold max c.args.call.now.moment (map (λ (u : MineUnit). u.last) xs)) c.as_slice.ensures) (omega (arith, c.seconds.ensures.value, c.seconds-2.ensures.value, c.if-seconds.true)))
+          (behind_units m w call c.in_ok-units.units c.latest-last.result h (ap unit_named c.requires) (c.in_ok-units.ensures.found m k honest)
+          (c.latest-last.ensures ∙ ap (λ xs. fold max c.args.call.now.moment (map (λ (u : MineUnit). u.last) xs)) c.as_slice.ensures)
+          (omega (arith, c.seconds.ensures.value, c.seconds-2.ensures.value, c.if-seconds.true)))
           (c.mine_units.ensures.same m k))
           c.mine_units.ensures.honest c.mine_units.ensures.same c.in_ok-units.ensures.count tt c.mine_units.ensures.crash;
     }
@@ -24,7 +26,13 @@ returns g c =
           let early = c.mine_shelves.ensures.honest honest in
           let lines = c.in_ok-lines.ensures.value ∙ ap (filter_map (line_of_shelf c.args.call.now.moment)) c.as_slice-2.ensures in
           leaves w call _ m (g.B.Books.represents c.mine_shelves.new.self) legal c.note_matrix.ensures
-          (told_shelves m w call c.in_ok-units.units c.latest-last.result c.in_ok-shelves.shelves c.in_ok-lines.lines c.in_ok-person.person h c.requires (c.in_ok-units.ensures.found m k early) (c.latest-last.ensures ∙ ap (λ xs. fold max c.args.call.now.moment (map (λ (u : MineUnit). u.last) xs)) c.as_slice.ensures) (c.in_ok-shelves.ensures.found m mid honest) lines (omega (arith, c.seconds.ensures.value, c.seconds-2.ensures.value, c.if-seconds.false)) c.in_ok-person.ensures.value)
+          (told_shelves m w call c.in_ok-units.units c.latest-last.result c.in_ok-shelves.shelves c.in_ok-lines.lines c.in_ok-person.person h
+          c.requires (c.in_ok-units.ensures.found m k early)
+          (c.latest-last.ensures ∙ ap (λ xs. fold max c.args.call.now.moment (map (λ (u : MineUnit). u.last) xs)) c.as_slice.ensures)
+          (c.in_ok-shelves.ensures.found m mid honest) lines (omega (arith, c.seconds.ensures.value, c.seconds-2.ensures.value, c.if-seconds.false))
+          c.in_ok-person.ensures.value)
           (c.mine_shelves.ensures.same m mid))
-          (λ honest. c.mine_units.ensures.honest (c.mine_shelves.ensures.honest honest)) (λ m k. c.mine_shelves.ensures.same m (c.mine_units.ensures.same m k)) (c.in_ok-shelves.ensures.count ∙ c.in_ok-units.ensures.count) (ap is_read c.requires) (loses_then g.B.Books c.mine_units.ensures.crash c.mine_shelves.ensures.crash);
+          (λ honest. c.mine_units.ensures.honest (c.mine_shelves.ensures.honest honest))
+          (λ m k. c.mine_shelves.ensures.same m (c.mine_units.ensures.same m k)) (c.in_ok-shelves.ensures.count ∙ c.in_ok-units.ensures.count)
+          (ap is_read c.requires) (loses_then g.B.Books c.mine_units.ensures.crash c.mine_shelves.ensures.crash);
     }

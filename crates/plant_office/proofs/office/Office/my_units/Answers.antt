@@ -10,7 +10,9 @@ returns-then-seconds g c =
     record {
       serves = serves_same (λ m k w legal h honest.
           leaves w call _ m (g.B.Books.represents c.mine_units.new.self) legal c.note_matrix.ensures
-          (behind_units m w call c.in_ok-units.units c.latest-last.result h (ap unit_named c.requires) (c.in_ok-units.ensures.found m k honest) (c.latest-last.ensures ∙ ap (λ xs. fold max c.args.call.now.moment (map (λ (u : MineUnit). u.last) xs)) c.as_slice.ensures) (omega (arith, c.seconds.ensures.value, c.seconds-2.ensures.value, c.if-seconds.true)))
+          (behind_units m w call c.in_ok-units.units c.latest-last.result h (ap unit_named c.requires) (c.in_ok-units.ensures.found m k honest)
+          (c.latest-last.ensures ∙ ap (λ xs. fold max c.args.call.now.moment (map (λ (u : MineUnit). u.last) xs)) c.as_slice.ensures)
+          (omega (arith, c.seconds.ensures.value, c.seconds-2.ensures.value, c.if-seconds.true)))
           (c.mine_units.ensures.same m k))
           c.mine_units.ensures.honest c.mine_units.ensures.same c.in_ok-units.ensures.count tt c.mine_units.ensures.crash;
     }
@@ -21,7 +23,10 @@ returns-in_ok-lines g c =
     record {
       serves = serves_same (λ m k w legal h honest.
           leaves w call _ m (g.B.Books.represents c.mine_units.new.self) legal c.note_matrix.ensures
-          (told_units m w call c.in_ok-units.units c.latest-last.result c.in_ok-lines.field-0 h c.requires (c.in_ok-units.ensures.found m k honest) (c.latest-last.ensures ∙ ap (λ xs. fold max c.args.call.now.moment (map (λ (u : MineUnit). u.last) xs)) c.as_slice.ensures) c.in_ok-lines.ensures.value (omega (arith, c.seconds.ensures.value, c.seconds-2.ensures.value, c.if-seconds.false)))
+          (told_units m w call c.in_ok-units.units c.latest-last.result c.in_ok-lines.field-0 h c.requires (c.in_ok-units.ensures.found m k honest)
+          (c.latest-last.ensures
+          ∙ ap (λ xs. fold max c.args.call.now.moment (map (λ (u : MineUnit). u.last) xs)) c.as_slice.ensures) c.in_ok-lines.ensures.value
+          (omega (arith, c.seconds.ensures.value, c.seconds-2.ensures.value, c.if-seconds.false)))
           (c.mine_units.ensures.same m k))
           c.mine_units.ensures.honest c.mine_units.ensures.same c.in_ok-units.ensures.count (ap is_read c.requires) c.mine_units.ensures.crash;
     }

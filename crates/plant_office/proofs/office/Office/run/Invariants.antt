@@ -11,8 +11,10 @@ invariant-loop-call g l =
     let stores = g.B.Books.stores in
     record {
       honest : is_honest l.self.books → is_honest l.fn.self.books;
-      ran : (m : Content) → represents l.fn.self.books m → (w : World) → IsLegalWorld w → Holds m w → is_honest l.self.books → IsRun w (take l.call-index l.calls) l.answers.items (represents l.self.books);
-      unchanged : (m : Content) → represents l.fn.self.books m → AllChangeNothing (take l.call-index l.calls) l.answers.items → represents l.self.books m;
+      ran : (m : Content) → represents l.fn.self.books m → (w : World) → IsLegalWorld w → Holds m w → is_honest l.self.books
+          → IsRun w (take l.call-index l.calls) l.answers.items (represents l.self.books);
+      unchanged : (m : Content) → represents l.fn.self.books m → AllChangeNothing (take l.call-index l.calls) l.answers.items
+          → represents l.self.books m;
       kept : EachKeepsUnchanged represents (take l.call-index l.calls) l.answers.items l.fn.self.books l.self.books;
       endures : EnduresAll (books_state g.B.Books l.fn.self.books) (books_state g.B.Books l.self.books) (take l.call-index l.calls) l.answers.items;
       long : length l.answers.items ≡ l.call-index;
