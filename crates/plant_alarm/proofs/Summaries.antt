@@ -3,9 +3,9 @@ use Rattle.std.{specs.List.{list_any, after_first, after_last}, proofs.{lemmas.{
 use Rattle.std.proofs.Common.{arith, ◌≡◌, ℕ, refl, ap, ◌∙◌, List, [], ◌∷◌, ◌++◌, Some, None, Option, Bool, true, false, cond, ◌&&◌, ◌||◌, not}
 use Rattle.plant_alarm.specs.declared.event.{Event.{Event}, EventKind.{EventKind, TheVariants.{Act, Rtn, Ack, Reset}}}
 use Rattle.plant_alarm.specs.declared.summary.AlarmState.{AlarmState, TheVariants.{Normal, Unacknowledged}}
-use Rattle.plant_alarm.specs.{declared.summary.Summary.{Summary}, Step.{next, next_at, is_active_state, acknowledged, reset, returned}}
+use Rattle.plant_alarm.specs.{declared.summary.Summary.{Summary}, Step.{next_summary, next_summary_at, is_active_state, acknowledged, reset, after_return}}
 use Rattle.plant_alarm.specs.States.{is_act, is_rtn, is_ack, is_reset, is_sup, is_unsup, is_active, is_unacknowledged, is_latched, is_suppressed}
-use Rattle.plant_alarm.specs.States.{state_named, state_of, is_return, is_activation, returns, activations, last_moment, last_return, active_since}
+use Rattle.plant_alarm.specs.States.{state_named, state_of, is_return, is_activation, returns, activations, moment_of_last, last_return, active_since}
 use Rattle.plant_alarm.specs.States.{summary}
 use Rattle.plant_alarm.proofs.public.Push.{by_last, last_that-push, list_any-push, passing-push, last_moment-push, after_last-yes, after_last-no}
 use Rattle.plant_alarm.proofs.public.Push.{after_first-some, after_first-none}
@@ -65,7 +65,7 @@ acts : (l h : Bool) → state_by l true (h || true) false false ≡ Unacknowledg
 acts l h = grind arith
 
 abbrev Returns : Bool → Bool → Bool → Bool → Bool → Bool → Type 0
-Returns l k a h r s = state_by l false (h || false) (k || false) (cond r (s || false) false) ≡ returned l (state_by l a h k s)
+Returns l k a h r s = state_by l false (h || false) (k || false) (cond r (s || false) false) ≡ after_return l (state_by l a h k s)
 
 abbrev Acknowledges : Bool → Bool → Bool → Bool → Bool → Bool → Type 0
 Acknowledges l k a h r s = state_by l a (h || false) (k || true) (cond r (s || false) false) ≡ acknowledged (state_by l a h k s)
@@ -145,14 +145,27 @@ state-push l es e p q r t = rw (p, q, r, t) refl
 act_since : (l : Bool) (es : List Event) (e : Event) → is_act e ≡ true
     → active_since (es ++ e ∷ []) ≡ cond (is_active_state (state_of l es)) (active_since es) (Some e.moment)
 act_since l es e y =
-    grind (arith, active-push es e, passing-push is_activation [] es e, append-nil (activations es), last_moment-push (activations es) e, active_state
-        (is_active es) (is_latched l es) (is_unacknowledged es))
+    grind (
+      arith,
+      active-push es e,
+      passing-push is_activation [] es e,
+      append-nil (activations es),
+      last_moment-push (activations es) e,
+      active_state
+          (is_active es) (is_latched l es) (is_unacknowledged es),
+    )
 
 rtn_return : (l : Bool) (es : List Event) (e : Event) → is_rtn e ≡ true
     → last_return (es ++ e ∷ []) ≡ cond (is_active_state (state_of l es)) (Some e.moment) (last_return es)
 rtn_return l es e y =
-    grind (arith, passing-push is_return [] es e, append-nil (returns es), last_moment-push (returns es) e, active_state (is_active es)
-        (is_latched l es) (is_unacknowledged es))
+    grind (
+      arith,
+      passing-push is_return [] es e,
+      append-nil (returns es),
+      last_moment-push (returns es) e,
+      active_state (is_active es)
+          (is_latched l es) (is_unacknowledged es),
+    )
 
 -- an event that is neither: the moments stay
 quiet : (l : Bool) (es : List Event) (e : Event) (state : AlarmState) (suppressed : Bool) → (is_act e || is_rtn e) ≡ false → is_act e ≡ false
@@ -162,33 +175,33 @@ unfolding summary
 quiet l es e state suppressed neither act rtn s p = λ i. the_summary (s i) (p i) (same_active_since es e neither act i) (same_last_return es e rtn i)
 
 the_next : (l : Bool) (n t : ℕ) (tag : List ℕ) (kind : EventKind) (es : List Event)
-    → summary l (es ++ ev n t tag kind ∷ []) ≡ next_at kind l t (summary l es)
+    → summary l (es ++ ev n t tag kind ∷ []) ≡ next_summary_at kind l t (summary l es)
 unfolding summary
 the_next l n t tag Act es =
     let e = ev n t tag Act in
     let state = state-push l es e (active-push es e) (list_any-push is_act es e) (since-yes is_ack es e refl) (reset-yes es e refl)
-        ∙ acts l (had_act es) in
+    ∙ acts l (had_act es) in
     λ i. the_summary (state i) (suppressed-push es e i) (act_since l es e refl i) (same_last_return es e refl i)
 the_next l n t tag Rtn es =
     let e = ev n t tag Rtn in
     let state = state-push l es e (active-push es e) (list_any-push is_act es e) (since-no is_ack es e refl) (reset-no es e refl)
-        ∙ returns_state l _ _ _ _ _ (all_fit es) in
-    λ i. the_summary (state i) (suppressed-push es e i) (cond (active-push es e i) (last_moment (activations (es ++ e ∷ []))) None)
-        (rtn_return l es e refl i)
+    ∙ returns_state l _ _ _ _ _ (all_fit es) in
+    λ i. the_summary (state i) (suppressed-push es e i) (cond (active-push es e i) (moment_of_last (activations (es ++ e ∷ []))) None)
+    (rtn_return l es e refl i)
 the_next l n t tag Ack es =
     let e = ev n t tag Ack in
     quiet l es e _ _ refl refl refl (state-push l es e (active-push es e) (list_any-push is_act es e) (since-no is_ack es e refl) (reset-no es e refl)
-        ∙ acknowledges_state l _ _ _ _ _ (all_fit es)) (suppressed-push es e)
+    ∙ acknowledges_state l _ _ _ _ _ (all_fit es)) (suppressed-push es e)
 the_next l n t tag Reset es =
     let e = ev n t tag Reset in
     quiet l es e _ _ refl refl refl (state-push l es e (active-push es e) (list_any-push is_act es e) (since-no is_ack es e refl) (reset-no es e refl)
-        ∙ resets_state l _ _ _ _ _ (all_fit es)) (suppressed-push es e)
+    ∙ resets_state l _ _ _ _ _ (all_fit es)) (suppressed-push es e)
 the_next l n t tag kind es =
     let e = ev n t tag kind in
     quiet l es e _ _ refl refl refl (state-push l es e (active-push es e) (list_any-push is_act es e) (since-no is_ack es e refl) (reset-no es e refl)
-        ∙ keeps_state l _ _ _ _ _ (all_fit es)) (suppressed-push es e)
+    ∙ keeps_state l _ _ _ _ _ (all_fit es)) (suppressed-push es e)
 
-pub summary-push : (l : Bool) (es : List Event) (e : Event) → summary l (es ++ e ∷ []) ≡ next l (summary l es) e
+pub summary-push : (l : Bool) (es : List Event) (e : Event) → summary l (es ++ e ∷ []) ≡ next_summary l (summary l es) e
 summary-push l es e = the_next l e.seq e.moment e.tag e.kind es
 
 pub summary-none : (l : Bool) → summary l [] ≡ record { state = Normal; suppressed = false; active_since = None; last_return = None }

@@ -20,6 +20,6 @@ pub adds_joined : {V E A : Type 0} (c : ℕ) (f : A → List ℕ) (xs : List A) 
     → Adds r between after (flat_map (λ x. c ∷ f x) (take (length xs - 1) (drop 1 xs))) → Adds r before after (join_with_byte c (map f xs))
 adds_joined c f xs x (Ok v) before between after some is first others =
     others ∙ ap (λ (t : List ℕ). t ++ flat_map (λ x. c ∷ f x) (take (length xs - 1) (drop 1 xs))) first
-        ∙ append_assoc before (f x) (flat_map (λ x. c ∷ f x) (take (length xs - 1) (drop 1 xs)))
-        ∙ ap (λ (t : List ℕ). before ++ t) (sym (joined_from c f xs x some is))
+    ∙ append_assoc before (f x) (flat_map (λ x. c ∷ f x) (take (length xs - 1) (drop 1 xs)))
+    ∙ ap (λ (t : List ℕ). before ++ t) (sym (joined_from c f xs x some is))
 adds_joined c f xs x (Err e) before between after some is first others = tt

@@ -69,7 +69,7 @@ reply_body (reply.Floods unit begin until lines) = flood_text unit begin until l
 reply_body (reply.Mine person at lines) = mine_text person at lines
 
 -- the bytes of an answer
-abbrev pub text_of : Answer → List ℕ
-text_of (answer.Reply r) = response 200 (reply_media r) (reply_body r)
-text_of (answer.Refused r) = response (refusal_status r) Json (refusal_body r)
-text_of (answer.Fault f) = response 503 Json (fault_body f)
+abbrev pub answer_bytes : Answer → List ℕ
+answer_bytes (answer.Reply r) = response 200 (reply_media r) (reply_body r)
+answer_bytes (answer.Refused r) = response (refusal_status r) Json (refusal_body r)
+answer_bytes (answer.Fault f) = response 503 Json (fault_body f)

@@ -11,7 +11,7 @@ use Rattle.plant_model.specs.declared.reply.Refused.TheVariants.{RangeNotAligned
 use Rattle.plant_model.specs.declared.reply.{StatusRow.{StatusRow}, UnitLine.{UnitLine}}
 use Rattle.plant_report.specs.{Moments.{moment_text}, Texts.{state_name}}
 use Rattle.plant_answer.specs.Json.{quoted, truth, listed}
-use Rattle.plant_answer.specs.Names.{role_name, shelf_name, shelf_left, full_name, file_cause_name, fault_name, change_state_name, refusal_label}
+use Rattle.plant_answer.specs.Names.{role_name, shelf_name, seconds_left, full_name, file_cause_name, fault_name, change_state_name, refusal_label}
 
 abbrev pub done_body : List ℕ
 done_body = codes "{\"done\":true}"
@@ -31,7 +31,7 @@ status_body s =
     ++ codes ",\"limit_revision\":" ++ decimal s.limit_revision
     ++ codes ",\"out_of_service\":" ++ truth s.out_of_service
     ++ codes ",\"shelf\":" ++ quoted (shelf_name s.shelf)
-    ++ codes ",\"shelf_left\":" ++ decimal (shelf_left s.shelf)
+    ++ codes ",\"seconds_left\":" ++ decimal (seconds_left s.shelf)
     ++ codes ",\"state\":" ++ quoted (state_name s.state)
     ++ codes ",\"suppressed\":" ++ truth s.suppressed
     ++ codes ",\"suppressed_or_shelved\":" ++ truth s.suppressed_or_shelved

@@ -52,10 +52,10 @@ content_object (Matrix matrix) = matrix_object matrix
 content_object (Limit tag max) = limit_object max
 
 -- the alarm that the change is of; a change of a matrix is of none
-abbrev pub tag_of : ChangeKind → Option (List ℕ)
-tag_of (Rationale tag sheet) = Some tag
-tag_of (Matrix matrix) = None
-tag_of (Limit tag max) = Some tag
+abbrev pub changed_tag : ChangeKind → Option (List ℕ)
+changed_tag (Rationale tag sheet) = Some tag
+changed_tag (Matrix matrix) = None
+changed_tag (Limit tag max) = Some tag
 
 -- a change
 unfoldable pub change_body : ChangeRow → List ℕ
@@ -69,5 +69,5 @@ change_body c =
     ++ codes ",\"proposed\":" ++ quoted (moment_text c.proposed)
     ++ codes ",\"proposer\":" ++ quoted c.proposer
     ++ codes ",\"state\":" ++ quoted (change_state_name c.state)
-    ++ codes ",\"tag\":" ++ quoted_or_null (tag_of c.kind)
+    ++ codes ",\"tag\":" ++ quoted_or_null (changed_tag c.kind)
     ++ codes "}"

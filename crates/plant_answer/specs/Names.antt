@@ -27,10 +27,10 @@ shelf_name (TimedShelved seconds) = codes "TimedShelved"
 shelf_name (OneShotShelved seconds) = codes "OneShotShelved"
 
 -- the seconds that are left of a shelf
-abbrev pub shelf_left : ShelfState → ℕ
-shelf_left Unshelved = 0
-shelf_left (TimedShelved seconds) = seconds
-shelf_left (OneShotShelved seconds) = seconds
+abbrev pub seconds_left : ShelfState → ℕ
+seconds_left Unshelved = 0
+seconds_left (TimedShelved seconds) = seconds
+seconds_left (OneShotShelved seconds) = seconds
 
 -- what a unit has no room for
 abbrev pub full_name : Full → List ℕ

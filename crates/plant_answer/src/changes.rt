@@ -1,7 +1,7 @@
 ghost use Rattle.std.specs.Prelude.{◌≡◌, ◌++◌, codes, map, option_map, IfOk};
 ghost use Rattle.plant_types.specs.{Adding.{Adds}, Results.{OnlyMemory}};
 ghost use Rattle.plant_report.specs.Moments.{moment_text};
-ghost use Rattle.plant_answer.specs.Changes.{sheet_object, row_list, matrix_object, limit_object, content_object, tag_of};
+ghost use Rattle.plant_answer.specs.Changes.{sheet_object, row_list, matrix_object, limit_object, content_object, changed_tag};
 ghost use Rattle.plant_answer.specs.Json.{listed, quoted, quoted_or_null};
 ghost use Rattle.plant_report.specs.Texts as texts;
 ghost use Rattle.plant_answer.specs.Changes as spec;
@@ -108,8 +108,8 @@ fn push_content(out: &mut Vec<u8>, kind: &ChangeKind) -> Result<(), Fault>
 }
 
 /// The tag of the alarm that a change is of.
-fn tag_of(kind: &ChangeKind) -> Option<&[u8]>
-    ensures { option_map (λ t. t.now) result ≡ tag_of kind.now }
+fn changed_tag(kind: &ChangeKind) -> Option<&[u8]>
+    ensures { option_map (λ t. t.now) result ≡ changed_tag kind.now }
 {
     match kind {
         ChangeKind::Rationale(tag, _) => Some(tag.as_bytes()),
@@ -157,7 +157,7 @@ pub fn change_body(alloc: Global, row: &ChangeRow) -> Result<Vec<u8>, Fault>
     push_string(&mut out, b",\"proposed\":", &write_moment(row.proposed))?;
     push_string(&mut out, b",\"proposer\":", row.proposer.as_bytes())?;
     push_string(&mut out, b",\"state\":", change_state_name(row.state))?;
-    push_string_or_null(&mut out, b",\"tag\":", tag_of(&row.kind))?;
+    push_string_or_null(&mut out, b",\"tag\":", changed_tag(&row.kind))?;
     out.push(b'}')?;
     Ok(out)
 }

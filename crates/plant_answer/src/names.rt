@@ -34,7 +34,7 @@ pub fn shelf_name(shelf: ShelfState) -> &'static [u8]
 
 /// The seconds that are left of a shelf.
 pub fn shelf_left(shelf: ShelfState) -> u64
-    ensures { result ≡ spec.shelf_left shelf }
+    ensures { result ≡ spec.seconds_left shelf }
 {
     match shelf {
         ShelfState::Unshelved => 0,

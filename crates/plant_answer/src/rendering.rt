@@ -1,6 +1,6 @@
 ghost use Rattle.std.specs.Prelude.{◌≡◌, IfOk};
 ghost use Rattle.plant_types.specs.Results.{OnlyMemory};
-ghost use Rattle.plant_answer.specs.Answers.{text_of, reply_media, reply_body};
+ghost use Rattle.plant_answer.specs.Answers.{answer_bytes, reply_media, reply_body};
 ghost use Rattle.plant_answer.specs.Response as spec;
 
 use crate::bodies::{fault_body, imported_body, number_body, status_body, units_body};
@@ -59,7 +59,7 @@ fn reply_body(alloc: Global, reply: &Reply) -> Result<Vec<u8>, Fault>
 
 /// The bytes of an answer. A reply has status 200, a refusal 403 or 409, a fault 503.
 pub fn render(alloc: Global, answer: &Answer) -> Result<Vec<u8>, Fault>
-    ensures value { IfOk result (λ text. text.items ≡ text_of answer.now) }
+    ensures value { IfOk result (λ text. text.items ≡ answer_bytes answer.now) }
     ensures err { OnlyMemory result }
 {
     match answer {

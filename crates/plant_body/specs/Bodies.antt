@@ -2,7 +2,7 @@
 use Rattle.std.specs.Prelude.{ℕ, List, Result, Ok, Err, codes}
 use Rattle.serde_json.specs.Data.{Data}
 use Rattle.plant_ration.specs.{Grid.{Grid}, Matrix.{matrix_of}, declared.cell.{Cell.{Cell}, MatrixFault.{MatrixFault}}}
-use Rattle.plant_body.specs.Lists.{numbers_at, rows_at}
+use Rattle.plant_body.specs.Lists.{numbers_at, rows_from}
 use Rattle.plant_body.specs.Members.{value_of, or_body, ◌>>=◌, person_at, tag_at, words_at, seconds_at, truth_at, role_at, end_at, quota_at, tenure_of}
 use Rattle.plant_body.specs.declared.bodies.{Granting.{Granting}, Opening.{Opening}, Registration.{Registration}, TimedShelving.{TimedShelving}}
 use Rattle.plant_body.specs.declared.{bodies.Withdrawal.{Withdrawal}, members.Unfit.{Unfit, TheVariants.{Matrix}}}
@@ -20,7 +20,7 @@ unfoldable pub opening_in : Data → Result Opening Unfit
 opening_in d = do
   steward ← or_body (person_at (codes "steward") d)
   limits ← or_body (numbers_at (codes "bands") d)
-  rows ← or_body (rows_at (codes "cells") d)
+  rows ← or_body (rows_from (codes "cells") d)
   quota ← or_body (quota_at (codes "quota") d)
   matrix ← matrix_from limits rows
   Ok (record { steward = steward; matrix = matrix; quota = quota })

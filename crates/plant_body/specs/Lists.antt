@@ -2,7 +2,7 @@
 use Rattle.std.specs.Prelude.{ℕ, List, [], ◌∷◌, Option, Some, None, option_and_then, option_map, codes, if◌then◌else◌, bytes_eq}
 use Rattle.serde_json.specs.{Data.{Data, Items, no_items, item}, Find.{get, as_str, as_array}}
 use Rattle.plant_ration.specs.declared.cell.Cell.{Cell, TheVariants.{P1, P2, P3, P4, N}}
-use Rattle.plant_body.specs.Members.{number_of}
+use Rattle.plant_body.specs.Members.{whole_number}
 
 -- a first element before others
 abbrev pub before : {A : Type 0} → Option A → Option (List A) → Option (List A)
@@ -24,14 +24,14 @@ cell_named name =
     else if bytes_eq name (codes "N") then Some N
     else None
 
-abbrev pub cell_of : Data → Option Cell
-cell_of d = option_and_then cell_named (as_str d)
+abbrev pub cell_from : Data → Option Cell
+cell_from d = option_and_then cell_named (as_str d)
 
-abbrev pub row_of : Data → Option (List Cell)
-row_of d = option_and_then (all_of cell_of) (as_array d)
+abbrev pub row_from : Data → Option (List Cell)
+row_from d = option_and_then (all_of cell_from) (as_array d)
 
 abbrev pub numbers_at : List ℕ → Data → Option (List ℕ)
-numbers_at name d = option_and_then (all_of number_of) (option_and_then as_array (get name d))
+numbers_at name d = option_and_then (all_of whole_number) (option_and_then as_array (get name d))
 
-abbrev pub rows_at : List ℕ → Data → Option (List (List Cell))
-rows_at name d = option_and_then (all_of row_of) (option_and_then as_array (get name d))
+abbrev pub rows_from : List ℕ → Data → Option (List (List Cell))
+rows_from name d = option_and_then (all_of row_from) (option_and_then as_array (get name d))

@@ -12,11 +12,11 @@ abbrev pub value_of : List ℕ → Option Data
 value_of bytes = if is_utf8 bytes then read bytes else None
 
 -- a whole number below 2 ^ 64, written in digits alone
-abbrev pub number_of : Data → Option ℕ
-number_of d = option_and_then as_u64 (as_number d)
+abbrev pub whole_number : Data → Option ℕ
+whole_number d = option_and_then as_u64 (as_number d)
 
 abbrev pub number_at : List ℕ → Data → Option ℕ
-number_at name d = option_and_then number_of (get name d)
+number_at name d = option_and_then whole_number (get name d)
 
 -- a member that is a string
 abbrev pub string_at : List ℕ → Data → Option (List ℕ)
@@ -51,8 +51,8 @@ abbrev pub severity_at : List ℕ → Data → Option ℕ
 severity_at name d = option_and_then (λ n. number_if (nat_le 1 n && nat_le n 5) n) (number_at name d)
 
 -- the role of a name
-abbrev pub role_of : List ℕ → Option Role
-role_of name =
+abbrev pub role_named : List ℕ → Option Role
+role_named name =
     if bytes_eq name (codes "Viewer") then Some Viewer
     else if bytes_eq name (codes "Operator") then Some Operator
     else if bytes_eq name (codes "Maintainer") then Some Maintainer
@@ -62,12 +62,12 @@ role_of name =
     else None
 
 abbrev pub role_at : List ℕ → Data → Option Role
-role_at name d = option_and_then role_of (string_at name d)
+role_at name d = option_and_then role_named (string_at name d)
 
 -- a quota: default 2000
 abbrev pub quota_in : Option Data → Option ℕ
 quota_in None = Some max_quota
-quota_in (Some d) = option_and_then (λ n. number_if (is_quota n) n) (number_of d)
+quota_in (Some d) = option_and_then (λ n. number_if (is_quota n) n) (whole_number d)
 
 abbrev pub quota_at : List ℕ → Data → Option ℕ
 quota_at name d = quota_in (get name d)

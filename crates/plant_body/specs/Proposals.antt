@@ -2,7 +2,7 @@
 use Rattle.std.specs.Prelude.{ℕ, List, Result, Ok, Err, codes, if◌then◌else◌, bytes_eq}
 use Rattle.serde_json.specs.Data.{Data}
 use Rattle.plant_ration.specs.declared.change.{ChangeKind.{ChangeKind, TheVariants.{Rationale, Matrix, Limit}}, Proposal.{Proposal}, Sheet.{Sheet}}
-use Rattle.plant_body.specs.{Bodies.{matrix_from}, Lists.{numbers_at, rows_at}}
+use Rattle.plant_body.specs.{Bodies.{matrix_from}, Lists.{numbers_at, rows_from}}
 use Rattle.plant_body.specs.{Members.{or_body, ◌>>=◌, string_at, tag_at, words_at, seconds_at, base_at, severity_at}, declared.members.Unfit.{Unfit}}
 use Rattle.plant_body.specs.declared.members.Unfit.TheVariants.{Body}
 
@@ -27,7 +27,7 @@ record_in d = do
 unfoldable pub matrix_in : Data → Result ChangeKind Unfit
 matrix_in d = do
   limits ← or_body (numbers_at (codes "bands") d)
-  rows ← or_body (rows_at (codes "cells") d)
+  rows ← or_body (rows_from (codes "cells") d)
   matrix ← matrix_from limits rows
   Ok (Matrix matrix)
 

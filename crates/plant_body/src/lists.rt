@@ -1,9 +1,9 @@
 ghost use Rattle.std.specs.Prelude.{◌≡◌, map};
 ghost use Rattle.serde_json.specs.View.{view, items_view};
-ghost use Rattle.plant_body.specs.{Lists.{all_of, cell_of, row_of, numbers_at, rows_at}, Members.{ReadsAsSeen, or_body, number_of}};
+ghost use Rattle.plant_body.specs.{Lists.{all_of, cell_from, row_from, numbers_at, rows_from}, Members.{ReadsAsSeen, or_body, whole_number}};
 ghost use Rattle.plant_body.specs.Lists as spec;
 
-use crate::members::{BodyError, Unfit, number_of};
+use crate::members::{BodyError, Unfit, whole_number};
 use plant_ration::Cell;
 use serde_json::Value;
 use std::alloc::Global;
@@ -28,18 +28,18 @@ fn cell_named(name: &str) -> Option<Cell>
     }
 }
 
-fn cell_of(value: &Value) -> Option<Cell>
-    ensures { result ≡ cell_of (view value.now) }
+fn cell_from(value: &Value) -> Option<Cell>
+    ensures { result ≡ cell_from (view value.now) }
 {
     value.as_str().and_then(cell_named)
 }
 
 fn all_numbers(alloc: Global, items: &[Value]) -> Result<Vec<u64>, BodyError>
-    ensures { ReadsAsSeen (λ v. v.items) result (or_body (all_of number_of (items_view items.now))) }
+    ensures { ReadsAsSeen (λ v. v.items) result (or_body (all_of whole_number (items_view items.now))) }
 {
     let mut numbers = Vec::new(alloc);
     for item in items {
-        match number_of(item) {
+        match whole_number(item) {
             Some(number) => numbers.push(number)?,
             None => return Err(BAD),
         }
@@ -48,11 +48,11 @@ fn all_numbers(alloc: Global, items: &[Value]) -> Result<Vec<u64>, BodyError>
 }
 
 fn all_cells(alloc: Global, items: &[Value]) -> Result<Vec<Cell>, BodyError>
-    ensures { ReadsAsSeen (λ v. v.items) result (or_body (all_of cell_of (items_view items.now))) }
+    ensures { ReadsAsSeen (λ v. v.items) result (or_body (all_of cell_from (items_view items.now))) }
 {
     let mut cells = Vec::new(alloc);
     for item in items {
-        match cell_of(item) {
+        match cell_from(item) {
             Some(cell) => cells.push(cell)?,
             None => return Err(BAD),
         }
@@ -60,19 +60,19 @@ fn all_cells(alloc: Global, items: &[Value]) -> Result<Vec<Cell>, BodyError>
     Ok(cells)
 }
 
-fn row_of(alloc: Global, value: &Value) -> Result<Vec<Cell>, BodyError>
-    ensures { ReadsAsSeen (λ v. v.items) result (or_body (row_of (view value.now))) }
+fn row_from(alloc: Global, value: &Value) -> Result<Vec<Cell>, BodyError>
+    ensures { ReadsAsSeen (λ v. v.items) result (or_body (row_from (view value.now))) }
 {
     all_cells(alloc, value.as_array().ok_or(BAD)?)
 }
 
 fn all_rows(alloc: Global, items: &[Value]) -> Result<Vec<Vec<Cell>>, BodyError>
     ensures { ReadsAsSeen (λ v. map (λ row. row.items) v.items) result
-        (or_body (all_of row_of (items_view items.now))) }
+        (or_body (all_of row_from (items_view items.now))) }
 {
     let mut rows = Vec::new(alloc);
     for item in items {
-        match row_of(alloc, item) {
+        match row_from(alloc, item) {
             Ok(row) => rows.push(row)?,
             Err(e) => return Err(e),
         }
@@ -90,7 +90,7 @@ pub(crate) fn numbers_in(alloc: Global, value: &Value, name: &str) -> Result<Vec
 /// A member that is a list of lists of cells.
 pub(crate) fn rows_in(alloc: Global, value: &Value, name: &str) -> Result<Vec<Vec<Cell>>, BodyError>
     ensures { ReadsAsSeen (λ v. map (λ row. row.items) v.items) result
-        (or_body (rows_at name.now (view value.now))) }
+        (or_body (rows_from name.now (view value.now))) }
 {
     all_rows(alloc, value.get(name).and_then(Value::as_array).ok_or(BAD)?)
 }

@@ -1,6 +1,6 @@
 ghost use Rattle.std.specs.Prelude.{◌≡◌, option_map};
 ghost use Rattle.serde_json.specs.View.{view};
-ghost use Rattle.plant_body.specs.Members.{ReadsAs, ReadsAsSeen, or_body, value_of, number_of, number_at, string_at, truth_at, text_at, seconds_at, base_at, severity_at, role_at, quota_at, end_at, tenure_of};
+ghost use Rattle.plant_body.specs.Members.{ReadsAs, ReadsAsSeen, or_body, value_of, whole_number, number_at, string_at, truth_at, text_at, seconds_at, base_at, severity_at, role_at, quota_at, end_at, tenure_of};
 ghost use Rattle.plant_body.specs.Members as spec;
 
 use plant_ration::MatrixFault;
@@ -79,8 +79,8 @@ pub(crate) fn value_in(alloc: Global, bytes: &[u8]) -> Result<Value, BodyError>
     }
 }
 
-pub(crate) fn number_of(value: &Value) -> Option<u64>
-    ensures { result ≡ number_of (view value.now) }
+pub(crate) fn whole_number(value: &Value) -> Option<u64>
+    ensures { result ≡ whole_number (view value.now) }
 {
     value.as_u64()
 }
@@ -140,8 +140,8 @@ pub(crate) fn severity_in(value: &Value, name: &str) -> Result<u8, BodyError>
     }
 }
 
-fn role_of(name: &str) -> Option<Role>
-    ensures { result ≡ spec.role_of name.now }
+fn role_named(name: &str) -> Option<Role>
+    ensures { result ≡ spec.role_named name.now }
 {
     if name == "Viewer" {
         Some(Role::Viewer)
@@ -163,7 +163,7 @@ fn role_of(name: &str) -> Option<Role>
 pub(crate) fn role_in(value: &Value, name: &str) -> Result<Role, BodyError>
     ensures { ReadsAs result (or_body (role_at name.now (view value.now))) }
 {
-    string_in(value, name).and_then(role_of).ok_or(BAD)
+    string_in(value, name).and_then(role_named).ok_or(BAD)
 }
 
 /// The quota: the greatest one where the member isn't there.
@@ -171,7 +171,7 @@ pub(crate) fn quota_in(value: &Value, name: &str) -> Result<Quota, BodyError>
     ensures { ReadsAs result (or_body (quota_at name.now (view value.now))) }
 {
     let given = match value.get(name) {
-        Some(quota) => number_of(quota),
+        Some(quota) => whole_number(quota),
         None => Some(MAX_QUOTA),
     };
     given.and_then(Quota::new).ok_or(BAD)

@@ -19,7 +19,7 @@ found_in : (u : Name) (opened : List OpenedUnit) → rows_at opened u ≡ found 
 found_in u [] = refl
 found_in u (o ∷ os) =
     elim (eq_by_cmp name_cmp u o.unit) as (λ b. option_map (λ o. o.rows) (cond b (Some o) (row_at name_cmp (λ o. o.unit) u os))
-        ≡ cond b (Some o.rows) (found name_cmp u (map entry os))) [
+    ≡ cond b (Some o.rows) (found name_cmp u (map entry os))) [
       | true ↦ refl
       | false ↦ found_in u os
     ]
@@ -32,8 +32,8 @@ put_entry : (o : OpenedUnit) (os : List OpenedUnit) → map entry (put_row unit_
 put_entry o [] = refl
 put_entry o (e ∷ es) =
     elim (name_cmp o.unit e.unit) as (λ v. name_cmp o.unit e.unit ≡ v
-        → map entry (by_order v (o ∷ e ∷ es) (o ∷ es) (e ∷ put_row unit_cmp (λ o. o) o es)) ≡ by_order v (entry o ∷ entry e ∷ map entry es)
-        ((e.unit, o.rows) ∷ map entry es) (entry e ∷ put name_cmp o.unit o.rows (map entry es))) [
+    → map entry (by_order v (o ∷ e ∷ es) (o ∷ es) (e ∷ put_row unit_cmp (λ o. o) o es)) ≡ by_order v (entry o ∷ entry e ∷ map entry es)
+    ((e.unit, o.rows) ∷ map entry es) (entry e ∷ put name_cmp o.unit o.rows (map entry es))) [
       | Less ↦ λ p. refl
       | Equal ↦ λ p. ap (λ (k : Name). let pair : Name × UnitRows = (k, o.rows) in pair ∷ map entry es) (same_names _ _ p)
       | Greater ↦ λ p. ap (λ xs. entry e ∷ xs) (put_entry o es)
@@ -74,9 +74,11 @@ found_past x r (e ∷ es) fs h a =
 
 are_found : (es : List (Name × UnitRows)) → T (is_sorted name_cmp es) → AreFound (λ q. found name_cmp q es) es
 are_found [] h = tt
-are_found (e ∷ es) h =
-    (ap (λ v. cond (is_eq v) (Some e.1) (found name_cmp e.0 es)) (tied_itself name_total e.0), found_past e.0 e.1 es es (first _ _ h)
-    (are_found es (second _ _ h)))
+are_found (e ∷ es) h = (
+  ap (λ v. cond (is_eq v) (Some e.1) (found name_cmp e.0 es)) (tied_itself name_total e.0),
+  found_past e.0 e.1 es es (first _ _ h)
+      (are_found es (second _ _ h)),
+)
 
 all_found : {A : Type 0} (f : Name → Option UnitRows → List A) (g : Name → Option UnitRows) (es : List (Name × UnitRows)) → AreFound g es
     → flat_map (λ u. f u (g u)) (map (λ e. e.0) es) ≡ flat_map (λ e. f e.0 (Some e.1)) es
@@ -123,8 +125,10 @@ pub made_listed : (r : Result (Unit {0}) Fault) (admin u : Name) (opened left : 
 made_listed (Ok x) admin u opened left m cs h is =
     let there = ap (λ o. changed_by cs (unwrap_or o no_rows)) (rows_listed admin u opened m h) in
     subst (λ os. IsListed admin os (after_changes m u cs)) (sym is)
-    (subst (λ (rows : UnitRows). IsListed admin (put_row unit_cmp (λ o. o) record { unit = u;
-    rows = rows } opened) (after_changes m u cs)) (sym there)
+    (subst (λ (rows : UnitRows). IsListed admin (put_row unit_cmp (λ o. o) record {
+      unit = u;
+      rows = rows;
+    } opened) (after_changes m u cs)) (sym there)
     (put_listed admin u (changed_by cs (rows_in m u)) opened m
     (changed_in_order cs (rows_in m u)
     (or_none_in_order (get m.units u) (subst (λ o. IfSome o AreInOrder) (rows_listed admin u opened m h) (rows_in_order u opened h.ordered)))) h))

@@ -3,7 +3,7 @@ use Rattle.std.specs.{BTreeSet.{UpdatesBy, contains}, Cmp.{ranked}, List.{AllByR
 use Rattle.std.proofs.Common.{List, [], ap, arith, false, refl, sym, true, ◌++◌, ◌∙◌, ◌∷◌, nat_cmp, Less, Bool, None, Option, Some, cond, filter, ℕ, ◌≡◌, ◌≤◌, ◌&&◌, ◌||◌, BTreeSet}
 use Rattle.std.proofs.lemmas.{Bool.{or_right}, List.Folds.{list_any-append}}
 use Rattle.plant_import.proofs.public.Placed.{AllBelow, other}
-use Rattle.plant_books.specs.Asking.{AreSources, is_number}
+use Rattle.plant_books.specs.Asking.{AreSources, is_asked_number}
 use Rattle.plant_model.specs.{Histories.{same_number}, Parts.{is_source}, declared.rows.{RecordEntry.{RecordEntry}, UnitRows.{UnitRows}}}
 use Rattle.plant_types.specs.Names.{Name}
 
@@ -66,17 +66,17 @@ pub with_first : (old new : BTreeSet ℕ) (m n : ℕ) (b one : Bool) → Updates
     → b ≡ true → contains nat_cmp new n ≡ (b && one)
 with_first old new m n b one put none is wants =
     put.0 n ∙ ap (λ ks. cond (same_number m n) true (list_any (λ k. same_number n k) ks)) none ∙ or_swap (same_number m n) false ∙ is
-        ∙ ap (λ c. c && one) (sym wants)
+    ∙ ap (λ c. c && one) (sym wants)
 
 pub without_first : (old : BTreeSet ℕ) (n : ℕ) (b one : Bool) → old.keys ≡ [] → b ≡ false → contains nat_cmp old n ≡ (b && one)
 without_first old n b one none leaves = ap (list_any (λ k. same_number n k)) none ∙ ap (λ c. c && one) (sym leaves)
 
 -- and the one that it names, if any
 pub with_named : (old new : BTreeSet ℕ) (m n : ℕ) (b : Bool) (named : Option ℕ) → UpdatesBy nat_cmp (nat_cmp m) old new true → named ≡ Some m
-    → contains nat_cmp old n ≡ b → contains nat_cmp new n ≡ (b || is_number named n)
+    → contains nat_cmp old n ≡ b → contains nat_cmp new n ≡ (b || is_asked_number named n)
 with_named old new m n b named put is was =
-    put.0 n ∙ ap (cond (same_number m n) true) was ∙ or_swap (same_number m n) b ∙ ap (λ o. b || is_number o n) (sym is)
+    put.0 n ∙ ap (cond (same_number m n) true) was ∙ or_swap (same_number m n) b ∙ ap (λ o. b || is_asked_number o n) (sym is)
 
 pub without_named : (old : BTreeSet ℕ) (n : ℕ) (b : Bool) (named : Option ℕ) → named ≡ None → contains nat_cmp old n ≡ b
-    → contains nat_cmp old n ≡ (b || is_number named n)
-without_named old n b named is was = was ∙ sym (or_none b) ∙ ap (λ o. b || is_number o n) (sym is)
+    → contains nat_cmp old n ≡ (b || is_asked_number named n)
+without_named old n b named is was = was ∙ sym (or_none b) ∙ ap (λ o. b || is_asked_number o n) (sym is)

@@ -34,7 +34,7 @@ module _ {X : Type 0} (key : X → Name) where
   none_goes (x ∷ rows) t (suc p) order h other =
       let low : name_cmp (key x) t ≡ Less = lesser (name_cmp (key x) t) (h.0 0 x (omega arith) (omega arith)) in
       ap (λ xs. x ∷ xs) (none_goes rows t p order.1 (later name_cmp key t x rows p h) other)
-          ∙ stays t x rows Greater (turned name_total (key x) t low) refl
+      ∙ stays t x rows Greater (turned name_total (key x) t low) refl
 
   pub one_goes : (rows : List X) (t : Name) (p : ℕ) → Ordered name_cmp key rows → Parts name_cmp key t rows p → (r : X) → slice_get rows p ≡ Some r
       → same_name (key r) t ≡ true → remove rows p ≡ remove_row name_cmp key t rows
@@ -44,8 +44,8 @@ module _ {X : Type 0} (key : X → Name) where
       let tied_to : name_cmp (key x) t ≡ Equal = tied (name_cmp (key x) t) true (ap (λ y. same_name (key y) t) first_is ∙ same) refl in
       let back_to : name_cmp t (key x) ≡ Equal = name_total.antisymm t (key x) ∙ ap ordering_reverse tied_to in
       all_stay t rows (subst (λ (n : Name). After name_cmp key n rows) (same_names (key x) t tied_to) order.0)
-          ∙ sym (ap (λ v. cond (not (is_eq v)) (x ∷ remove_row name_cmp key t rows) (remove_row name_cmp key t rows)) back_to)
+      ∙ sym (ap (λ v. cond (not (is_eq v)) (x ∷ remove_row name_cmp key t rows) (remove_row name_cmp key t rows)) back_to)
   one_goes (x ∷ rows) t (suc p) order h r there same =
       let low : name_cmp (key x) t ≡ Less = lesser (name_cmp (key x) t) (h.0 0 x (omega arith) (omega arith)) in
       ap (λ xs. x ∷ xs) (one_goes rows t p order.1 (later name_cmp key t x rows p h) r there same)
-          ∙ stays t x rows Greater (turned name_total (key x) t low) refl
+      ∙ stays t x rows Greater (turned name_total (key x) t low) refl

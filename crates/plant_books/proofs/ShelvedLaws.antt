@@ -18,7 +18,7 @@ not_its : (s : ShelfRow) (shelves : List ShelfRow) (alarms : List AlarmRow) → 
 not_its s shelves [] h = refl
 not_its s shelves (r ∷ alarms) h =
     ap (λ o. cond (is_eq o || has_shelf shelves r.tag) (r ∷ shelved (s ∷ shelves) alarms) (shelved (s ∷ shelves) alarms))
-        (turned name_total s.tag r.tag h.0)
+    (turned name_total s.tag r.tag h.0)
     ∙ ap (λ rest. cond (has_shelf shelves r.tag) (r ∷ rest) rest) (not_its s shelves alarms h.1)
 
 -- how the first alarm is found and taken, by how its tag compares with the first shelf's and whether another shelf is its own
@@ -42,7 +42,7 @@ first_shelved s shelves (r ∷ alarms) later order = by (first_shelved s shelves
   by rest Less e =
       let after : After name_cmp alarm_tag s.tag (r ∷ alarms) = (e, after_more name_cmp alarm_tag name_total s.tag r.tag alarms e order.0) in
       ap (λ o. option_to_list o ++ shelved shelves (r ∷ alarms)) (none_after name_cmp alarm_tag s.tag (r ∷ alarms) after)
-          ∙ sym (not_its s shelves (r ∷ alarms) after)
+      ∙ sym (not_its s shelves (r ∷ alarms) after)
   by rest Equal e =
       let same : s.tag ≡ r.tag = same_names s.tag r.tag e in
       let none : has_shelf shelves r.tag ≡ false = none_has r.tag shelves (subst (λ a. After name_cmp shelf_tag a shelves) same later) in
@@ -51,7 +51,7 @@ first_shelved s shelves (r ∷ alarms) later order = by (first_shelved s shelves
       ∙ sym (ap (λ o. chosen s shelves r alarms o (has_shelf shelves r.tag)) (name_total.antisymm r.tag s.tag ∙ ap ordering_reverse e))
   by rest Greater e =
       let none : has_shelf shelves r.tag ≡ false =
-          none_has r.tag shelves (after_more name_cmp shelf_tag name_total r.tag s.tag shelves (back name_total s.tag r.tag e) later) in
+      none_has r.tag shelves (after_more name_cmp shelf_tag name_total r.tag s.tag shelves (back name_total s.tag r.tag e) later) in
       (λ i. found s shelves r alarms (e i) (none i))
       ∙ rest
       ∙ sym (λ i. chosen s shelves r alarms (back name_total s.tag r.tag e i) (none i))
@@ -69,7 +69,7 @@ pub next_shelved : (shelves : List ShelfRow) (alarms : List AlarmRow) (i : ℕ) 
 next_shelved shelves alarms i s o so_far alarms_rise shelves_rise within is there so =
     let here : drop i shelves ≡ s ∷ drop (i + 1) shelves = drop_more shelves i s within ∙ ap (λ x. x ∷ drop (i + 1) shelves) (sym is) in
     let rest : Ordered name_cmp shelf_tag (s ∷ drop (i + 1) shelves) =
-        subst (λ (l : List ShelfRow). Ordered name_cmp shelf_tag l) here (dropped i shelves (ordered name_cmp shelf_tag shelves shelves_rise)) in
+    subst (λ (l : List ShelfRow). Ordered name_cmp shelf_tag l) here (dropped i shelves (ordered name_cmp shelf_tag shelves shelves_rise)) in
     append_assoc so_far (option_to_list o) (shelved (drop (i + 1) shelves) alarms)
     ∙ ap (λ x. so_far ++ (option_to_list x ++ shelved (drop (i + 1) shelves) alarms)) there
     ∙ ap (λ l. so_far ++ l) (first_shelved s (drop (i + 1) shelves) alarms rest.0 (ordered name_cmp alarm_tag alarms alarms_rise))

@@ -92,14 +92,14 @@ AreEventsWanted scope wanted = (rows : UnitRows) (es : List Event)
     → (selection_by rows scope).events es ≡ events_wanted wanted es
 
 -- the number is the one, if there is one
-abbrev pub is_number : Option ℕ → ℕ → Bool
-is_number None n = false
-is_number (Some m) n = same_number m n
+abbrev pub is_asked_number : Option ℕ → ℕ → Bool
+is_asked_number None n = false
+is_asked_number (Some m) n = same_number m n
 
 -- a scope takes in the matrix of its number, and if asked the one in force
 abbrev pub TakesMatrix : Scope → Bool → Type 0
 TakesMatrix scope asked = (rows : UnitRows) (n : ℕ)
-    → (selection_by rows scope).matrix n ≡ ((asked && is_in_force rows n) || is_number (number_named scope) n)
+    → (selection_by rows scope).matrix n ≡ ((asked && is_in_force rows n) || is_asked_number (number_named scope) n)
 
 -- of the rows of any unit these are the changes that the records came from, or none if not asked
 abbrev pub TakesSources : (UnitRows → Selection) → Bool → Type 0
@@ -110,7 +110,7 @@ TakesSources these asked = (rows : UnitRows) (n : ℕ)
 abbrev pub TakesChanges : Scope → Bool → Type 0
 TakesChanges scope asked = (rows : UnitRows) (n : ℕ)
     → (selection_by rows scope).change n
-    ≡ ((asked && is_source rows (selection_by rows scope).rationale n) || is_number (number_named scope) n)
+    ≡ ((asked && is_source rows (selection_by rows scope).rationale n) || is_asked_number (number_named scope) n)
 
 -- the set has the numbers of the changes that records of these tags came from
 abbrev pub AreSources : BTreeSet ℕ → (Name → Bool) → List RecordEntry → Type 0

@@ -3,7 +3,7 @@ use Rattle.std.specs.{FinMap.{FinMap, contains_key, empty, get, insert, keys}, L
 use Rattle.std.specs.Prelude.{flat_map, Bool, List, None, OnOk, Option, Result, Some, [], false, filter, filter_map, if◌then◌else◌, map, option_map, true, unwrap_or, ℕ, ◌++◌, ◌≡◌, ◌⊎◌}
 use Rattle.plant_alarm.specs.declared.event.Event.{Event}
 use Rattle.plant_books.specs.declared.books.{MineRow.{MineRow}, MineUnit.{MineUnit}}
-use Rattle.plant_model.specs.{Grants.{is_before}, Parts.{part_of}, RowChanges.{changed_by, no_rows, puts_unit}, RowFacts.{last_return, unit_read}}
+use Rattle.plant_model.specs.{Grants.{is_before}, Parts.{part_of}, RowChanges.{changed_by, no_rows, puts_unit}, RowFacts.{last_return_in, unit_read}}
 use Rattle.plant_model.specs.declared.{call.Call.{Call}, rows.{GrantRow.{GrantRow}, RowEdit.{RowEdit}, ShelfRow.{ShelfRow}, UnitPart.{UnitPart}}}
 use Rattle.plant_model.specs.declared.rows.UnitRows.{UnitRows}
 use Rattle.plant_types.specs.{Names.{Name, name_cmp, same_name}, Options.{when}, declared.role.Role.{Role}}
@@ -77,7 +77,7 @@ mine_units m t p = filter_map (λ u. mine_unit t p u (get m.units u)) (keys m.un
 
 -- a shelf of a unit, with the moment at which its alarm last returned to normal
 abbrev pub mine_row : Name → UnitRows → ShelfRow → MineRow
-mine_row u rows s = record { unit = u; shelf = s; last_return = last_return rows.alarms s.tag }
+mine_row u rows s = record { unit = u; shelf = s; last_return = last_return_in rows.alarms s.tag }
 
 -- the shelves of a unit are put at the end of others
 abbrev pub AddsShelves : {A E : Type 0} → Name → UnitRows → List MineRow → List MineRow → Result A E → Type 0

@@ -31,12 +31,12 @@ abbrev pub listed_shelves : List OpenedUnit → ℕ → Name → List MineRow
 listed_shelves opened t p = flat_map (λ o. shelves_mine t p o.unit (Some o.rows)) opened
 
 -- a unit after changes of its rows
-abbrev pub unit_after : List OpenedUnit → Name → List RowEdit → OpenedUnit
-unit_after opened u cs = record { unit = u; rows = changed_by cs (unwrap_or (rows_at opened u) no_rows) }
+abbrev pub opened_after : List OpenedUnit → Name → List RowEdit → OpenedUnit
+opened_after opened u cs = record { unit = u; rows = changed_by cs (unwrap_or (rows_at opened u) no_rows) }
 
 -- the list with this unit, which is put among the others if it was never opened
 abbrev pub listed_after : List OpenedUnit → Name → List RowEdit → List OpenedUnit
-listed_after opened u cs = put_row unit_cmp (λ o. o) (unit_after opened u cs) opened
+listed_after opened u cs = put_row unit_cmp (λ o. o) (opened_after opened u cs) opened
 
 -- the administrator is that of the content, and the units are its codes with their rows, in the order of codes; the rows of each
 -- are in the order of their keys

@@ -2,7 +2,7 @@
 
 ghost use Rattle.std.specs.Prelude.{◌≡◌, ◌||◌};
 ghost use Rattle.plant_books.specs.Asking.{AreAlarmsWanted, AreEventsWanted, AreWanted, HasTheirShelves, IsCrowdedWith, TakesChanges, TakesMatrix, TakesSources, is_wanted};
-ghost use Rattle.plant_model.specs.{Scopes.{of_change, selection_by}, declared.rows.UnitRows.{UnitRows}};
+ghost use Rattle.plant_model.specs.{Scopes.{of_entry, selection_by}, declared.rows.UnitRows.{UnitRows}};
 ghost use Rattle.plant_types.specs.{Names.{Name, same_name}, Roles.{Pair}};
 ghost use Rattle.plant_books.specs.Asking as asked;
 
@@ -79,7 +79,7 @@ fn wanted_in(tag: &Tag, crowded: bool) -> Wanted<'_>
 
 /// The alarms that a change is of.
 fn alarms_changed(change: &ChangeEntry) -> Wanted<'_>
-    ensures { AreWanted (λ rows. (of_change change.now rows).alarm) result }
+    ensures { AreWanted (λ rows. (of_entry change.now rows).alarm) result }
 {
     match (change.kind_no, &change.tag) {
         (ChangeTopic::Matrix, _) => Wanted::Nothing,
@@ -90,7 +90,7 @@ fn alarms_changed(change: &ChangeEntry) -> Wanted<'_>
 
 /// The records that a change is of.
 fn records_changed(change: &ChangeEntry) -> Wanted<'_>
-    ensures { AreWanted (λ rows. (of_change change.now rows).rationale) result }
+    ensures { AreWanted (λ rows. (of_entry change.now rows).rationale) result }
 {
     match (change.kind_no, &change.tag) {
         (ChangeTopic::Record | ChangeTopic::Limit, Some(tag)) => Wanted::One(tag),
@@ -100,7 +100,7 @@ fn records_changed(change: &ChangeEntry) -> Wanted<'_>
 
 /// Whether a change is of all records, and so of the changes that they came from.
 fn changes_sources(change: &ChangeEntry) -> bool
-    ensures { TakesSources (of_change change.now) result }
+    ensures { TakesSources (of_entry change.now) result }
 {
     match (change.kind_no, &change.tag) {
         (ChangeTopic::Matrix, _) | (ChangeTopic::Record | ChangeTopic::Limit, None) => true,

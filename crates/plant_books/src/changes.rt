@@ -8,7 +8,7 @@ use crate::keyed::{put, put_sorted};
 use crate::rows::compare_pair;
 use plant_import::put_events;
 use plant_model::{GrantRow, Key, Row, RowEdit, ShelfRow, UnitRow, UnitRows};
-use plant_types::{Duplicate, Fault, List, Person, Role, Tag};
+use plant_types::{Fault, List, Person, Role, Tag, TryCopy};
 use std::alloc::Global;
 
 /// The table of the one row.
@@ -83,7 +83,7 @@ fn after_change(alloc: Global, mut rows: UnitRows, change: &RowEdit) -> Result<U
 {
     match change {
         RowEdit::Put(row) => {
-            put_row(alloc, &mut rows, row.duplicate(alloc)?)?;
+            put_row(alloc, &mut rows, row.copy(alloc)?)?;
             Ok(rows)
         }
         RowEdit::PutEvents(events) => {

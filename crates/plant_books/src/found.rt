@@ -7,7 +7,7 @@ ghost use Rattle.plant_types.specs.Results.{Gives, OnlyMemory};
 
 use crate::asking::Wanted;
 use plant_model::{AlarmRow, ShelfRow, Tagged, place_of, row_of};
-use plant_types::{Duplicate, Fault, List, Tag};
+use plant_types::{Fault, List, Tag, TryCopy};
 use std::alloc::Global;
 
 /// Takes the row of the tag out, if there is one.
@@ -23,19 +23,19 @@ pub fn remove<T: Tagged>(rows: &mut List<T>, tag: &Tag)
 }
 
 /// A table of a copy of the row, if there is one.
-fn one_copy<T: Tagged + Duplicate>(alloc: Global, row: Option<&T>) -> Result<List<T>, Fault>
+fn one_copy<T: Tagged + TryCopy>(alloc: Global, row: Option<&T>) -> Result<List<T>, Fault>
     ensures value { IfOk result (λ rows. rows ≡ option_to_list (option_copied row.entry)) }
     ensures memory { OnlyMemory result }
 {
     let mut rows = List::new(alloc);
     if let Some(row) = row {
-        rows.push(row.duplicate(alloc)?)?;
+        rows.push(row.copy(alloc)?)?;
     }
     Ok(rows)
 }
 
 /// Copies of the rows of the tags that are wanted.
-pub fn rows_wanted<T: Tagged + Duplicate>(
+pub fn rows_wanted<T: Tagged + TryCopy>(
     alloc: Global,
     rows: &List<T>,
     wanted: &Wanted<'_>,
@@ -46,7 +46,7 @@ pub fn rows_wanted<T: Tagged + Duplicate>(
     match wanted {
         Wanted::Nothing => Ok(List::new(alloc)),
         Wanted::One(tag) => one_copy(alloc, row_of(rows.as_slice(), tag)),
-        Wanted::Every => rows.duplicate(alloc),
+        Wanted::Every => rows.copy(alloc),
     }
 }
 
@@ -64,7 +64,7 @@ pub fn shelved_alarms(
     let mut found = List::new(alloc);
     for shelf in shelves {
         if let Some(alarm) = row_of(alarms, &shelf.tag) {
-            found.push(alarm.duplicate(alloc)?)?;
+            found.push(alarm.copy(alloc)?)?;
         }
     }
     Ok(found)

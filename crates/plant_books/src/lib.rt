@@ -8,11 +8,11 @@ mod found;
 mod grants;
 mod keyed;
 mod numbered;
-mod numbers;
 mod opened;
 mod parts;
 mod plain;
 mod rows;
+mod scope_numbers;
 
 pub use asking::{
     Wanted, WantedAlarms, WantedEvents, is_crowded, wanted_alarms, wanted_change, wanted_events,
@@ -21,8 +21,8 @@ pub use asking::{
 pub use books::{Books, MineRow, MineUnit};
 pub use changes::{after_changes, puts_event};
 pub use found::shelved_alarms;
-pub use numbers::{change_numbers, matrix_numbers};
 pub use opened::push_shelves;
 pub use parts::{events_asked, part_of, part_of_grants, rows_but_events};
 pub use plain::{Plain, count_after};
 pub use rows::are_in_order;
+pub use scope_numbers::{change_numbers, matrix_numbers};

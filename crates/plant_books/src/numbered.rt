@@ -5,12 +5,12 @@ ghost use Rattle.plant_books.specs.Numbered.{NumbersRise, of_number, of_numbers}
 ghost use Rattle.plant_types.specs.Results.{Gives, OnlyMemory};
 
 use plant_model::{BandRow, CellRow, ChangeEntry};
-use plant_types::{Duplicate, Fault, List};
+use plant_types::{Fault, List, TryCopy};
 use std::alloc::Global;
 use std::collections::BTreeSet;
 
 /// A row with a number: that of its matrix, or that of a change.
-pub trait Numbered: Duplicate {
+pub trait Numbered: TryCopy {
     ghost use Rattle.std.specs.Prelude.{ℕ};
 
     ghost number: { Self → ℕ };
@@ -54,12 +54,12 @@ fn rows_of_number<T: Numbered>(rows: &[T], number: u32) -> &[T]
 }
 
 /// Adds copies of the rows.
-fn push_all<T: Duplicate>(alloc: Global, all: &mut List<T>, rows: &[T]) -> Result<(), Fault>
+fn push_all<T: TryCopy>(alloc: Global, all: &mut List<T>, rows: &[T]) -> Result<(), Fault>
     ensures ok { OnOk result (all.new ≡ all.old ++ rows.now) }
     ensures memory { OnlyMemory result }
 {
     for row in rows {
-        all.push(row.duplicate(alloc)?)?;
+        all.push(row.copy(alloc)?)?;
     }
     Ok(())
 }

@@ -12,7 +12,7 @@ use crate::keyed::{Keyed, put};
 use crate::parts::{part_of, rows_but_events};
 use plant_alarm::Event;
 use plant_model::{AlarmRow, Call, RowEdit, UnitPart, UnitRows, row_of};
-use plant_types::{Duplicate, Fault, List, Moment, Person, Tag, UnitCode};
+use plant_types::{Fault, List, Moment, Person, Tag, TryCopy, UnitCode};
 use std::alloc::Global;
 use std::cmp::Ordering;
 
@@ -62,7 +62,7 @@ pub fn copy_of(
 {
     match rows_of(units, unit) {
         None => Ok(None),
-        Some(rows) => Ok(Some(rows.duplicate(alloc)?)),
+        Some(rows) => Ok(Some(rows.copy(alloc)?)),
     }
 }
 
@@ -92,7 +92,7 @@ pub fn events_of(
 {
     match rows_of(units, unit) {
         None => Ok(List::new(alloc)),
-        Some(rows) => rows.events.duplicate(alloc),
+        Some(rows) => rows.events.copy(alloc),
     }
 }
 
@@ -135,7 +135,7 @@ pub fn codes_held(
     let mut codes = List::new(alloc);
     for opened in units.as_slice() {
         if holds_role(&opened.rows, person, now) {
-            codes.push(opened.unit.duplicate(alloc)?)?;
+            codes.push(opened.unit.copy(alloc)?)?;
         }
     }
     Ok(codes)
@@ -155,7 +155,7 @@ pub fn units_held(
     for opened in units.as_slice() {
         if holds_role(&opened.rows, person, now) {
             mine.push(MineUnit {
-                unit: opened.unit.duplicate(alloc)?,
+                unit: opened.unit.copy(alloc)?,
                 roles: roles_held(alloc, &opened.rows, person, now)?,
                 last: last_moment(&opened.rows),
             })?;
@@ -166,7 +166,7 @@ pub fn units_held(
 
 /// When the alarm of the tag last returned to normal, of alarms in the order of their tags.
 fn return_of(alarms: &[AlarmRow], tag: &Tag) -> Option<Moment>
-    ensures { TagsRise alarm_tag alarms.now → result ≡ facts.last_return alarms.now tag.now }
+    ensures { TagsRise alarm_tag alarms.now → result ≡ facts.last_return_in alarms.now tag.now }
 {
     row_of(alarms, tag).and_then(|alarm| alarm.return_s)
 }
@@ -184,8 +184,8 @@ pub fn push_shelves(
     let alarms = rows.alarms.as_slice();
     for shelf in rows.shelves.as_slice() {
         mine.push(MineRow {
-            unit: unit.duplicate(alloc)?,
-            shelf: shelf.duplicate(alloc)?,
+            unit: unit.copy(alloc)?,
+            shelf: shelf.copy(alloc)?,
             last_return: return_of(alarms, &shelf.tag),
         })?;
     }
@@ -227,7 +227,7 @@ pub fn change_unit(
 {
     let rows = copy_of(alloc, units, unit)?.unwrap_or(UnitRows::none(alloc));
     let opened = OpenedUnit {
-        unit: unit.duplicate(alloc)?,
+        unit: unit.copy(alloc)?,
         rows: after_changes(alloc, rows, changes)?,
     };
     put(units, opened)

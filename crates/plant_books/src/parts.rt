@@ -12,14 +12,14 @@ use crate::asking::{
 };
 use crate::found::{rows_wanted, shelved_alarms};
 use crate::numbered::rows_of_numbers;
-use crate::numbers::{change_numbers, matrix_numbers};
+use crate::scope_numbers::{change_numbers, matrix_numbers};
 use plant_alarm::Event;
 use plant_import::needed;
 use plant_model::{
     AlarmRow, Call, ChangeEntry, Counted, GrantRow, RecordEntry, Request, Scope, ShelfRow,
     UnitPart, UnitRow, UnitRows, change_at, holds_some_by, is_shelving, number_approved, scope_of,
 };
-use plant_types::{Duplicate, Fault, List, Person, duplicated};
+use plant_types::{Fault, List, Person, TryCopy, copy_all};
 use std::alloc::Global;
 
 /// A copy of the rows of a unit but its events.
@@ -28,15 +28,15 @@ pub fn rows_but_events(alloc: Global, rows: &UnitRows) -> Result<UnitRows, Fault
     ensures memory { OnlyMemory result }
 {
     Ok(UnitRows {
-        units: rows.units.duplicate(alloc)?,
-        grants: rows.grants.duplicate(alloc)?,
-        alarms: rows.alarms.duplicate(alloc)?,
-        shelves: rows.shelves.duplicate(alloc)?,
+        units: rows.units.copy(alloc)?,
+        grants: rows.grants.copy(alloc)?,
+        alarms: rows.alarms.copy(alloc)?,
+        shelves: rows.shelves.copy(alloc)?,
         events: List::new(alloc),
-        bands: rows.bands.duplicate(alloc)?,
-        cells: rows.cells.duplicate(alloc)?,
-        records: rows.records.duplicate(alloc)?,
-        changes: rows.changes.duplicate(alloc)?,
+        bands: rows.bands.copy(alloc)?,
+        cells: rows.cells.copy(alloc)?,
+        records: rows.records.copy(alloc)?,
+        changes: rows.changes.copy(alloc)?,
     })
 }
 
@@ -54,7 +54,7 @@ fn grants_asked(
     let mut asked = List::new(alloc);
     for grant in rows.grants.as_slice() {
         if *person == grant.person || all {
-            asked.push(grant.duplicate(alloc)?)?;
+            asked.push(grant.copy(alloc)?)?;
         }
     }
     Ok(asked)
@@ -88,8 +88,8 @@ pub fn events_asked(
 {
     match wanted {
         WantedEvents::Nothing => Ok(List::new(alloc)),
-        WantedEvents::Beside(rows) => duplicated(alloc, needed(alloc, events.as_slice(), rows)?),
-        WantedEvents::Every => events.duplicate(alloc),
+        WantedEvents::Beside(rows) => copy_all(alloc, needed(alloc, events.as_slice(), rows)?),
+        WantedEvents::Every => events.copy(alloc),
     }
 }
 
@@ -119,7 +119,7 @@ fn rows_asked(
 {
     let matrices = matrix_numbers(alloc, &rows.units, scope)?;
     Ok(UnitRows {
-        units: rows.units.duplicate(alloc)?,
+        units: rows.units.copy(alloc)?,
         grants: grants_asked(alloc, rows, person, scope)?,
         alarms: alarms_asked(alloc, &rows.alarms, &rows.shelves, wanted_alarms(scope))?,
         shelves: rows_wanted(alloc, &rows.shelves, &wanted_shelves(scope))?,
@@ -208,7 +208,7 @@ fn own_grants(
     let mut own = List::new(alloc);
     for grant in grants.as_slice() {
         if *person == grant.person {
-            own.push(grant.duplicate(alloc)?)?;
+            own.push(grant.copy(alloc)?)?;
         }
     }
     Ok(own)
@@ -244,7 +244,7 @@ pub fn part_of(alloc: Global, rows: &UnitRows, call: &Call) -> Result<UnitPart, 
     if holds_some_by(rows.grants.as_slice(), &call.person, call.moment) {
         return part_of_holder(alloc, rows, call);
     }
-    let units = rows.units.duplicate(alloc)?;
+    let units = rows.units.copy(alloc)?;
     let grants = own_grants(alloc, &rows.grants, &call.person)?;
     Ok(part_of_grants(alloc, units, grants))
 }

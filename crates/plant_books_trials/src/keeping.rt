@@ -7,7 +7,7 @@ use crate::fixtures::{
 use plant_books::{Books, MineUnit, Plain};
 use plant_model::{AlarmRow, CellRow, ChangeEntry, Key, RecordEntry, RowEdit};
 use plant_ration::Cell;
-use plant_types::{Duplicate, Fault, List, Role, UnitCode};
+use plant_types::{Fault, List, Role, TryCopy, UnitCode};
 use std::alloc::Global;
 use std::process::Abort;
 
@@ -104,7 +104,7 @@ fn removal(rt: &impl Abort, alloc: Global) -> Result<List<RowEdit>, Fault> {
 }
 
 fn copy(rt: &impl Abort, alloc: Global, changes: &List<RowEdit>) -> List<RowEdit> {
-    changes.duplicate(alloc).expect(rt, "memory")
+    changes.copy(alloc).expect(rt, "memory")
 }
 
 #[test]

@@ -1,15 +1,15 @@
 -- Two readings of one stream are one, save where httparse leaves a front open.
 use Rattle.std.proofs.Common.{◌≡◌, ◌≢◌, ◌⊎◌, ℕ, List, [], ◌∷◌, length, drop, Result, refl, sym, ap, subst, ◌∙◌, inl, inr, arith}
 use Rattle.httparse.specs.Grammar.{RequestHead}
-use Rattle.plant_call.specs.{Front.{Item, Front, waits, whole, broken, IsFront, Parses, IsOpen, EndsAt}, declared.causes.Cause.{Cause}}
+use Rattle.plant_call.specs.{Front.{Item, Front, waits, whole, broken, IsFront, Parses, IsUndecided, EndsAt}, declared.causes.Cause.{Cause}}
 use Rattle.plant_call.proofs.public.Cuts.{front_unique, whole_fits}
 
 module _ (body_length : RequestHead → Result ℕ Cause) (item_of : RequestHead → List ℕ → Item) where
   -- the front is read in two ways somewhere in the stream
   abbrev pub OpensIn : List ℕ → Type 0
-  OpensIn bytes = (items : List Item) × (rest : List ℕ) × Parses body_length item_of bytes items rest × IsOpen rest
+  OpensIn bytes = (items : List Item) × (rest : List ℕ) × Parses body_length item_of bytes items rest × IsUndecided rest
 
-  opens_here : (bytes : List ℕ) → IsOpen bytes → OpensIn bytes
+  opens_here : (bytes : List ℕ) → IsUndecided bytes → OpensIn bytes
   opens_here bytes o = ([], bytes, refl, o)
 
   other_front : (bytes : List ℕ) (f g : Front) → f ≢ g → IsFront body_length item_of bytes f → IsFront body_length item_of bytes g → OpensIn bytes
@@ -22,7 +22,7 @@ module _ (body_length : RequestHead → Result ℕ Cause) (item_of : RequestHead
   no_whole bytes x n (inr (inr (cause, breaks))) w = other_front bytes (broken cause) (whole x n) (λ (e : broken cause ≡ whole x n). cc) breaks w
 
   first_unique : (bytes : List ℕ) (x y : Item) (xs ys : List Item) (r q : List ℕ) (n m : ℕ) → IsFront body_length item_of bytes (whole x n)
-      → (whole x n ≡ whole y m) ⊎ IsOpen bytes → Parses body_length item_of (drop m bytes) ys q
+      → (whole x n ≡ whole y m) ⊎ IsUndecided bytes → Parses body_length item_of (drop m bytes) ys q
       → (Parses body_length item_of (drop n bytes) ys q → ((xs ≡ ys) × (r ≡ q)) ⊎ OpensIn (drop n bytes))
       → ((x ∷ xs ≡ y ∷ ys) × (r ≡ q)) ⊎ OpensIn bytes
   first_unique bytes x y xs ys r q n m v (inr o) later again = inr (opens_here bytes o)

@@ -44,8 +44,8 @@ module _ (body_length : RequestHead → Result ℕ Cause) (item_of : RequestHead
   EndsAt rest = (rest ≡ []) ⊎ (IsFront rest waits ⊎ ((cause : Cause) × IsFront rest (broken cause)))
 
 -- the one case that httparse leaves open: no continuation is a head, and the target is still being read
-abbrev pub IsOpen : List ℕ → Type 0
-IsOpen bytes = IsHopeless bytes × EndsInTarget (front bytes)
+abbrev pub IsUndecided : List ℕ → Type 0
+IsUndecided bytes = IsHopeless bytes × EndsInTarget (front bytes)
 
 -- What stands at the front, and the items of a stream, for this service's requests.
 abbrev pub body_length : RequestHead → Result ℕ Cause
@@ -73,4 +73,4 @@ IsStream bytes items rest = Parsed bytes items rest × EndsAt body_length item_o
 
 -- somewhere in the stream stands the case that is left open
 abbrev pub OpensSomewhere : List ℕ → Type 0
-OpensSomewhere bytes = (items : List Item) × (rest : List ℕ) × Parsed bytes items rest × IsOpen rest
+OpensSomewhere bytes = (items : List Item) × (rest : List ℕ) × Parsed bytes items rest × IsUndecided rest

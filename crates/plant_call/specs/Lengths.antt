@@ -26,4 +26,4 @@ unless_chunked (coding ∷ codings) n = Err Chunked
 abbrev pub body_length_in : List NameValue → Result ℕ Cause
 body_length_in fields =
     length_said (values_named (codes "content-length") fields) >>= unless_chunked
-        (values_named (codes "transfer-encoding") fields)
+    (values_named (codes "transfer-encoding") fields)

@@ -49,5 +49,5 @@ abbrev pub change_number_of : List ℕ → Option ℕ
 change_number_of text = if is_change_number text then Some (digits_value 10 text) else None
 
 -- /units/{unit}/changes/{n}
-abbrev pub number_in : List ℕ → Result ℕ Cause
-number_in path = ok_or (change_number_of (segment 4 path)) BadPath
+abbrev pub change_number_in : List ℕ → Result ℕ Cause
+change_number_in path = ok_or (change_number_of (segment 4 path)) BadPath

@@ -7,7 +7,7 @@ use Rattle.plant_route.specs.Routes.{route_of}
 use Rattle.plant_body.specs.Bodies.{read_by, opening_in, granting_in, withdrawal_in, registration_in, timed_shelving_in, reason_in}
 use Rattle.plant_body.specs.Proposals.{proposal_in}
 use Rattle.plant_head.specs.Fields.{NameValue, values_named}
-use Rattle.plant_call.specs.{Causes.{of_body, ◌>>=◌}, Path.{unit_in, tag_in, begin_in, until_in, number_in}, declared.causes.Cause.{Cause}}
+use Rattle.plant_call.specs.{Causes.{of_body, ◌>>=◌}, Path.{unit_in, tag_in, begin_in, until_in, change_number_in}, declared.causes.Cause.{Cause}}
 use Rattle.plant_call.specs.declared.causes.Cause.TheVariants.{NoRoute, BadPerson, BadMoment}
 use Rattle.plant_model.specs.declared.call.Request.TheVariants as request
 use Rattle.plant_model.specs.declared.kinds.CallKind.TheVariants as kind
@@ -81,12 +81,12 @@ request_in kind.Propose path body = do
   unit ← unit_in path
   proposal ← of_body (read_by proposal_in body)
   Ok (request.Propose unit proposal)
-request_in kind.WithdrawChange path body = of_one number_in request.WithdrawChange path
-request_in kind.Approve path body = of_one number_in request.Approve path
-request_in kind.Reject path body = of_one number_in request.Reject path
+request_in kind.WithdrawChange path body = of_one change_number_in request.WithdrawChange path
+request_in kind.Approve path body = of_one change_number_in request.Approve path
+request_in kind.Reject path body = of_one change_number_in request.Reject path
 request_in kind.Status path body = of_one tag_in request.Status path
 request_in kind.RecordOf path body = of_one tag_in request.RecordOf path
-request_in kind.ChangeOf path body = of_one number_in request.ChangeOf path
+request_in kind.ChangeOf path body = of_one change_number_in request.ChangeOf path
 request_in kind.Alarms path body = unit_in path >>= λ unit. Ok (request.Alarms unit)
 request_in kind.Shelves path body = unit_in path >>= λ unit. Ok (request.Shelves unit)
 request_in kind.Standing path body = unit_in path >>= λ unit. Ok (request.Standing unit)

@@ -1,7 +1,7 @@
 ghost use Rattle.std.specs.Prelude.{◌≡◌, ◌≢◌, ◌⊎◌, ◌<◌, ◌≤◌, ◌++◌, ℕ, List, length};
 ghost use Rattle.httparse.specs.{Grammar.{RequestHead}, Spans.{IsRequestAt, IsRequestWithin}};
 ghost use Rattle.plant_call.specs.Cut.{Shows, IsCutOf, IsLengthOf, WaitsBelow};
-ghost use Rattle.plant_call.specs.Front.{Item, Front, waits, answer_to, StandsAtFront, IsOpen, IsStream, OpensSomewhere};
+ghost use Rattle.plant_call.specs.Front.{Item, Front, waits, answer_to, StandsAtFront, IsUndecided, IsStream, OpensSomewhere};
 
 use crate::causes::{CallError, Cause};
 use crate::lengths::body_length;
@@ -147,7 +147,7 @@ pub fn next_call(alloc: Global, bytes: &[u8]) -> Cut
 /// Two readings of one front are one, save where no continuation is a head and the target is still being read.
 pub fn one_reading()
     ensures { (bytes : List ℕ) (f g : Front) → StandsAtFront bytes f → StandsAtFront bytes g
-        → (f ≡ g) ⊎ IsOpen bytes }
+        → (f ≡ g) ⊎ IsUndecided bytes }
 {}
 
 /// Two readings of one stream are one, save where such a front stands in it.

@@ -1,6 +1,6 @@
 ghost use Rattle.std.specs.Prelude.{◌≡◌};
 ghost use Rattle.plant_call.specs.Causes.{ReadsAs};
-ghost use Rattle.plant_call.specs.Path.{until_slash, after_slash, segment, unit_in, tag_in, moment_at, begin_in, until_in, is_change_number, change_number_of, number_in};
+ghost use Rattle.plant_call.specs.Path.{until_slash, after_slash, segment, unit_in, tag_in, moment_at, begin_in, until_in, is_change_number, change_number_of, change_number_in};
 
 use crate::causes::{CallError, Cause};
 use crate::lengths::{capped_value, is_numeral};
@@ -83,8 +83,8 @@ fn change_number_of(text: &[u8]) -> Option<u32>
 }
 
 /// The number of a change that the path names.
-pub(crate) fn number_in(path: &[u8]) -> Result<u32, CallError>
-    ensures { ReadsAs result (number_in path.now) }
+pub(crate) fn change_number_in(path: &[u8]) -> Result<u32, CallError>
+    ensures { ReadsAs result (change_number_in path.now) }
 {
     change_number_of(segment(path, 4)).ok_or(CallError::Because(Cause::BadPath))
 }

@@ -3,14 +3,14 @@ ghost use Rattle.httparse.specs.Spans.{header_bytes, IsHeaderWithin};
 ghost use Rattle.plant_head.specs.Fields.{values_named};
 ghost use Rattle.plant_route.specs.Routes.{route_of};
 ghost use Rattle.plant_body.specs.declared.members.Unfit.{Unfit};
-ghost use Rattle.plant_call.specs.{Causes.{ReadsAs, of_body}, Path.{number_in, tag_in}, Reading.{call_in, floods_in, moment_said, of_one, person_said, request_in}};
+ghost use Rattle.plant_call.specs.{Causes.{ReadsAs, of_body}, Path.{change_number_in, tag_in}, Reading.{call_in, floods_in, moment_said, of_one, person_said, request_in}};
 ghost use Rattle.plant_call.specs.declared.causes.Cause.TheVariants.{NoRoute};
 ghost use Rattle.plant_model.specs.declared.call.Request.TheVariants as request;
 ghost use Rattle.plant_model.specs.declared.kinds.CallKind.TheVariants as kind;
 ghost use Rattle.plant_body.specs.Members as body;
 
 use crate::causes::{CallError, Cause, body_error};
-use crate::path::{begin_in, number_in, tag_in, unit_in, until_in};
+use crate::path::{begin_in, change_number_in, tag_in, unit_in, until_in};
 use httparse::spans::HeaderSpan;
 use plant_body::{
     BodyError, Granting, Opening, Registration, TimedShelving, Withdrawal, read_granting,
@@ -184,28 +184,28 @@ fn propose(alloc: Global, path: &[u8], body: &[u8]) -> Result<Request, CallError
 
 #[tactic(auto, unfolding(crate::specs::Reading::request_in))]
 fn withdraw_change(alloc: Global, path: &[u8]) -> Result<Request, CallError>
-    ensures { ReadsAs result (of_one number_in request.WithdrawChange path.now) }
+    ensures { ReadsAs result (of_one change_number_in request.WithdrawChange path.now) }
 {
     let unit = unit_in(alloc, path)?;
-    let number = number_in(path)?;
+    let number = change_number_in(path)?;
     Ok(Request::WithdrawChange { unit, number })
 }
 
 #[tactic(auto, unfolding(crate::specs::Reading::request_in))]
 fn approve(alloc: Global, path: &[u8]) -> Result<Request, CallError>
-    ensures { ReadsAs result (of_one number_in request.Approve path.now) }
+    ensures { ReadsAs result (of_one change_number_in request.Approve path.now) }
 {
     let unit = unit_in(alloc, path)?;
-    let number = number_in(path)?;
+    let number = change_number_in(path)?;
     Ok(Request::Approve { unit, number })
 }
 
 #[tactic(auto, unfolding(crate::specs::Reading::request_in))]
 fn reject(alloc: Global, path: &[u8]) -> Result<Request, CallError>
-    ensures { ReadsAs result (of_one number_in request.Reject path.now) }
+    ensures { ReadsAs result (of_one change_number_in request.Reject path.now) }
 {
     let unit = unit_in(alloc, path)?;
-    let number = number_in(path)?;
+    let number = change_number_in(path)?;
     Ok(Request::Reject { unit, number })
 }
 
@@ -229,10 +229,10 @@ fn record_of(alloc: Global, path: &[u8]) -> Result<Request, CallError>
 
 #[tactic(auto, unfolding(crate::specs::Reading::request_in))]
 fn change_of(alloc: Global, path: &[u8]) -> Result<Request, CallError>
-    ensures { ReadsAs result (of_one number_in request.ChangeOf path.now) }
+    ensures { ReadsAs result (of_one change_number_in request.ChangeOf path.now) }
 {
     let unit = unit_in(alloc, path)?;
-    let number = number_in(path)?;
+    let number = change_number_in(path)?;
     Ok(Request::ChangeOf { unit, number })
 }
 

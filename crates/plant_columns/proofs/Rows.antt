@@ -57,7 +57,7 @@ without_found p rows found are it = without_all_is (ids_of found) rows
         let other = it.sound from.0 from.1 in
         let id : one.0 ≡ id_in (rowid other.0) = from.2 ∙ ap (λ x. id_in (rowid x)) other.3 in
         let tie : value_cmp (rowid r) (rowid other.0) ≡ Equal =
-            tied _ _ (subst (λ v. is_eq (value_cmp (rowid r) v) ≡ true) (ap Int id ∙ sym (int_at other.0 other.1)) one.2) refl in
+        tied _ _ (subst (λ v. is_eq (value_cmp (rowid r) v) ≡ true) (ap Int id ∙ sym (int_at other.0 other.1)) one.2) refl in
         ap p (tied_same rows r other.0 are.rise h other.1 tie) ∙ other.2
 
     same : (r : Row) → Has rows r → has_any (ids_of found) r ≡ p r
@@ -74,8 +74,8 @@ keyed_from [] are = tt
 keyed_from (r ∷ rows) are = (
   all_from _ rows (λ s h.
       let less : value_cmp (Int (id_in (rowid r))) (Int (id_in (rowid s))) ≡ Less =
-          ap₂ value_cmp (sym (int_is (rowid r) are.ints.0)) (sym (int_is (rowid s) (all_has _ rows s are.ints.1 h)))
-          ∙ all_has _ rows s are.rise.0 h in
+      ap₂ value_cmp (sym (int_is (rowid r) are.ints.0)) (sym (int_is (rowid s) (all_has _ rows s are.ints.1 h)))
+      ∙ all_has _ rows s are.rise.0 h in
       lt_from_Less _ _ (sym (value_cmp-Int _ _) ∙ less)),
   keyed_from rows (record { rise = are.rise.1; ints = are.ints.1 }),
 )

@@ -19,9 +19,9 @@ module _ (ks : List ℕ) where
   apart_units : (u unit : List ℕ) (x y : Row) → column x 1 ≡ Text u → unit ≢ u → is_of unit y ≡ true → is_eq (by_columns (1 ∷ ks) x y) ≡ false
   apart_units u unit x y at other h = false_from_ne_true _ (λ tie.
       let first : value_cmp (column x 1) (column y 1) ≡ Equal =
-          tied _ _ (left _ _ (sym (then_tied (value_cmp (column x 1) (column y 1)) (by_columns ks x y)) ∙ tie)) refl in
+      tied _ _ (left _ _ (sym (then_tied (value_cmp (column x 1) (column y 1)) (by_columns ks x y)) ∙ tie)) refl in
       let next : value_cmp (column x 1) (Text unit) ≡ Equal =
-          sym (alike_right value_cmp_total (column y 1) (Text unit) (column x 1) (tied _ _ h refl)) ∙ first in
+      sym (alike_right value_cmp_total (column y 1) (Text unit) (column x 1) (tied _ _ h refl)) ∙ first in
       other (sym (same_text u unit (ap is_eq (subst (λ v. value_cmp v (Text unit) ≡ Equal) at next)))))
 
   not_of : (u unit : List ℕ) (x : Row) → column x 1 ≡ Text u → unit ≢ u → is_of unit x ≡ false
@@ -75,7 +75,7 @@ module _ (ks : List ℕ) where
           → R (key (read a)) (key (read b)) ≡ by_columns (1 ∷ ks) a b
       agrees_in u a b p q =
           let tie : value_cmp (column a 1) (column b 1) ≡ Equal = Rattle.std.proofs.Common.ap₂ value_cmp p.1 q.1
-              ∙ tied_itself value_cmp_total (Text u) in
+          ∙ tied_itself value_cmp_total (Text u) in
           agrees a b p.0 q.0 ∙ sym (ap (λ o. Rattle.std.specs.Ordering.ordering_then o (by_columns ks a b)) tie)
 
       all_of : (u : List ℕ) (rows : List Row) → AllByRecursion Wf rows
@@ -113,8 +113,8 @@ module _ (ks : List ℕ) where
           → content unit (taken_out (by_columns (1 ∷ ks)) x rows ++ x ∷ []) ≡ content unit rows
       put_other u unit x rows at other =
           ap (map read)
-              (kept-put_other (by_columns (1 ∷ ks)) (by_columns_total (1
-              ∷ ks)) (is_of unit) x rows (not_of u unit x at other) (λ y. apart_units u unit x y at other))
+          (kept-put_other (by_columns (1 ∷ ks)) (by_columns_total (1
+          ∷ ks)) (is_of unit) x rows (not_of u unit x at other) (λ y. apart_units u unit x y at other))
 
       pub out_mine : (u : List ℕ) (x : Row) (rows : List Row) → column x 1 ≡ Text u → Wf x → IsTidy Wf (1 ∷ ks) rows
           → content u (taken_out (by_columns (1 ∷ ks)) x rows) ≡ remove_row R key (key (read x)) (content u rows)

@@ -79,22 +79,22 @@ abbrev pub state_in : Value → AlarmState
 state_in v = state_numbered (number_in v)
 
 -- the kinds of an event, 1 to 6
-abbrev pub kind_no : EventKind → ℕ
-kind_no Act = 1
-kind_no Rtn = 2
-kind_no Ack = 3
-kind_no Reset = 4
-kind_no Sup = 5
-kind_no Unsup = 6
+abbrev pub event_kind_code : EventKind → ℕ
+event_kind_code Act = 1
+event_kind_code Rtn = 2
+event_kind_code Ack = 3
+event_kind_code Reset = 4
+event_kind_code Sup = 5
+event_kind_code Unsup = 6
 
 abbrev pub kind : EventKind → Value
-kind k = number (kind_no k)
+kind k = number (event_kind_code k)
 
 abbrev pub all_kinds : List EventKind
 all_kinds = Act ∷ Rtn ∷ Ack ∷ Reset ∷ Sup ∷ Unsup ∷ []
 
 abbrev pub kind_numbered : ℕ → EventKind
-kind_numbered n = numbered kind_no all_kinds Act n
+kind_numbered n = numbered event_kind_code all_kinds Act n
 
 abbrev pub kind_in : Value → EventKind
 kind_in v = kind_numbered (number_in v)

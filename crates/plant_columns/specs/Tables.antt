@@ -64,8 +64,12 @@ unit_shape = record {
   order = nat_cmp;
   key = own_key;
   cells = λ r. number r.last_s ∷ number r.matrix_no ∷ number r.matrix_rev ∷ number r.quota ∷ [];
-  read = λ r. record { last_s = number_in (column r 2); matrix_no = number_in (column r 3);
-      matrix_rev = number_in (column r 4); quota = number_in (column r 5) };
+  read = λ r. record {
+    last_s = number_in (column r 2);
+    matrix_no = number_in (column r 3);
+    matrix_rev = number_in (column r 4);
+    quota = number_in (column r 5);
+  };
 }
 
 abbrev pub grant_shape : Shape GrantRow Pair
@@ -80,8 +84,11 @@ grant_shape = record {
   order = pair_cmp;
   key = pair_of;
   cells = λ r. Text r.person ∷ role r.role_no ∷ open_number r.end_s ∷ [];
-  read = λ r. record { person = bytes (column r 2); role_no = role_in (column r 3);
-      end_s = open_number_in (column r 4) };
+  read = λ r. record {
+    person = bytes (column r 2);
+    role_no = role_in (column r 3);
+    end_s = open_number_in (column r 4);
+  };
 }
 
 abbrev pub alarm_shape : Shape AlarmRow Name
@@ -130,8 +137,14 @@ shelf_shape = record {
   order = name_cmp;
   key = shelf_tag;
   cells = λ r. Text r.tag ∷ flag r.one_shot ∷ number r.start_s ∷ number r.until_s ∷ Text r.person ∷ Text r.words ∷ [];
-  read = λ r. record { tag = bytes (column r 2); one_shot = flag_in (column r 3); start_s = number_in (column r 4);
-      until_s = number_in (column r 5); person = bytes (column r 6); words = bytes (column r 7) };
+  read = λ r. record {
+    tag = bytes (column r 2);
+    one_shot = flag_in (column r 3);
+    start_s = number_in (column r 4);
+    until_s = number_in (column r 5);
+    person = bytes (column r 6);
+    words = bytes (column r 7);
+  };
 }
 
 abbrev pub band_shape : Shape BandRow BandKey
@@ -146,8 +159,11 @@ band_shape = record {
   order = band_cmp;
   key = band_key;
   cells = λ r. number r.matrix_no ∷ number r.band_no ∷ number r.limit_s ∷ [];
-  read = λ r. record { matrix_no = number_in (column r 2); band_no = number_in (column r 3);
-      limit_s = number_in (column r 4) };
+  read = λ r. record {
+    matrix_no = number_in (column r 2);
+    band_no = number_in (column r 3);
+    limit_s = number_in (column r 4);
+  };
 }
 
 abbrev pub cell_shape : Shape CellRow CellKey
@@ -162,8 +178,12 @@ cell_shape = record {
   order = cell_cmp;
   key = cell_key;
   cells = λ r. number r.matrix_no ∷ number r.severity ∷ number r.band_no ∷ cell r.cell_no ∷ [];
-  read = λ r. record { matrix_no = number_in (column r 2); severity = number_in (column r 3);
-      band_no = number_in (column r 4); cell_no = cell_in (column r 5) };
+  read = λ r. record {
+    matrix_no = number_in (column r 2);
+    severity = number_in (column r 3);
+    band_no = number_in (column r 4);
+    cell_no = cell_in (column r 5);
+  };
 }
 
 abbrev pub event_shape : Shape Event ℕ
@@ -178,8 +198,12 @@ event_shape = record {
   order = nat_cmp;
   key = event_number;
   cells = λ e. number e.seq ∷ number e.moment ∷ Text e.tag ∷ kind e.kind ∷ [];
-  read = λ r. record { seq = number_in (column r 2); moment = number_in (column r 3); tag = bytes (column r 4);
-      kind = kind_in (column r 5) };
+  read = λ r. record {
+    seq = number_in (column r 2);
+    moment = number_in (column r 3);
+    tag = bytes (column r 4);
+    kind = kind_in (column r 5);
+  };
 }
 
 abbrev pub record_shape : Shape RecordEntry Name
@@ -194,8 +218,12 @@ record_shape = record {
   order = name_cmp;
   key = record_tag;
   cells = λ r. Text r.tag ∷ number r.change_no ∷ number r.rev ∷ cell r.cell_no ∷ [];
-  read = λ r. record { tag = bytes (column r 2); change_no = number_in (column r 3); rev = number_in (column r 4);
-      cell_no = cell_in (column r 5) };
+  read = λ r. record {
+    tag = bytes (column r 2);
+    change_no = number_in (column r 3);
+    rev = number_in (column r 4);
+    cell_no = cell_in (column r 5);
+  };
 }
 
 abbrev pub change_shape : Shape ChangeEntry ℕ
@@ -250,16 +278,16 @@ shape Records = record_shape
 shape Changes = change_shape
 
 -- the rows of one table among a unit's rows
-abbrev pub rows_at : (i : TableKind) → UnitRows → List (RowOf i)
-rows_at Units rows = rows.units
-rows_at Grants rows = rows.grants
-rows_at Alarms rows = rows.alarms
-rows_at Shelves rows = rows.shelves
-rows_at Bands rows = rows.bands
-rows_at Cells rows = rows.cells
-rows_at Events rows = rows.events
-rows_at Records rows = rows.records
-rows_at Changes rows = rows.changes
+abbrev pub rows_of_table : (i : TableKind) → UnitRows → List (RowOf i)
+rows_of_table Units rows = rows.units
+rows_of_table Grants rows = rows.grants
+rows_of_table Alarms rows = rows.alarms
+rows_of_table Shelves rows = rows.shelves
+rows_of_table Bands rows = rows.bands
+rows_of_table Cells rows = rows.cells
+rows_of_table Events rows = rows.events
+rows_of_table Records rows = rows.records
+rows_of_table Changes rows = rows.changes
 
 -- the office's own table, whose key is the rowid
 abbrev pub office_table : Table
@@ -307,8 +335,11 @@ table_count = length all_tables
 -- once the office's table and the first n of these are made
 abbrev pub schema_with : ℕ → Schema
 schema_with n =
-    record { tables = office_table ∷ map (λ i. table_in (shape i)) (take n all_tables);
-    indexes = map (λ i. key_index (shape i)) (take n all_tables); views = [] }
+    record {
+      tables = office_table ∷ map (λ i. table_in (shape i)) (take n all_tables);
+      indexes = map (λ i. key_index (shape i)) (take n all_tables);
+      views = [];
+    }
 
 -- once all are made, and the index by person
 abbrev pub books_schema : Schema
@@ -325,4 +356,4 @@ rows_seen unit trees = seen RowOf KeyOf shape unit trees
 
 -- they have these rows of it
 abbrev pub AreSeen : List ℕ → Database → UnitRows → Type 0
-AreSeen unit db rows = (i : TableKind) → rows_seen unit db.trees i ≡ rows_at i rows
+AreSeen unit db rows = (i : TableKind) → rows_seen unit db.trees i ≡ rows_of_table i rows

@@ -48,8 +48,15 @@ pub moments_more : (events : List Event) (i : ℕ) (e : Event) (b : Bool) (old n
     → old ≡ map (λ e. e.moment) (activations_of_all (take i events)) → new ≡ old ++ cond b (e.moment ∷ []) []
     → new ≡ map (λ e. e.moment) (activations_of_all (take (i + 1) events))
 moments_more events i e b old new lt is tells so_far grown =
-    grind (arith, taken_more events i e lt is, passing-push is_activation_of [] (take i events) e, map-append (λ (x : Event). x.moment)
-        (activations_of_all (take i events)) (e ∷ []), append-nil old, append-nil (activations_of_all (take i events)))
+    grind (
+      arith,
+      taken_more events i e lt is,
+      passing-push is_activation_of [] (take i events) e,
+      map-append (λ (x : Event). x.moment)
+          (activations_of_all (take i events)) (e ∷ []),
+      append-nil old,
+      append-nil (activations_of_all (take i events)),
+    )
 
 -- of the first moments, those in a period
 abbrev counted_in : List ℕ → ℕ → ℕ → ℕ → ℕ
@@ -76,9 +83,12 @@ counted_more ms old new start n k m d lt is few long grown so_far =
           length-take-le k ms (let w : k ≤ length ms = omega (arith, lt) in w) in omega (arith, le, short, lt, few)
 
       step : (i : ℕ) → counted_in ms start (k + 1) i ≡ counted_in ms start k i + cond (is_in_period (start + 600 * i) m) 1 0
-      step i = grind
-          (arith, count_by_more_yes (λ m. is_in_period (start + 600 * i) m) ms k d lt, count_by_more_no (λ m. is_in_period (start + 600 * i) m) ms k d
-          lt)
+      step i = grind (
+        arith,
+        count_by_more_yes (λ m. is_in_period (start + 600 * i) m) ms k d lt,
+        count_by_more_no (λ m. is_in_period (start + 600 * i) m) ms k d
+            lt,
+      )
 
       at : (i : ℕ) → i < length old → get_or new i 0 ≡ get_or (map (counted_in ms start (k + 1)) (range_with_len 0 n)) i 0
       at i below =
@@ -86,7 +96,7 @@ counted_more ms old new start n k m d lt is few long grown so_far =
           let is_old = old_at i inside in
           let small : get_or old i 0 < 4294967295 = (let f = few_at i in omega (arith, f, is_old)) in
           grown i below small ∙ ap (λ x. x + cond (is_in_period (start + 600 * i) m) 1 0) is_old ∙ sym (step i)
-              ∙ sym (get_or-map-range_with_len (counted_in ms start (k + 1)) 0 n i i 0 inside (omega arith))
+          ∙ sym (get_or-map-range_with_len (counted_in ms start (k + 1)) 0 n i i 0 inside (omega arith))
 
 -- none so far
 pub counted_none : (ms zeros : List ℕ) (start n : ℕ) → zeros ≡ replicate n 0
@@ -110,7 +120,7 @@ pub few_moments : (es : List Event) (moments : List ℕ) → moments ≡ map (λ
     → length moments ≤ 4294967295
 few_moments es moments is few =
     let long : length moments ≡ length (activations_of_all es) = ap (λ l. length l) is
-        ∙ length-map (activations_of_all es) (λ (e : Event). e.moment) in
+    ∙ length-map (activations_of_all es) (λ (e : Event). e.moment) in
     let less = few_passing is_activation_of [] es in
     omega (arith, long, less, few)
 

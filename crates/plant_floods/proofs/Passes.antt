@@ -145,8 +145,8 @@ passed_next counts i runs current lt h =
     let e : length (take i counts) ≡ i = length-take-le i counts (omega arith) in
     let c = get_or counts i 0 in
     rw (take_more counts i 0 lt)
-        (subst (λ (n : ℕ). Passed (take i counts ++ c
-        ∷ []) (next_runs runs current (grown current n c)) (grown current n c)) e (passed_more (take i counts) c runs current h))
+    (subst (λ (n : ℕ). Passed (take i counts ++ c
+    ∷ []) (next_runs runs current (grown current n c)) (grown current n c)) e (passed_more (take i counts) c runs current h))
 
 pub passed_whole : (counts : List ℕ) (i : ℕ) (runs : List Run) (current : Option Run) → length counts ≤ i → Passed (take i counts) runs current
     → runs ++ option_to_list current ≡ floods counts

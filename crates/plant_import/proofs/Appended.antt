@@ -12,7 +12,7 @@ use Rattle.plant_types.specs.KeyedRows.{IsInOrder}
 before_first : (k f : Event) (fs : List Event) → AllAbove event_number f.seq fs → is_before_all (f ∷ fs) k ≡ nat_lt k.seq f.seq
 before_first k f fs h =
     all_by_first (λ e. nat_lt k.seq e.seq) f fs (each_weaker (λ e. f.seq < e.seq) (λ e. nat_lt k.seq f.seq ≡ true
-        → nat_lt k.seq e.seq ≡ true) (λ e more t. lt-ltb k.seq e.seq (omega (arith, more, ltb-true k.seq f.seq t))) fs h)
+    → nat_lt k.seq e.seq ≡ true) (λ e more t. lt-ltb k.seq e.seq (omega (arith, more, ltb-true k.seq f.seq t))) fs h)
 
 -- rising events are below a number where the last of them is
 last_decides : (n : ℕ) (xs : List Event) (l : Event) → Some l ≡ slice_get xs (length xs - 1) → Rises event_number xs
@@ -56,7 +56,7 @@ pub appended : (kept more : List Event) → IsInOrder nat_cmp event_number kept 
     → kept ++ with_events [] more ≡ with_events kept more
 appended kept more order h =
     ap (λ l. kept ++ l) (sym (put_twice [] more tt))
-        ∙ sym (puts_after event_number (with_events [] more) kept [] (behind (with_events [] more) kept h))
+    ∙ sym (puts_after event_number (with_events [] more) kept [] (behind (with_events [] more) kept h))
     ∙ ap (λ l. with_events l (with_events [] more)) (append-nil kept) ∙ put_twice kept more order
 
 -- of rows that all come after the kept ones each is new

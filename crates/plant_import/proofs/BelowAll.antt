@@ -13,8 +13,8 @@ pub nearest_below : (n : ℕ) (es : List Event) (last : Option (Bor Event)) → 
 nearest_below n es last h is =
     let low = each_from_all (λ e. nat_lt e.seq n) es h in
     let none : from n es ≡ [] =
-        filter_none (λ e. not (nat_lt e.seq n)) es (each_weaker (λ e. nat_lt e.seq n ≡ true) (λ e. not (nat_lt e.seq n)
-        ≡ false) (λ e t. ap not t) es low) in
+    filter_none (λ e. not (nat_lt e.seq n)) es (each_weaker (λ e. nat_lt e.seq n ≡ true) (λ e. not (nat_lt e.seq n)
+    ≡ false) (λ e t. ap not t) es low) in
     (subst (λ (l : List Event). IsLast l last) (sym (filter_all (λ e. nat_lt e.seq n) es low)) is, rw none refl)
 
 all_told : (n : ℕ) (es : List Event) → AllBelow event_number n es → list_all (λ e. nat_lt e.seq n) es ≡ true
@@ -50,7 +50,7 @@ stand_nearest (Some m) new file seen i e nearest lt is h tree none = tree m seen
 stand_nearest None new file seen i e nearest lt is h tree none =
     let at = less_behind new file seen i e lt is h in
     subst (λ (l : List Event). AreNearest l e.seq nearest) at.0 (none refl (ap (list_all (λ x. nat_lt x.seq e.seq)) at.0
-        ∙ all_told e.seq seen at.1.0))
+    ∙ all_told e.seq seen at.1.0))
 
 -- a row that isn't new
 pub stand_known : (rising : Option (BTreeMap ℕ Event)) (new file seen : List Event) (i : ℕ) (e : Event) → i < length file → e ≡ get_or file i e
@@ -68,8 +68,12 @@ stand_new None rising new file seen i e lt is h none some =
     let at = less_behind new file seen i e lt is h in
     let end : put_in e seen ≡ seen ++ e ∷ [] = ap (put_in e) (sym (append-nil seen)) ∙ put_after event_number e seen [] at.1.0 in
     subst (λ (o : Option (BTreeMap ℕ Event)). StandSo o (new ++ e ∷ []) (drop (i + 1) file) (put_in e seen)) (sym (none refl))
-    (subst (λ (l : List Event). StandSo None (new ++ e ∷ []) (drop (i + 1) file) l) (sym end) (ap (λ l. l ++ e
-    ∷ []) at.0, behind_end event_number e seen (drop (i + 1) file) at.1.0 at.2.0, at.2.1))
+    (subst (λ (l : List Event). StandSo None (new ++ e ∷ []) (drop (i + 1) file) l) (sym end) (
+      ap (λ l. l ++ e
+          ∷ []) at.0,
+      behind_end event_number e seen (drop (i + 1) file) at.1.0 at.2.0,
+      at.2.1,
+    ))
 stand_new (Some m) rising new file seen i e lt is h none some = by rising (some m refl h)
   where
     by : (o : Option (BTreeMap ℕ Event)) → MatchOption o ⊥ (λ m. AreByNumber m (put_in e seen))

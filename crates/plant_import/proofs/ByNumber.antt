@@ -40,8 +40,8 @@ entries_from n es =
 pub halves : (n : ℕ) (es : List Event) → IsRising es → AreParts es n (below n es) (from n es)
 halves n es h =
     let whole =
-        split_by (λ e. nat_lt e.seq n) es (pairs_weaker Before (λ x y. nat_lt y.seq n ≡ true
-        → nat_lt x.seq n ≡ true) (λ x y b t. lt-ltb x.seq n (omega (arith, b.0, ltb-true y.seq n t))) es (rising_of es h)) in
+    split_by (λ e. nat_lt e.seq n) es (pairs_weaker Before (λ x y. nat_lt y.seq n ≡ true
+    → nat_lt x.seq n ≡ true) (λ x y b t. lt-ltb x.seq n (omega (arith, b.0, ltb-true y.seq n t))) es (rising_of es h)) in
     record {
       whole = whole;
       rising = subst (λ (l : List Event). Rising l) whole (rising_of es h);
@@ -89,9 +89,14 @@ rising_put e (x ∷ xs) other order h =
     elim (nat_cmp e.seq x.seq) as (λ o. o ≡ nat_cmp e.seq x.seq → is_eq o ≡ false → Rising (by_order o (e ∷ x ∷ xs) (e ∷ xs) (x ∷ put_in e xs))) [
       | Less ↦ λ is _.
           let lt : e.seq < x.seq = ranked e.seq x.seq Less is in
-          let le : e.moment ≤ x.moment = ltb-false x.moment e.moment (sym (order_above e x lt) ∙ orders.0) in
-          ((let first : Before e x = (lt, le) in
-          first, each_weaker (Before x) (Before e) (λ y b. (omega (arith, lt, b.0), omega (arith, le, b.1))) xs h.0), h)
+          let le : e.moment ≤ x.moment = ltb-false x.moment e.moment (sym (order_above e x lt) ∙ orders.0) in (
+            (
+              let first : Before e x = (lt, le) in
+                  first,
+              each_weaker (Before x) (Before e) (λ y b. (omega (arith, lt, b.0), omega (arith, le, b.1))) xs h.0,
+            ),
+            h,
+          )
       | Equal ↦ λ _ f. absurd (false≢true (sym f))
       | Greater ↦ λ is _.
           let lt : x.seq < e.seq = ranked e.seq x.seq Greater is in

@@ -96,8 +96,8 @@ so_new_at tags now kept file new rising repeated i e lt is h j =
     let rows = take i file in
     let fits = row_fits tags now (kept ++ rising) e j.0 in
     let other =
-        among (has_number e.seq) kept rising (sym (same_by_number e (kept ++ rising) fits.0)
-        ∙ not-true (list_any (same_event e) (kept ++ rising)) j.1) in
+    among (has_number e.seq) kept rising (sym (same_by_number e (kept ++ rising) fits.0)
+    ∙ not-true (list_any (same_event e) (kept ++ rising)) j.1) in
     subst (λ (l : List Event). MergedSo tags now kept l (new ++ e ∷ []) (put_in e rising) repeated) (sym (at_place file i e e lt is)) (record {
       none = no_fault_more tags now kept rows e h.none (sym (fault_alike tags now kept rising rows e h.alike) ∙ j.0);
       new_are = ap (λ l. l ++ e ∷ []) h.new_are ∙ sym (new_more kept rows e true (sym (ap not (h.alike (same_event e))) ∙ j.1));
@@ -128,10 +128,10 @@ so_fault_at tags now kept file new rising repeated i e cause lt is h j =
     let rest = drop (i + 1) file in
     let fault : merge_fault tags now (kept ++ rows) e ≡ Some cause = sym (fault_alike tags now kept rising rows e h.alike) ∙ j in
     let cut : file ≡ rows ++ e ∷ rest = sym (take-append-drop (i + 1) file) ∙ ap (λ l. l ++ rest) (at_place file i e e lt is)
-        ∙ append_assoc rows (e ∷ []) rest in
+    ∙ append_assoc rows (e ∷ []) rest in
     let line : 2 + length rows ≡ i + 2 = omega (arith, length-take-le i file (omega arith)) in
     let first : first_fault tags now 2 kept file ≡ Some (bad (i + 2) cause) = ap (first_fault tags now 2 kept) cut
-        ∙ no_fault_then tags now 2 kept rows (e ∷ rest) h.none
+    ∙ no_fault_then tags now 2 kept rows (e ∷ rest) h.none
     ∙ (λ k. or_else (option_map (bad (line k)) (fault k)) (first_fault tags now (line k + 1) ((kept ++ rows) ++ e ∷ []) rest)) in
     ap (λ o. merged_or o kept file) first
 
@@ -142,5 +142,5 @@ so_all tags now kept file new rising repeated i le h =
     let all = take_all i file le in
     let none : first_fault tags now 2 kept file ≡ None = sym (ap (first_fault tags now 2 kept) all) ∙ h.none in
     let count : length file - length (fresh kept file) ≡ repeated =
-        omega (arith, h.count, ap length h.new_are, ap length all, ap (λ l. length (fresh kept l)) all) in
+    omega (arith, h.count, ap length h.new_are, ap length all, ap (λ l. length (fresh kept l)) all) in
     ap (λ o. merged_or o kept file) none ∙ (λ j. Ok (record { fresh = (sym (h.new_are ∙ ap (fresh kept) all)) j; repeated = count j }))

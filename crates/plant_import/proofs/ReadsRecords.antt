@@ -12,11 +12,11 @@ pub reads_one : (old new : Reader (Bor (List ℕ))) (text : List ℕ) (rows : Li
     → ReadsOne new text rows found fields
 reads_one old new text rows true fields h r first =
     let m = rows-more (λ (s : Bor (List ℕ)). Some s.now) old new fields default_config st.StartRecord (strip_bom text) h.left rows h.config h.source
-        h.reached r in
+    h.reached r in
     record { plain = r.3 ∙ h.plain; ready = inl first; config = r.2 ∙ h.config; left = m.0; source = m.1; reached = m.2 }
 reads_one old new text rows false fields h r first =
     sym (all_reached default_config (strip_bom text) rows old.state h.left h.reached
-        (rows-end (λ (s : Bor (List ℕ)). Some s.now) old new fields default_config h.left h.config h.source r))
+    (rows-end (λ (s : Bor (List ℕ)). Some s.now) old new fields default_config h.left h.config h.source r))
 
 -- the records read are the first of the text
 pub read_first : (reader : Reader (Bor (List ℕ))) (text : List ℕ) (rows : List (List (List ℕ))) → HasRead reader text rows
@@ -41,11 +41,19 @@ pub reads_more : (old new : Reader (Bor (List ℕ))) (text : List ℕ) (header :
     → ReadsRows old text header events place → ((rows : List (List (List ℕ))) → HasRead old text rows → ReadsOne new text rows b fields) → b ≡ true
     → row_read place fields ≡ Ok event
     → ReadsRows new text header (events ++ event ∷ []) (place + 1)
-reads_more old new text header events place b fields event h one e is =
-    (h.0 ++ fields
-    ∷ [], found new text (header
-    ∷ h.0) b fields e (one (header ∷ h.0) h.1), rows_push place h.0 fields events event h.3 h.2 is, omega (arith, h.3, length-append h.0 (fields
-    ∷ [])))
+reads_more old new text header events place b fields event h one e is = (
+  h.0 ++ fields
+      ∷ [],
+  found new text (header
+      ∷ h.0) b fields e (one (header ∷ h.0) h.1),
+  rows_push place h.0 fields events event h.3 h.2 is,
+  omega (
+    arith,
+    h.3,
+    length-append h.0 (fields
+        ∷ []),
+  ),
+)
 
 pub reads_fault : (old new : Reader (Bor (List ℕ))) (text : List ℕ) (header : List (List ℕ)) (events : List Event) (place : ℕ) (b : Bool)
     (fields : List (List ℕ)) (cause : Cause)

@@ -32,8 +32,10 @@ continue : (cfg : Config) (n : ℕ) (s : State) (xs : List ℕ) (r : List (List 
     → next_record cfg s [] [] xs ≡ Some p → r ≡ p.0 → Continues cfg n p.1 p.2 rows s2 ys → Continues cfg (suc n) s xs (r ∷ rows) s2 ys
 unfolding records_from
 continue cfg n s xs r rows s2 ys p e er h =
-    record { fuel = h.fuel;
-        are = ap (records_next (records_from cfg n)) e ∙ ap (λ l. p.0 ∷ l) h.are ∙ ap (λ f. f ∷ (rows ++ records_from cfg h.fuel s2 ys)) (sym er) }
+    record {
+      fuel = h.fuel;
+      are = ap (records_next (records_from cfg n)) e ∙ ap (λ l. p.0 ∷ l) h.are ∙ ap (λ f. f ∷ (rows ++ records_from cfg h.fuel s2 ys)) (sym er);
+    }
 
 over : (cfg : Config) (n : ℕ) (s : State) (xs : List ℕ) (rows : List (List (List ℕ))) (s2 : State) (ys : List ℕ) → IsOver s xs
     → Reached cfg s xs rows s2 ys → Continues cfg n s xs rows s2 ys

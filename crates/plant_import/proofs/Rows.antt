@@ -75,9 +75,9 @@ rows_stop k rows r rest events cause e h is =
     let here : row_faults (enumerate_from 1 (rows ++ r ∷ [])) ≡ row_faults (enumerate_from 1 rows) ++ bad (k + 1) cause ∷ [] =
     faults-push k rows r e ∙ ap (λ o. row_faults (enumerate_from 1 rows) ++ option_to_list (option_map (bad (k + 1)) o)) f in
     let all : row_faults (enumerate_from 1 ((rows ++ r ∷ []) ++ rest)) ≡ (row_faults (enumerate_from 1 rows) ++ bad (k + 1) cause ∷ []) ++ more.0 =
-        more.1 ∙ ap (λ l. l ++ more.0) here in
+    more.1 ∙ ap (λ l. l ++ more.0) here in
     ap (λ o. events_or o ((rows ++ r ∷ []) ++ rest))
-        (ap (λ l. slice_get l 0) all ∙ first_of (row_faults (enumerate_from 1 rows)) (bad (k + 1) cause) more.0 h.none)
+    (ap (λ l. slice_get l 0) all ∙ first_of (row_faults (enumerate_from 1 rows)) (bad (k + 1) cause) more.0 h.none)
 
 -- a row that is read is within the limit
 pub in_limit : (k : ℕ) (fields : List (List ℕ)) (event : Event) → row_read k fields ≡ Ok event → k ≤ max_file_rows

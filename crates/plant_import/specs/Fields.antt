@@ -10,14 +10,14 @@ abbrev pub same_bytes : List ℕ → List ℕ → Bool
 same_bytes = pointwise nat_eq
 
 -- one to twelve digits, the first not 0
-abbrev pub number_of : List ℕ → Option ℕ
-number_of field =
+abbrev pub event_number_of : List ℕ → Option ℕ
+event_number_of field =
     if is_between 1 12 (length field) && list_all is_digit field && not (slice_index field 0 == 48) then
-        Some (decimal_value field) else None
+    Some (decimal_value field) else None
 
 -- the name of a kind
-abbrev pub kind_of : List ℕ → Option EventKind
-kind_of field =
+abbrev pub event_kind_of : List ℕ → Option EventKind
+event_kind_of field =
     if same_bytes field (codes "ACT") then Some Act
     else if same_bytes field (codes "RTN") then Some Rtn
     else if same_bytes field (codes "ACK") then Some Ack
@@ -40,10 +40,10 @@ unfoldable pub row_fault : ℕ → List (List ℕ) → Option Cause
 row_fault k fields =
     first_cause ((not (length fields == 4), FieldCount)
     ∷ (not (list_all is_utf8 fields), NotUtf8)
-    ∷ (is_none (number_of (field fields 0)), BadNumber)
+    ∷ (is_none (event_number_of (field fields 0)), BadNumber)
     ∷ (is_none (moment_of (field fields 1)), BadMoment)
     ∷ (is_none (tag_of (field fields 2)), BadTag)
-    ∷ (is_none (kind_of (field fields 3)), BadEvent)
+    ∷ (is_none (event_kind_of (field fields 3)), BadEvent)
     ∷ (nat_lt max_file_rows k, TooLong)
     ∷ [])
 
@@ -51,8 +51,8 @@ row_fault k fields =
 unfoldable pub event_in : List (List ℕ) → Event
 event_in fields =
     record {
-      seq = unwrap_or (number_of (field fields 0)) 0;
+      seq = unwrap_or (event_number_of (field fields 0)) 0;
       moment = unwrap_or (moment_of (field fields 1)) 0;
       tag = unwrap_or (tag_of (field fields 2)) [];
-      kind = unwrap_or (kind_of (field fields 3)) Act;
+      kind = unwrap_or (event_kind_of (field fields 3)) Act;
     }

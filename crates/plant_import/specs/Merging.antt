@@ -45,7 +45,7 @@ abbrev pub first_fault : List Name → ℕ → ℕ → List Event → List Event
 first_fault tags now line others [] = None
 first_fault tags now line others (e ∷ rows) =
     or_else (option_map (bad line) (merge_fault tags now others e))
-        (first_fault tags now (line + 1) (others ++ e ∷ []) rows)
+    (first_fault tags now (line + 1) (others ++ e ∷ []) rows)
 
 -- a row that is none of these
 abbrev pub is_new : List Event → Event → Bool

@@ -6,7 +6,7 @@ use plant_alarm::{EventKind, Number};
 
 /// The number that a field is: one to twelve digits, the first not 0.
 pub fn number_of(field: &[u8]) -> Option<Number>
-    ensures { result ≡ fields.number_of field.now }
+    ensures { result ≡ fields.event_number_of field.now }
 {
     if field.is_empty() || field.len() > 12 || field[0] == b'0' || !all_digits(field) {
         return None;
@@ -38,7 +38,7 @@ fn value_of(digits: &[u8]) -> u64
 
 /// The kind of event that a field names.
 pub fn kind_of(field: &[u8]) -> Option<EventKind>
-    ensures { result ≡ fields.kind_of field.now }
+    ensures { result ≡ fields.event_kind_of field.now }
 {
     match field {
         b"ACT" => Some(EventKind::Act),

@@ -2,17 +2,17 @@
 #![tactic(auto)]
 
 mod bad_file;
+mod event_numbers;
 mod fields;
 pub mod laws;
 mod merging;
 mod needs;
-mod numbers;
 mod reading;
 mod records;
 mod relation;
 
 pub use bad_file::{BadFile, Cause};
+pub use event_numbers::{count_new, events_after, in_rising_number, put_events, rise};
 pub use merging::{Merged, merge};
 pub use needs::{has_late, needed};
-pub use numbers::{count_new, events_after, in_rising_number, put_events, rise};
 pub use reading::{FileRead, read_file};

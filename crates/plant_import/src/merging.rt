@@ -6,7 +6,7 @@ ghost use Rattle.plant_import.specs.{Merging.{IsRising}, Numbers.{AreByNumber, A
 ghost use Rattle.plant_import.specs.Merging as merging;
 ghost use Rattle.plant_import.specs.Relation as relation;
 
-use crate::numbers::{put, rise};
+use crate::event_numbers::{put, rise};
 use crate::relation::{Nearest, Relation, nearest_among, nearest_by_number, relation_of};
 use crate::{BadFile, Cause};
 use plant_alarm::{Event, Number};

@@ -6,7 +6,7 @@ ghost use Rattle.plant_types.specs.Results.{OnlyMemory};
 ghost use Rattle.plant_import.specs.{Numbers.{AreNumbered}, Reached.{AreReached}};
 ghost use Rattle.plant_import.specs.Needed as needs;
 
-use crate::numbers::has_number;
+use crate::event_numbers::has_number;
 use crate::relation::place_of;
 use plant_alarm::{Event, Number};
 use plant_types::{Fault, Tag};

@@ -2,6 +2,8 @@
 #![tactic(auto)]
 
 #[cfg(test)]
+mod event_numbers;
+#[cfg(test)]
 mod fixtures;
 #[cfg(test)]
 mod floods;
@@ -11,7 +13,5 @@ mod matrices;
 mod merges;
 #[cfg(test)]
 mod needs;
-#[cfg(test)]
-mod numbers;
 #[cfg(test)]
 mod types;

@@ -1,7 +1,7 @@
 //! What a file adds to the kept events.
 
+use crate::event_numbers::{many_kept, many_new};
 use crate::fixtures::{event, moment, tag};
-use crate::numbers::{many_kept, many_new};
 use plant_alarm::{Event, EventKind};
 use plant_import::merge;
 use plant_types::Tag;

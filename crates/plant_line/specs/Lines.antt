@@ -12,12 +12,22 @@ use Rattle.plant_line.specs.declared.words.{Line.{Line}, Service.{Service}, Task
 abbrev pub service_from : Option ℕ → Option ℕ → Option ℕ → Bool → Option ℕ → Option Service
 service_from None connections clients forever idle = None
 service_from (Some port) connections clients false idle =
-    Some (record { port = port; connections = unwrap_or connections 1; clients = unwrap_or clients 1; idle = idle;
-        while_open = false })
+    Some (record {
+      port = port;
+      connections = unwrap_or connections 1;
+      clients = unwrap_or clients 1;
+      idle = idle;
+      while_open = false;
+    })
 service_from (Some port) connections clients true idle =
     let all = 2 ^ 64 - 1 in
-    Some (record { port = port; connections = all; clients = unwrap_or clients 256; idle = Some (unwrap_or idle 30);
-        while_open = true })
+    Some (record {
+      port = port;
+      connections = all;
+      clients = unwrap_or clients 256;
+      idle = Some (unwrap_or idle 30);
+      while_open = true;
+    })
 
 -- The task for an older file, a file of the tables and a port, each if named: the older file is migrated to the file of
 -- the tables; or, if no older file is named, the office is served over that file, or in memory, and over the port, or

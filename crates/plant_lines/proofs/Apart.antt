@@ -4,7 +4,7 @@ use Rattle.std.proofs.lemmas.Grind.{flat_map-append}
 use Rattle.plant_model.specs.{Worlds.{World}, declared.{call.Call.{Call}, reply.Answer.{Answer}}}
 use Rattle.plant_office.specs.Runs.{AreIsolated, after_answer, world_after}
 use Rattle.plant_wire.specs.Marks.{Mark, said, malformed, answers_of, calls_of, last_marks}
-use Rattle.plant_lines.specs.Accounts.{AreApart}
+use Rattle.plant_lines.specs.Accounts.{AreEachIsolated}
 use Rattle.plant_lines.specs.Events.{Event, opened, came, ended, answered, broke, stopped, left, closed, all_answers, all_calls, answers_in, calls_in}
 
 -- as many answers as calls
@@ -44,7 +44,7 @@ isolated_later w [] ds (x ∷ xs) ys even h = absurd (omega (arith, even))
 isolated_later w (c ∷ cs) ds [] ys even h = absurd (omega (arith, even))
 isolated_later w (c ∷ cs) ds (x ∷ xs) ys even h = isolated_later (after_answer w c x) cs ds xs ys (omega (arith, even)) h.1
 
-pub apart_from : (w : World) (events : List Event) → AreIsolated w (all_calls events) (all_answers events) → AreApart w events
+pub apart_from : (w : World) (events : List Event) → AreIsolated w (all_calls events) (all_answers events) → AreEachIsolated w events
 apart_from w events h es fs e is =
     let cs : all_calls events ≡ all_calls es ++ (calls_in e ++ all_calls fs) = ap all_calls is ∙ flat_map-append calls_in es (e ∷ fs) in
     let xs : all_answers events ≡ all_answers es ++ (answers_in e ++ all_answers fs) = ap all_answers is ∙ flat_map-append answers_in es (e ∷ fs) in

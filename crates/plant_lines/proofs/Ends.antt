@@ -3,7 +3,7 @@ use Rattle.std.proofs.Common.{◌≡◌, ℕ, List, [], ◌∷◌, ◌++◌, tru
 use Rattle.std.proofs.Common.{append_assoc, append-nil, nat_lt, map, take, drop, length, inl, inr, take-append-drop, arith}
 use Rattle.plant_model.specs.declared.{call.Call.{Call}, reply.Answer.{Answer}}
 use Rattle.plant_call.specs.Front.{Parsed, StandsAtFront, whole}
-use Rattle.plant_wire.specs.Marks.{IsFaultless, Mark, Last, begun, breaking, nothing, answers_of, calls_of, item_of, last_text}
+use Rattle.plant_wire.specs.Marks.{IsFaultless, Mark, Last, begun, breaking, nothing, answers_of, calls_of, marked_item, last_text}
 use Rattle.plant_wire.specs.Marks.{out_of}
 use Rattle.plant_wire.specs.{Session.{EndsAs, IsIdle}, Step.{AnswersFront, ServesBroken, ServesPart, StopsFor}}
 use Rattle.plant_wire.specs.declared.{reads.End.{End}, step.Stop.{Stop}}
@@ -30,19 +30,19 @@ take_front [] ys = refl
 take_front (x ∷ xs) ys = ap (λ (l : List ℕ). x ∷ l) (take_front xs ys)
 
 -- of the parses of some requests, those of all but the last
-parses_last : (a : List ℕ) (ms : List Mark) (m : Mark) (rest : List ℕ) → Parsed a (map item_of (ms ++ m ∷ [])) rest
-    → (mid : List ℕ) × Parsed a (map item_of ms) mid × ((n : ℕ) × StandsAtFront mid (whole (item_of m) n))
+parses_last : (a : List ℕ) (ms : List Mark) (m : Mark) (rest : List ℕ) → Parsed a (map marked_item (ms ++ m ∷ [])) rest
+    → (mid : List ℕ) × Parsed a (map marked_item ms) mid × ((n : ℕ) × StandsAtFront mid (whole (marked_item m) n))
 parses_last a [] m rest (n, front, end) = (a, refl, (n, front))
 parses_last a (x ∷ ms) m rest (n, front, more) =
     let later = parses_last (drop n a) ms m rest more in
     (later.0, (n, front, later.1), later.2)
 
 module _ (c h : List ℕ) (m : List Mark) (x : List ℕ) (d : List Call) (b : List Answer) (t : List ℕ) where
-  fronts : (rest : List ℕ) → Parsed c (map item_of m) rest → t ≡ out_of m → d ≡ calls_of m → b ≡ answers_of m → Fronts c t d b rest
+  fronts : (rest : List ℕ) → Parsed c (map marked_item m) rest → t ≡ out_of m → d ≡ calls_of m → b ≡ answers_of m → Fronts c t d b rest
   fronts rest parses sent calls answers = record { marks = m; parses = parses; writes = sent; served = (sym calls, sym answers) }
 
   -- nothing was begun
-  part_none : (rest : List ℕ) → Parsed c (map item_of m) rest → t ≡ out_of m → d ≡ calls_of m → b ≡ answers_of m
+  part_none : (rest : List ℕ) → Parsed c (map marked_item m) rest → t ≡ out_of m → d ≡ calls_of m → b ≡ answers_of m
       → (s : Parts c t d b) × (s.last ≡ nothing)
   part_none rest parses sent calls answers = (
     record {
@@ -59,9 +59,9 @@ module _ (c h : List ℕ) (m : List Mark) (x : List ℕ) (d : List Call) (b : Li
   )
 
   -- a part of the last answer was sent
-  part_last : (u p : List ℕ) → Parsed c (map item_of m) u → d ≡ calls_of m → b ≡ answers_of m → IsBehind m t p → Parts c t d b
+  part_last : (u p : List ℕ) → Parsed c (map marked_item m) u → d ≡ calls_of m → b ≡ answers_of m → IsBehind m t p → Parts c t d b
   part_last u p parses calls answers w =
-      let split = parses_last c w.earlier w.last u (subst (λ (ms : List Mark). Parsed c (map item_of ms) u) w.are parses) in
+      let split = parses_last c w.earlier w.last u (subst (λ (ms : List Mark). Parsed c (map marked_item ms) u) w.are parses) in
       record {
         marks = w.earlier;
         rest = split.0;

@@ -10,7 +10,7 @@ use Rattle.plant_wire.specs.declared.step.Stop.TheVariants as stops
 use Rattle.plant_connections.specs.Connections.{line_of}
 use Rattle.plant_lines.specs.Events.{Event, IsToldBy, Log, Logs, Shows, answered, answers_in, broke, calls_in, came, closed, ended}
 use Rattle.plant_lines.specs.Events.{left, opened, port_in, seen_by, stopped, who}
-use Rattle.plant_lines.specs.Stages.{AreLines, Goes, IsOpen, MayClose, Moves, Stage, end_by, end_for, served, ending, stage_by, stage_in}
+use Rattle.plant_lines.specs.Stages.{AreOpenLines, Goes, IsOpen, MayClose, Moves, Stage, end_by, end_for, served, ending, stage_by, stage_in}
 use Rattle.plant_lines.specs.Happens.{Happened, Made, Moved, Passed, Turned, Went}
 use Rattle.plant_lines.proofs.{Held.{lifted, lifted_closed, lifted_opened, lifted_refused}, Leading.{logs_then, makes_none, shows_untold}}
 use Rattle.plant_lines.specs.declared.lines.Line.{Line}
@@ -132,7 +132,7 @@ made_none b x l = record { events = []; unseen = refl; makes = makes_none b x; w
 
 -- one line, among all
 pub happened_line : {B : Type 0} (b : books.Ghosts B) (x y : B) (s t : Log) (log : Option (List ℕ)) (count : ℕ)
-    (ls : List Line) (at : ℕ) (l l' : Line) → AreLines count ls → slice_get ls at ≡ Some l → Turned b x y s t l l'
+    (ls : List Line) (at : ℕ) (l l' : Line) → AreOpenLines count ls → slice_get ls at ≡ Some l → Turned b x y s t l l'
     → Happened b x y (seen_by s log) (seen_by t log) count count ls (slice_set ls at l')
 happened_line b x y s t log count ls at l l' ok is p = record {
   events = p.events;
@@ -152,7 +152,7 @@ shows_closed s t log log' k end part logged written = record {
 }
 
 pub passed_closed : (s t : Option (List Event)) (log log' : Option (List ℕ)) (count : ℕ) (ls : List Line) (at : ℕ) (l : Line) (end : End)
-    → AreLines count ls → slice_get ls at ≡ Some l
+    → AreOpenLines count ls → slice_get ls at ≡ Some l
     → MayClose l end → Logs s t (closed l.number end ∷ []) → (part : ℕ) × Appends log log' (take part (line_of (l.number + 1) end))
     → Passed (seen_by s log) (seen_by t log') count count ls (remove ls at)
 passed_closed s t log log' count ls at l end ok is may logged (part, written) = record {
@@ -162,7 +162,7 @@ passed_closed s t log log' count ls at l end ok is may logged (part, written) = 
   leads = lifted_closed count ls at l end ok is may;
 }
 
-pub passed_opened : (s t : Option (List Event)) (log : Option (List ℕ)) (count : ℕ) (ls : List Line) (l : Line) → AreLines count ls
+pub passed_opened : (s t : Option (List Event)) (log : Option (List ℕ)) (count : ℕ) (ls : List Line) (l : Line) → AreOpenLines count ls
     → l.number ≡ count → stage_in l ≡ served [] []
     → Logs s t (opened count ∷ []) → Passed (seen_by s log) (seen_by t log) count (count + 1) ls (ls ++ l ∷ [])
 passed_opened s t log count ls l ok is new logged = record {
@@ -172,7 +172,7 @@ passed_opened s t log count ls l ok is new logged = record {
   leads = lifted_opened count ls l ok is new;
 }
 
-pub passed_refused : (s t u : Option (List Event)) (log log' : Option (List ℕ)) (count : ℕ) (ls : List Line) → AreLines count ls
+pub passed_refused : (s t u : Option (List Event)) (log log' : Option (List ℕ)) (count : ℕ) (ls : List Line) → AreOpenLines count ls
     → Logs s t (opened count ∷ []) → Logs t u (closed count Fault ∷ []) → (part : ℕ) × Appends log log' (take part (line_of (count + 1) Fault))
     → Passed (seen_by s log) (seen_by u log') count (count + 1) ls ls
 passed_refused s t u log log' count ls ok first second (part, written) =

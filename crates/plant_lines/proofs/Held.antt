@@ -8,7 +8,7 @@ use Rattle.plant_call.specs.Cut.{WaitsBelow}
 use Rattle.plant_wire.specs.declared.reads.End.{End}
 use Rattle.plant_wire.specs.declared.reads.End.TheVariants.{Fault, WriteFailed}
 use Rattle.plant_lines.specs.Events.{Event, opened, closed}
-use Rattle.plant_lines.specs.Stages.{AreLines, IsGivenUp, Leads, MayClose, Moves, Stage, fresh, gone, served, line_with, stage_by, stage_held}
+use Rattle.plant_lines.specs.Stages.{AreOpenLines, IsGivenUp, Leads, MayClose, Moves, Stage, fresh, gone, served, line_with, stage_by, stage_held}
 use Rattle.plant_lines.specs.Stages.{stage_in, stage_of}
 use Rattle.plant_lines.specs.{Happens.{AreOf}, Prompt.{ArePrompt, IsPrompt}}
 use Rattle.plant_lines.proofs.Leading.{leads_other}
@@ -25,7 +25,7 @@ later x k ls not = go (nat_eq x.number k) refl
     go true e = absurd (not (eqb-true x.number k e))
     go false e = rw e refl
 
-pub below : (count : ℕ) (ls : List Line) (at : ℕ) (l : Line) → AreLines count ls → slice_get ls at ≡ Some l → l.number < count
+pub below : (count : ℕ) (ls : List Line) (at : ℕ) (l : Line) → AreOpenLines count ls → slice_get ls at ≡ Some l → l.number < count
 below count [] at l ok is = cc
 below count (x ∷ ls) zero l ok is = let e : x ≡ l = cc in subst (λ (t : Line). t.number < count) e ok.0
 below count (x ∷ ls) (suc at) l ok is = below count ls at l ok.3 is
@@ -44,15 +44,15 @@ absent k (x ∷ ls) (suc at) l none is same = go (nat_eq x.number k) refl (λ h.
     go false e before = before (sym (later x k ls (eqb-false x.number k e)) ∙ none)
 
 -- another line than an earlier one
-differs : (count : ℕ) (x : Line) (ls : List Line) (at : ℕ) (l : Line) → AreLines count (x ∷ ls) → slice_get ls at ≡ Some l → x.number ≢ l.number
+differs : (count : ℕ) (x : Line) (ls : List Line) (at : ℕ) (l : Line) → AreOpenLines count (x ∷ ls) → slice_get ls at ≡ Some l → x.number ≢ l.number
 differs count x ls at l ok is same = absent x.number ls at l ok.1 is (sym same)
 
-pub found : (count : ℕ) (ls : List Line) (at : ℕ) (l : Line) → AreLines count ls → slice_get ls at ≡ Some l → line_with l.number ls ≡ Some l
+pub found : (count : ℕ) (ls : List Line) (at : ℕ) (l : Line) → AreOpenLines count ls → slice_get ls at ≡ Some l → line_with l.number ls ≡ Some l
 found count [] at l ok is = cc
 found count (x ∷ ls) zero l ok is = let e : x ≡ l = cc in here x l.number ls (ap (λ (t : Line). t.number) e) ∙ ap Some e
 found count (x ∷ ls) (suc at) l ok is = later x l.number ls (differs count x ls at l ok is) ∙ found count ls at l ok.3 is
 
-set_own : (count : ℕ) (ls : List Line) (at : ℕ) (l l' : Line) → AreLines count ls → slice_get ls at ≡ Some l → l'.number ≡ l.number
+set_own : (count : ℕ) (ls : List Line) (at : ℕ) (l l' : Line) → AreOpenLines count ls → slice_get ls at ≡ Some l → l'.number ≡ l.number
     → line_with l.number (slice_set ls at l') ≡ Some l'
 set_own count [] at l l' ok is same = cc
 set_own count (x ∷ ls) zero l l' ok is same = here l' l.number ls same
@@ -72,8 +72,8 @@ set_other (x ∷ ls) (suc at) l l' k is same not = go (nat_eq x.number k) refl (
     go true e h = rw e refl
     go false e h = rw e h
 
-pub set_lines : (count : ℕ) (ls : List Line) (at : ℕ) (l l' : Line) → AreLines count ls → slice_get ls at ≡ Some l → l'.number ≡ l.number
-    → WaitsBelow l'.unread.items l'.wanted → AreLines count (slice_set ls at l')
+pub set_lines : (count : ℕ) (ls : List Line) (at : ℕ) (l l' : Line) → AreOpenLines count ls → slice_get ls at ≡ Some l → l'.number ≡ l.number
+    → WaitsBelow l'.unread.items l'.wanted → AreOpenLines count (slice_set ls at l')
 set_lines count [] at l l' ok is same waits = tt
 set_lines count (x ∷ ls) zero l l' ok is same waits =
     let first : l ≡ x = cc in
@@ -97,12 +97,12 @@ stage_fresh_at k count ls le = rw (le-ltb k count le) refl
 stage_same : (k count : ℕ) (ls ms : List Line) → line_with k ms ≡ line_with k ls → stage_of k count ms ≡ stage_of k count ls
 stage_same k count ls ms e = rw e refl
 
-pub stage_at : (count : ℕ) (ls : List Line) (at : ℕ) (l : Line) → AreLines count ls → slice_get ls at ≡ Some l
+pub stage_at : (count : ℕ) (ls : List Line) (at : ℕ) (l : Line) → AreOpenLines count ls → slice_get ls at ≡ Some l
     → stage_of l.number count ls ≡ stage_in l
 stage_at count ls at l ok is = stage_held_at l.number count ls (below count ls at l ok is) ∙ ap stage_held (found count ls at l ok is)
 
 -- one line went on: so did its connection, and no other
-pub lifted : (count : ℕ) (ls : List Line) (at : ℕ) (l l' : Line) (events : List Event) → AreLines count ls → slice_get ls at ≡ Some l
+pub lifted : (count : ℕ) (ls : List Line) (at : ℕ) (l l' : Line) (events : List Event) → AreOpenLines count ls → slice_get ls at ≡ Some l
     → l'.number ≡ l.number
     → AreOf l.number events → Leads l.number (stage_in l) events (stage_in l') → (k : ℕ)
     → Leads k (stage_of k count ls) events (stage_of k count (slice_set ls at l'))
@@ -122,7 +122,7 @@ lifted count ls at l l' events ok is same own leads k = go (nat_eq l.number k) r
         (leads_other k l.number (stage_of k count ls) events own not)
 
 -- once a line is closed, no line has its number
-remove_own : (count : ℕ) (ls : List Line) (at : ℕ) (l : Line) → AreLines count ls → slice_get ls at ≡ Some l
+remove_own : (count : ℕ) (ls : List Line) (at : ℕ) (l : Line) → AreOpenLines count ls → slice_get ls at ≡ Some l
     → line_with l.number (remove ls at) ≡ None
 remove_own count [] at l ok is = cc
 remove_own count (x ∷ ls) zero l ok is = let e : x ≡ l = cc in ap (λ (t : Line). line_with t.number ls) (sym e) ∙ ok.1
@@ -137,7 +137,7 @@ remove_other (x ∷ ls) (suc at) l k is not = go (nat_eq x.number k) refl (remov
     go true e h = rw e refl
     go false e h = rw e h
 
-pub remove_lines : (count : ℕ) (ls : List Line) (at : ℕ) (l : Line) → AreLines count ls → slice_get ls at ≡ Some l → AreLines count (remove ls at)
+pub remove_lines : (count : ℕ) (ls : List Line) (at : ℕ) (l : Line) → AreOpenLines count ls → slice_get ls at ≡ Some l → AreOpenLines count (remove ls at)
 remove_lines count [] at l ok is = cc
 remove_lines count (x ∷ ls) zero l ok is = ok.3
 remove_lines count (x ∷ ls) (suc at) l ok is =
@@ -163,7 +163,7 @@ over_so l none = go l.end refl
     go None is = tt
     go (Some e) is = ends_so l e is none
 
-pub lifted_closed : (count : ℕ) (ls : List Line) (at : ℕ) (l : Line) (end : End) → AreLines count ls → slice_get ls at ≡ Some l → MayClose l end
+pub lifted_closed : (count : ℕ) (ls : List Line) (at : ℕ) (l : Line) (end : End) → AreOpenLines count ls → slice_get ls at ≡ Some l → MayClose l end
     → (k : ℕ) → Leads k (stage_of k count ls) (closed l.number end ∷ []) (stage_of k count (remove ls at))
 lifted_closed count ls at l end ok is may k = go (nat_eq l.number k) refl
   where
@@ -181,7 +181,7 @@ lifted_closed count ls at l end ok is may k = go (nat_eq l.number k) refl
         (leads_other k l.number (stage_of k count ls) (closed l.number end ∷ []) (refl, tt) not)
 
 -- a connection is accepted
-none_above : (count : ℕ) (ls : List Line) (k : ℕ) → AreLines count ls → count ≤ k → line_with k ls ≡ None
+none_above : (count : ℕ) (ls : List Line) (k : ℕ) → AreOpenLines count ls → count ≤ k → line_with k ls ≡ None
 none_above count [] k ok le = refl
 none_above count (x ∷ ls) k ok le = later x k ls (λ e. let lt = ok.0 in omega (arith, e)) ∙ none_above count ls k ok.3 le
 
@@ -202,8 +202,8 @@ pushed_other (x ∷ ls) l k not = go (nat_eq x.number k) refl (pushed_other ls l
     go true e h = rw e refl
     go false e h = rw e h
 
-pub pushed_lines : (count : ℕ) (ls : List Line) (l : Line) → AreLines count ls → l.number ≡ count → WaitsBelow l.unread.items l.wanted
-    → AreLines (count + 1) (ls ++ l ∷ [])
+pub pushed_lines : (count : ℕ) (ls : List Line) (l : Line) → AreOpenLines count ls → l.number ≡ count → WaitsBelow l.unread.items l.wanted
+    → AreOpenLines (count + 1) (ls ++ l ∷ [])
 pushed_lines count [] l ok is waits = (omega (arith, is), refl, waits, tt)
 pushed_lines count (x ∷ ls) l ok is waits = (
   omega (arith, ok.0),
@@ -212,19 +212,19 @@ pushed_lines count (x ∷ ls) l ok is waits = (
   pushed_lines count ls l ok.3 is waits,
 )
 
-pub more_lines : (count : ℕ) (ls : List Line) → AreLines count ls → AreLines (count + 1) ls
+pub more_lines : (count : ℕ) (ls : List Line) → AreOpenLines count ls → AreOpenLines (count + 1) ls
 more_lines count [] ok = tt
 more_lines count (x ∷ ls) ok = (omega (arith, ok.0), ok.1, ok.2, more_lines count ls ok.3)
 
 -- another connection stays where it was as one more is counted
-counted_other : (count : ℕ) (ls : List Line) (k : ℕ) → AreLines count ls → count ≢ k → stage_of k (count + 1) ls ≡ stage_of k count ls
+counted_other : (count : ℕ) (ls : List Line) (k : ℕ) → AreOpenLines count ls → count ≢ k → stage_of k (count + 1) ls ≡ stage_of k count ls
 counted_other count ls k ok not = go (nat_lt k count) refl
   where
     go : (b : Bool) → nat_lt k count ≡ b → stage_of k (count + 1) ls ≡ stage_of k count ls
     go true e = let lt = ltb-true k count e in stage_held_at k (count + 1) ls (omega arith) ∙ sym (stage_held_at k count ls lt)
     go false e = let le = ltb-false k count e in stage_fresh_at k (count + 1) ls (omega (arith, not)) ∙ sym (stage_fresh_at k count ls le)
 
-pub lifted_opened : (count : ℕ) (ls : List Line) (l : Line) → AreLines count ls → l.number ≡ count → stage_in l ≡ served [] []
+pub lifted_opened : (count : ℕ) (ls : List Line) (l : Line) → AreOpenLines count ls → l.number ≡ count → stage_in l ≡ served [] []
     → (k : ℕ) → Leads k (stage_of k count ls) (opened count ∷ []) (stage_of k (count + 1) (ls ++ l ∷ []))
 lifted_opened count ls l ok is new k = go (nat_eq count k) refl
   where
@@ -243,7 +243,7 @@ lifted_opened count ls l ok is new k = go (nat_eq count k) refl
         (leads_other k count (stage_of k count ls) (opened count ∷ []) (refl, tt) not)
 
 -- a connection is accepted and closed again, because memory ran out
-pub lifted_refused : (count : ℕ) (ls : List Line) → AreLines count ls
+pub lifted_refused : (count : ℕ) (ls : List Line) → AreOpenLines count ls
     → (k : ℕ) → Leads k (stage_of k count ls) (opened count ∷ closed count Fault ∷ []) (stage_of k (count + 1) ls)
 lifted_refused count ls ok k = go (nat_eq count k) refl
   where
@@ -262,7 +262,7 @@ lifted_refused count ls ok k = go (nat_eq count k) refl
         subst (λ (s : Stage). Leads k (stage_of k count ls) (opened count ∷ closed count Fault ∷ []) s) (sym (counted_other count ls k ok not))
         (leads_other k count (stage_of k count ls) (opened count ∷ closed count Fault ∷ []) (refl, (refl, tt)) not)
 
-pub lines_start : (count : ℕ) (ls : List Line) → ls ≡ [] → AreLines count ls
+pub lines_start : (count : ℕ) (ls : List Line) → ls ≡ [] → AreOpenLines count ls
 lines_start count [] e = tt
 lines_start count (x ∷ ls) e = cc
 
@@ -274,7 +274,7 @@ prompt_start (x ∷ ls) e = cc
 pub none_yet : (k : ℕ) → stage_of k 0 [] ≡ fresh
 none_yet k = stage_fresh_at k 0 [] (omega arith)
 
-pub waits_at : (count : ℕ) (ls : List Line) (at : ℕ) (l : Line) → AreLines count ls → slice_get ls at ≡ Some l → WaitsBelow l.unread.items l.wanted
+pub waits_at : (count : ℕ) (ls : List Line) (at : ℕ) (l : Line) → AreOpenLines count ls → slice_get ls at ≡ Some l → WaitsBelow l.unread.items l.wanted
 waits_at count [] at l ok is = cc
 waits_at count (x ∷ ls) zero l ok is = let e : x ≡ l = cc in subst (λ (t : Line). WaitsBelow t.unread.items t.wanted) e ok.2
 waits_at count (x ∷ ls) (suc at) l ok is = waits_at count ls at l ok.3 is

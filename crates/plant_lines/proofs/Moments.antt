@@ -5,10 +5,10 @@ use Rattle.std.proofs.Common.{length-append, arith}
 use Rattle.std.specs.List.{flat_map}
 use Rattle.std.proofs.lemmas.{Bool.{eqb-false}, Grind.{flat_map-append}, List.{map-append, Elements.{filter_map-append}}}
 use Rattle.plant_model.specs.declared.{call.Call.{Call}, reply.Answer.{Answer}}
-use Rattle.plant_call.{specs.Front.{Item, Parsed, StandsAtFront, body_length, broken, item_of as item_from_head}, specs.declared.causes.Cause.{Cause}}
+use Rattle.plant_call.{specs.Front.{Item, Parsed, StandsAtFront, body_length, broken, marked_item as item_from_head}, specs.declared.causes.Cause.{Cause}}
 use Rattle.plant_call.proofs.public.Cuts.{Parses-append}
 use Rattle.plant_wire.specs.Causes.{cause_text}
-use Rattle.plant_wire.specs.Marks.{Mark, Last, answer_in, answers_of, call_in, calls_of, item_of, last_marks, last_text, mark_text, out_of}
+use Rattle.plant_wire.specs.Marks.{Mark, Last, marked_answer, answers_of, call_in, calls_of, marked_item, last_marks, last_text, mark_text, out_of}
 use Rattle.plant_wire.specs.{Session.{IsIdle}, Step.{StandsLast, StopsFor}}
 use Rattle.plant_wire.specs.declared.{reads.End.{End, TheVariants.{BrokenInput}}, step.Stop.{Stop}}
 use Rattle.plant_lines.specs.Events.{Event, opened, came, ended, answered, broke, stopped, left, closed, who, of, of_all, bytes_in, ends_in, marks_in}
@@ -29,7 +29,7 @@ pub record IsBehind (m : List Mark) (t p : List ℕ) : Type 0 where
   pub sent : t ≡ out_of earlier ++ before
 
 pub record IsGoing (c : List ℕ) (m : List Mark) (x : List ℕ) (d : List Call) (b : List Answer) (t u p : List ℕ) : Type 0 where
-  pub parses : Parsed c (map item_of m) u
+  pub parses : Parsed c (map marked_item m) u
   pub uncut : x ≡ []
   pub calls : d ≡ calls_of m
   pub answers : b ≡ answers_of m
@@ -38,7 +38,7 @@ pub record IsGoing (c : List ℕ) (m : List Mark) (x : List ℕ) (d : List Call)
 -- its input ended
 pub record HasEnded (c h : List ℕ) (m : List Mark) (x : List ℕ) (d : List Call) (b : List Answer) (t : List ℕ) (e : End) (p : List ℕ) : Type 0 where
   pub rest : List ℕ
-  pub parses : Parsed c (map item_of m) rest
+  pub parses : Parsed c (map marked_item m) rest
   pub idle : IsIdle rest
   pub seen : nat_lt 0 (length h) ≡ true
   pub uncut : x ≡ []
@@ -53,7 +53,7 @@ pub record HasBroken (c : List ℕ) (m : List Mark) (x : List ℕ) (d : List Cal
   pub rest : List ℕ
   pub cause : Cause
   pub before : List ℕ
-  pub parses : Parsed c (map item_of m) rest
+  pub parses : Parsed c (map marked_item m) rest
   pub front : StandsAtFront rest (broken cause)
   pub cut : x ≡ cause_text cause
   pub split : x ≡ before ++ p
@@ -69,7 +69,7 @@ pub record HasStopped (c : List ℕ) (m : List Mark) (x : List ℕ) (d : List Ca
   pub part : ℕ
   pub stop : Stop
   pub before : List ℕ
-  pub parses : Parsed c (map item_of m) rest
+  pub parses : Parsed c (map marked_item m) rest
   pub stands : StandsLast rest last
   pub why : StopsFor last stop
   pub cut : x ≡ take part (last_text last)
@@ -85,7 +85,7 @@ IsOver c h m x d b t e p = HasEnded c h m x d b t e p ⊎ (HasBroken c m x d b t
 pub record HasAccount (c : List ℕ) (m : List Mark) (x t : List ℕ) : Type 0 where
   pub rest : List ℕ
   pub pending : List ℕ
-  pub parses : Parsed c (map item_of m) rest
+  pub parses : Parsed c (map marked_item m) rest
   pub texts : out_of m ++ x ≡ t ++ pending
   pub one : AreOfOne pending m x
 
@@ -99,9 +99,9 @@ Parsed-trans : (a b r : List ℕ) (xs ys : List Item) → Parsed a xs b → Pars
 Parsed-trans a b r [] ys is later = subst (λ (t : List ℕ). Parsed t ys r) (sym is) later
 Parsed-trans a b r (x ∷ xs) ys (n, front, rest) later = (n, front, Parsed-trans (drop n a) b r xs ys rest later)
 
-parsed_more : (a b r : List ℕ) (ms ns : List Mark) → Parsed a (map item_of ms) b → Parsed b (map item_of ns) r → Parsed a (map item_of (ms ++ ns)) r
+parsed_more : (a b r : List ℕ) (ms ns : List Mark) → Parsed a (map marked_item ms) b → Parsed b (map marked_item ns) r → Parsed a (map marked_item (ms ++ ns)) r
 parsed_more a b r ms ns first later =
-    subst (λ (x : List Item). Parsed a x r) (sym (map-append item_of ms ns)) (Parsed-trans a b r (map item_of ms) (map item_of ns) first later)
+    subst (λ (x : List Item). Parsed a x r) (sym (map-append marked_item ms ns)) (Parsed-trans a b r (map marked_item ms) (map marked_item ns) first later)
 
 pub out_last : (ms : List Mark) (m : Mark) → out_of (ms ++ m ∷ []) ≡ out_of ms ++ mark_text m
 out_last ms m = flat_map-append mark_text ms (m ∷ []) ∙ ap (λ (l : List ℕ). out_of ms ++ l) (append-nil (mark_text m))
@@ -251,7 +251,7 @@ moves fresh s' (opened k) c h m x d b t (rc, rm, rx, rd, rb, rt) is =
     rw (is, rc, rm, rx, rd, rb, rt) record { parses = refl; uncut = refl; calls = refl; answers = refl; waiting = inl (refl, refl) }
 moves (served u p) s' (came k bytes) c h m x d b t g (open_now, is) =
     rw (is, append-nil m, append-nil x, append-nil d, append-nil b, append-nil t) record {
-      parses = Parses-append body_length item_from_head c bytes (map item_of m) u g.parses;
+      parses = Parses-append body_length item_from_head c bytes (map marked_item m) u g.parses;
       uncut = g.uncut;
       calls = g.calls;
       answers = g.answers;
@@ -275,7 +275,7 @@ moves (served u p) s' (answered k mark) c h m x d b t g (empty, (n, stands, is))
       parses = parsed_more c u (drop n u) m (mark ∷ []) g.parses (n, stands, refl);
       uncut = g.uncut;
       calls = ap (λ (l : List Call). l ++ calls_of (mark ∷ [])) g.calls ∙ sym (filter_map-append call_in m (mark ∷ []));
-      answers = ap (λ (l : List Answer). l ++ answers_of (mark ∷ [])) g.answers ∙ sym (filter_map-append answer_in m (mark ∷ []));
+      answers = ap (λ (l : List Answer). l ++ answers_of (mark ∷ [])) g.answers ∙ sym (filter_map-append marked_answer m (mark ∷ []));
       waiting =
           inr record
           { earlier = m; last = mark; before = []; are = refl; text = refl; sent = sent_all m t p g.waiting empty ∙ sym (append-nil (out_of m)) };
@@ -307,7 +307,7 @@ moves (served u p) s' (stopped k last part stop) c h m x d b t g (empty, stands,
       cut = ap (λ (l : List ℕ). l ++ take part (last_text last)) g.uncut;
       split = ap (λ (l : List ℕ). l ++ take part (last_text last)) g.uncut;
       calls = ap (λ (l : List Call). l ++ calls_of (last_marks last)) g.calls ∙ sym (filter_map-append call_in m (last_marks last));
-      answers = ap (λ (l : List Answer). l ++ answers_of (last_marks last)) g.answers ∙ sym (filter_map-append answer_in m (last_marks last));
+      answers = ap (λ (l : List Answer). l ++ answers_of (last_marks last)) g.answers ∙ sym (filter_map-append marked_answer m (last_marks last));
       sent = sent_all m t p g.waiting empty ∙ sym (append-nil (out_of m));
       end = refl;
     }))

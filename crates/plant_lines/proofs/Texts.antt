@@ -2,7 +2,7 @@
 use Rattle.std.proofs.Common.{◌≡◌, ◌<◌, ℕ, List, [], ◌∷◌, ◌++◌, length, codes, arith}
 use Rattle.plant_model.specs.declared.reply.Answer.{Answer}
 use Rattle.plant_model.specs.declared.reply.Answer.TheVariants as answers
-use Rattle.plant_answer.specs.{Answers.{text_of}, Response.{response}, declared.responses.Media.{Media}}
+use Rattle.plant_answer.specs.{Answers.{answer_bytes}, Response.{response}, declared.responses.Media.{Media}}
 use Rattle.plant_call.specs.declared.causes.Cause.{Cause}
 use Rattle.plant_wire.specs.{Causes.{cause_text}, Marks.{Mark, said, malformed, mark_text}}
 
@@ -18,7 +18,7 @@ cause_some : (cause : Cause) → cause_text cause ≡ [] → ⊥
 unfolding cause_text
 cause_some cause is = response_some _ _ _ is
 
-answer_some : (answer : Answer) → text_of answer ≡ [] → ⊥
+answer_some : (answer : Answer) → answer_bytes answer ≡ [] → ⊥
 answer_some (answers.Reply r) is = response_some _ _ _ is
 answer_some (answers.Refused r) is = response_some _ _ _ is
 answer_some (answers.Fault f) is = response_some _ _ _ is

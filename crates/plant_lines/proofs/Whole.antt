@@ -2,7 +2,7 @@
 use Rattle.std.proofs.Common.{ℕ, List, [], subst}
 use Rattle.plant_books.specs.declared.books.Books as books
 use Rattle.plant_model.specs.declared.{call.Call.{Call}, reply.Answer.{Answer}}
-use Rattle.plant_lines.specs.Accounts.{AreSent, AreServed, Outcome, StopsAfter}
+use Rattle.plant_lines.specs.Accounts.{AreSent, AreServed, Outcome, HasOpened}
 use Rattle.plant_lines.specs.{Events.{Event, Seen, all_answers, all_calls}, Happens.{Happened}, Stages.{Leads, Stage, fresh, stage_of}}
 use Rattle.plant_lines.proofs.{Apart.{apart_from}, Ends.{ends_each}, Held.{none_yet}, Leading.{each_all, happened_none, moment}}
 use Rattle.plant_lines.proofs.Moments.{at_each_moment}
@@ -10,7 +10,7 @@ use Rattle.plant_lines.specs.declared.lines.Line.{Line}
 
 module _ {ran : List Call → List Answer → Type 0} {n : ℕ} {r : Outcome} where
   abbrev pub sent_from : (events : List Event) (count : ℕ) (ls : List Line) → ran (all_calls events) (all_answers events)
-      → ((k : ℕ) → Leads k fresh events (stage_of k count ls)) → StopsAfter n count ls r → AreSent ran n r
+      → ((k : ℕ) → Leads k fresh events (stage_of k count ls)) → HasOpened n count ls r → AreSent ran n r
   sent_from events count ls made goes stops = record {
     events = events;
     count = count;
@@ -23,7 +23,7 @@ module _ {ran : List Call → List Answer → Type 0} {n : ℕ} {r : Outcome} wh
   }
 
 module _ {B : Type 0} {b : books.Ghosts B} {x y : B} {s t : Seen} {n count : ℕ} {ls : List Line} {r : Outcome} where
-  pub served_from : Happened b x y s t 0 count [] ls → StopsAfter n count ls r → AreServed b x y s t n r
+  pub served_from : Happened b x y s t 0 count [] ls → HasOpened n count ls r → AreServed b x y s t n r
   served_from h stops =
       let goes : (k : ℕ) → Leads k fresh h.events (stage_of k count ls) = λ k. subst (λ (a : Stage). Leads k a h.events (stage_of k count ls))
       (none_yet k) (h.leads k) in
@@ -37,5 +37,5 @@ module _ {B : Type 0} {b : books.Ghosts B} {x y : B} {s t : Seen} {n count : ℕ
 
 -- none came
 module _ {B : Type 0} {b : books.Ghosts B} {x : B} {s : Seen} {n : ℕ} {r : Outcome} where
-  pub served_none : StopsAfter n 0 [] r → AreServed b x x s s n r
+  pub served_none : HasOpened n 0 [] r → AreServed b x x s s n r
   served_none stops = served_from happened_none stops

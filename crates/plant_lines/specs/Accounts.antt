@@ -5,7 +5,7 @@ use Rattle.plant_books.specs.Contents.{Content}
 use Rattle.plant_books.specs.declared.books.Books as books
 use Rattle.plant_call.specs.Front.{Parsed}
 use Rattle.plant_office.specs.{Runs.{AreIsolated, world_after}, Served.{Holds}}
-use Rattle.plant_wire.specs.{Marks.{Mark, item_of, mark_text, out_of}, Over.{RanOn}, Session.{EndsAs}}
+use Rattle.plant_wire.specs.{Marks.{Mark, marked_item, mark_text, out_of}, Over.{RanOn}, Session.{EndsAs}}
 use Rattle.plant_wire.specs.declared.reads.End.{End}
 use Rattle.plant_lines.specs.Books.{IsMoment}
 use Rattle.plant_lines.specs.Events.{Event, Seen, Shows, all_answers, all_calls, answers_for, answers_in, calls_for}
@@ -28,7 +28,7 @@ AreOfOne pending marks cut = (before : List ℕ) × ((cut ≡ before ++ pending)
 -- is of one text alone.
 pub record IsAnsweredFor (k : ℕ) (es : List Event) : Type 0 where
   pub rest : List ℕ
-  pub parses : Parsed (came_to k es) (map item_of (marks_of k es)) rest
+  pub parses : Parsed (came_to k es) (map marked_item (marks_of k es)) rest
   pub pending : List ℕ
   pub texts : out_of (marks_of k es) ++ cut_of k es ≡ sent_to k es ++ pending
   pub one : AreOfOne pending (marks_of k es) (cut_of k es)
@@ -50,8 +50,8 @@ EndsEach events = (es fs : List Event) (k : ℕ) (end : End) → events ≡ es +
 
 -- The call of each event is answered as in any other office that looks the same to its caller, whatever others send:
 -- from the world that all calls before it left.
-abbrev pub AreApart : World → List Event → Type 0
-AreApart w events = (es fs : List Event) (e : Event) → events ≡ es ++ e ∷ fs
+abbrev pub AreEachIsolated : World → List Event → Type 0
+AreEachIsolated w events = (es fs : List Event) (e : Event) → events ≡ es ++ e ∷ fs
     → AreIsolated (world_after w (all_calls es) (all_answers es)) (calls_in e) (answers_in e)
 
 abbrev pub Outcome : Type 0
@@ -59,11 +59,11 @@ Outcome = Result (Unit {0}) Halted
 
 -- How many connections were opened, of at most n, and which are still held. Ok: n were, and each was closed. Out of
 -- memory at the start: none was. The ports failed, or the store shut: n or fewer were.
-abbrev pub StopsAfter : ℕ → ℕ → List Line → Outcome → Type 0
-StopsAfter n count held (Ok u) = (count ≡ n) × (held ≡ [])
-StopsAfter n count held (Err Memory) = (count ≡ 0) × (held ≡ [])
-StopsAfter n count held (Err Ports) = count ≤ n
-StopsAfter n count held (Err Shut) = count ≤ n
+abbrev pub HasOpened : ℕ → ℕ → List Line → Outcome → Type 0
+HasOpened n count held (Ok u) = (count ≡ n) × (held ≡ [])
+HasOpened n count held (Err Memory) = (count ≡ 0) × (held ≡ [])
+HasOpened n count held (Err Ports) = count ≤ n
+HasOpened n count held (Err Shut) = count ≤ n
 
 -- Where n connections are to be served: one list of what happened at all of them, numbered as they came. `ran` is true
 -- of the calls that the office made, one after another, whatever the connection. Each connection was sent the answers
@@ -76,7 +76,7 @@ pub record AreSent (ran : List Call → List Answer → Type 0) (n : ℕ) (r : O
   pub answered : (k : ℕ) → AtEachMoment (IsAnsweredFor k) events
   pub goes : (k : ℕ) → Leads k fresh events (stage_of k count held)
   pub ends : EndsEach events
-  pub stops : StopsAfter n count held r
+  pub stops : HasOpened n count held r
 
 -- From one state of the books and of what is seen to another: the calls are one run of the books, and the ports and the
 -- log of lines saw what happened.
@@ -86,4 +86,4 @@ pub record AreServed {B : Type 0} (b : books.Ghosts B) (x y : B) (s t : Seen) (n
   -- whatever a crash at a moment leaves of the books is what it may leave after the calls so far
   pub moments : (es fs : List Event) → sent.events ≡ es ++ fs → IsMoment b x y es fs
   pub apart : (m : Content) → b.represents x m → (w : World) → IsLegalWorld w → Holds m w → b.is_honest y
-      → AreApart w sent.events
+      → AreEachIsolated w sent.events

@@ -1,12 +1,12 @@
 -- The lines that are held.
 use Rattle.std.specs.Prelude.{Bool, false, ◌≡◌, ◌≤◌}
 use Rattle.plant_books.specs.declared.books.Books.{Ghosts}
-use Rattle.plant_lines.specs.{Events.{Seen}, Happens.{Happened}, Prompt.{ArePrompt}, Stages.{AreLines}}
+use Rattle.plant_lines.specs.{Events.{Seen}, Happens.{Happened}, Prompt.{ArePrompt}, Stages.{AreOpenLines}}
 use Rattle.plant_lines.specs.declared.serving.Held.{Held}
 
 -- lines of connections that came, and of these no more than are to be served
 pub record IsHeld (held : Held) : Type 0 where
-  pub lines : AreLines held.count held.lines.items
+  pub lines : AreOpenLines held.count held.lines.items
   pub few : held.count ≤ held.n
 
 -- One turn, from one state of the books, of what is seen and of the lines to another. Where `left` is false, it leaves no

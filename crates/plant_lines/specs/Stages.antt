@@ -2,7 +2,7 @@
 use Rattle.std.specs.Prelude.{◌≡◌, ◌≢◌, ◌⊎◌, ◌<◌, ℕ, List, [], ◌∷◌, ◌++◌, drop, take, Option, Some, None}
 use Rattle.std.specs.Prelude.{if◌then◌else◌, nat_eq, nat_lt}
 use Rattle.plant_call.specs.{Cut.{WaitsBelow}, Front.{StandsAtFront, broken, whole}}
-use Rattle.plant_wire.specs.{Causes.{cause_text}, Marks.{item_of, last_text, mark_text}, Session.{IsIdle}}
+use Rattle.plant_wire.specs.{Causes.{cause_text}, Marks.{marked_item, last_text, mark_text}, Session.{IsIdle}}
 use Rattle.plant_wire.specs.Step.{StandsLast, StopsFor}
 use Rattle.plant_wire.specs.declared.reads.End.{End, TheVariants.{BrokenInput, Closed, Fault, ReadFailed, WriteFailed}}
 use Rattle.plant_wire.specs.declared.step.Stop.{Stop}
@@ -50,7 +50,7 @@ Moves fresh (opened k) s = s ≡ served [] []
 Moves (served unread pending) (came k bytes) s = IsOpen unread pending × (s ≡ served (unread ++ bytes) [])
 Moves (served unread pending) (ended k) s = IsOpen unread pending × (s ≡ ending (end_for unread) [])
 Moves (served unread pending) (answered k mark) s =
-    (pending ≡ []) × ((n : ℕ) × StandsAtFront unread (whole (item_of mark) n)
+    (pending ≡ []) × ((n : ℕ) × StandsAtFront unread (whole (marked_item mark) n)
     × (s ≡ served (drop n unread) (mark_text mark)))
 Moves (served unread pending) (broke k cause) s =
     (pending ≡ []) × StandsAtFront unread (broken cause) × (s ≡ ending BrokenInput (cause_text cause))
@@ -94,10 +94,10 @@ abbrev pub stage_of : ℕ → ℕ → List Line → Stage
 stage_of k count ls = if nat_lt k count then stage_held (line_with k ls) else fresh
 
 -- lines of different numbers, of connections that came, each with what it waits for
-abbrev pub AreLines : ℕ → List Line → Type 0
-AreLines count [] = Unit {0}
-AreLines count (l ∷ ls) =
-    (l.number < count) × (line_with l.number ls ≡ None) × WaitsBelow l.unread.items l.wanted × AreLines count ls
+abbrev pub AreOpenLines : ℕ → List Line → Type 0
+AreOpenLines count [] = Unit {0}
+AreOpenLines count (l ∷ ls) =
+    (l.number < count) × (line_with l.number ls ≡ None) × WaitsBelow l.unread.items l.wanted × AreOpenLines count ls
 
 -- a line that may be closed with this end
 abbrev pub MayClose : Line → End → Type 0

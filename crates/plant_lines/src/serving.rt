@@ -3,7 +3,7 @@ ghost use Rattle.std.specs.Bool.{OnTrue};
 ghost use Rattle.plant_books.specs.Books.{WasHonest};
 ghost use Rattle.plant_lines.specs.declared.lines.Line.{Line};
 ghost use Rattle.plant_lines.specs.{Accounts.{AreServed}, Events.{seen_by}, Happens.{Happened, Passed}};
-ghost use Rattle.plant_lines.specs.{Held.{IsHeld, IsTurn}, Prompt.{ArePrompt}, Stages.{AreLines, MayClose}};
+ghost use Rattle.plant_lines.specs.{Held.{IsHeld, IsTurn}, Prompt.{ArePrompt}, Stages.{AreOpenLines, MayClose}};
 
 use crate::desk::Desk;
 use crate::lines::{Asked, Line, turn_and_report};
@@ -251,7 +251,7 @@ fn step<P: Ports, B: Books, W: Write, E: Write>(
 
 /// Whether no request is left on any line that can be answered now.
 fn all_prompt(lines: &[Line], count: u64) -> bool
-    requires lines { AreLines count lines.now }
+    requires lines { AreOpenLines count lines.now }
     ensures { OnTrue result (ArePrompt lines.now) }
 {
     'lines: for at in 0..lines.len() {

@@ -26,7 +26,7 @@ entry_there : (u : Name) (there : There) (es : List Copy) (c : Copy) → AreCopi
 entry_there u there [] c h e = absurd (cc e)
 entry_there u there (d ∷ es) c h e =
     elim (same_name u d.0) as (λ b. same_name u d.0 ≡ b → cond b (Some d) (lookup_entry (same_name u) es) ≡ Some c
-        → IsCopy there c × (same_name u c.0 ≡ true)) [
+    → IsCopy there c × (same_name u c.0 ≡ true)) [
       | true ↦ λ p q. let same : d ≡ c = cc q in (subst (IsCopy there) same h.0, subst (λ (x : Copy). same_name u x.0 ≡ true) same p)
       | false ↦ λ p q. entry_there u there es c h.1 q
     ] refl e
@@ -100,7 +100,7 @@ pub count_removed : (u : Name) (es : List Copy) (c : Copy) → lookup_entry (sam
 count_removed u [] c e = absurd (cc e)
 count_removed u (d ∷ es) c e =
     let here : ◌≡◌ {A = Option Copy} (Some d) (Some c)
-        → row_count d.1.rows ≡ row_count c.1.rows = λ q. let same : d ≡ c = cc q in ap (λ (x : Copy). row_count x.1.rows) same in
+    → row_count d.1.rows ≡ row_count c.1.rows = λ q. let same : d ≡ c = cc q in ap (λ (x : Copy). row_count x.1.rows) same in
     grind (arith, here, count_removed u es c)
 
 pub count_promoted : (u : Name) (es : List Copy) → rows_of_all (promoted (same_name u) es) ≡ rows_of_all es

@@ -12,7 +12,7 @@ use plant_alarm::Event;
 use plant_books::{Books, MineRow, MineUnit, are_in_order, part_of, rows_but_events};
 use plant_model::{Call, Changes, UnitPart, UnitRows, holds_some_by, looks_at_events};
 use plant_types::limits::MAX_ROWS_AT_HAND;
-use plant_types::{Duplicate, Fault, List, Moment, Person, UnitCode};
+use plant_types::{Fault, List, Moment, Person, TryCopy, UnitCode};
 use std::alloc::Global;
 
 /// A keeper over another, with the rows of the units that were last used at hand. The events of a unit are brought to hand at
@@ -292,7 +292,7 @@ impl<B: Books> Books for Mirror<B> {
 
     fn rows(&mut self, unit: &UnitCode) -> Result<Option<UnitRows>, Fault> {
         match self.copies.all_rows_of(unit) {
-            Some(rows) => Ok(Some(rows.duplicate(self.alloc)?)),
+            Some(rows) => Ok(Some(rows.copy(self.alloc)?)),
             None => self.books.rows(unit),
         }
     }
@@ -306,7 +306,7 @@ impl<B: Books> Books for Mirror<B> {
 
     fn events(&mut self, unit: &UnitCode) -> Result<List<Event>, Fault> {
         match self.copies.all_rows_of(unit) {
-            Some(rows) => rows.events.duplicate(self.alloc),
+            Some(rows) => rows.events.copy(self.alloc),
             None => self.books.events(unit),
         }
     }

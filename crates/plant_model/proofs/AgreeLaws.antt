@@ -27,10 +27,10 @@ module _ (h : List Call) (p : Name) (t : ℕ) (u : Name) (rows : List Event) (fi
       let n : ℕ = e.seq in
       let after : List Event = events (now h p t u rows) in
       let found : find (has_number n) after ≡ or_else (find (has_number n) rows) (find (has_number n) (events h)) = found_event (now h p t u rows) n
-          ∙ ap (or_else (find (has_number n) rows)) (sym (found_event h n)) in
+      ∙ ap (or_else (find (has_number n) rows)) (sym (found_event h n)) in
       let is : or_else (find (has_number n) rows) (find (has_number n) (events h)) ≡ Some e =
       one_said (events h ++ rows) n fit _ (Some e) (of_both n (events h) rows _ _ (of_find n rows) (of_find n (events h)))
-          (there, (eq_by_cmp_equiv number_total).refl n) in
+      (there, (eq_by_cmp_equiv number_total).refl n) in
       (subst (IsOf after n) (found ∙ is) (of_find n after)).0
 
   pub members_after : SameMembers (events (now h p t u rows)) (events h ++ rows)
@@ -101,10 +101,10 @@ module _ (h : List Call) (u : Name) (all : List Event) (fit : is_fit all ≡ tru
         let holds : not (holds_some (facts g) t p) ≡ false = not_from_true (holds_some (facts g) t p) (some_role g t p role) in
         let fits : nat_lt max_events (length (events g) + length (new_numbers (events g) rows)) ≡ false =
         ap (λ n. nat_lt max_events (length (events g) + n)) (sym (fresh_count (tags_of (facts g)) t 2 (events g) rows clean))
-            ∙ le-ltb max_events (length (events g) + length (fresh (events g) rows)) room in
+        ∙ le-ltb max_events (length (events g) + length (fresh (events g) rows)) room in
         λ i. refused_or (first_refusal ((holds i, NotGranted) ∷ (operates i, RoleLacking Operator)
-            ∷ (le-ltb t (last_moment g) behind i, MomentBehind (last_moment g)) ∷ (fits i, UnitFull TooManyEvents)
-            ∷ fault_entries (clean i))) (import_reply (events g) rows)
+        ∷ (le-ltb t (last_moment g) behind i, MomentBehind (last_moment g)) ∷ (fits i, UnitFull TooManyEvents)
+        ∷ fault_entries (clean i))) (import_reply (events g) rows)
 
     accepted : changes_history (verdict g next_one) next_one ≡ true
     accepted = ap (λ s. changes_history s next_one) answered
@@ -135,9 +135,9 @@ module _ (h : List Call) (u : Name) (all : List Event) (fit : is_fit all ≡ tru
     no_more_after =
         let es : List Event = events (next_one ∷ g) in
         let few =
-            no_more es (events g ++ fresh (events g) rows)
-            (distinct_rising es (rises es (fit_within all es fit (reached_next.inside)) (events_in_order (next_one ∷ g))))
-            (λ e there. kept_fresh (events g) rows e ∙ sym (same_after e) ∙ there) in
+        no_more es (events g ++ fresh (events g) rows)
+        (distinct_rising es (rises es (fit_within all es fit (reached_next.inside)) (events_in_order (next_one ∷ g))))
+        (λ e there. kept_fresh (events g) rows e ∙ sym (same_after e) ∙ there) in
         let long = length-append (events g) (fresh (events g) rows) in
         omega (arith, few, long)
 
@@ -168,13 +168,13 @@ module _ (h : List Call) (u : Name) (all : List Event) (fit : is_fit all ≡ tru
       let here : length (events g) + length (fresh (events g) rows) ≤ max_events = omega (arith, room, split) in
       let same = same_after g reached c.person c.moment v rows one.operator one.known one.not_ahead le own here in
       let alike : length (fresh (events (asking c (Import v (Ok rows)) ∷ g)) rest) ≡ length (fresh (events g ++ rows) rest) =
-          ap (λ l. length l) (fresh_alike (events (asking c (Import v (Ok rows)) ∷ g)) (events g ++ rows) rest same) in
+      ap (λ l. length l) (fresh_alike (events (asking c (Import v (Ok rows)) ∷ g)) (events g ++ rows) rest same) in
       let counted = counted_one g reached c.person c.moment v rows one.operator one.known one.not_ahead le own here in
       let few = no_more_after g reached c.person c.moment v rows one.operator one.known one.not_ahead le own here in
       let more =
-          on (asking c (Import v (Ok rows)) ∷ g)
-          (reached_next g reached c.person c.moment v rows one.operator one.known one.not_ahead le own here) c.moment (omega arith) imports.2
-          (back_within rows rest all within) (omega (arith, few, alike, split, room)) in
+      on (asking c (Import v (Ok rows)) ∷ g)
+      (reached_next g reached c.person c.moment v rows one.operator one.known one.not_ahead le own here) c.moment (omega arith) imports.2
+      (back_within rows rest all within) (omega (arith, few, alike, split, room)) in
       record {
         accepted_each = (accepted g reached c.person c.moment v rows one.operator one.known one.not_ahead le own here, more.accepted_each);
         reached_last = more.reached_last;
@@ -188,8 +188,13 @@ module _ (h : List Call) (u : Name) (all : List Event) (fit : is_fit all ≡ tru
 
   goes : (calls : List Call) → GoOn calls
   goes [] g reached t behind imports within room =
-      record { accepted_each = tt; reached_last = reached; members_last = λ e. ap (member e) (sym (append-nil (events g))); counted_new = refl;
-          rows_last = refl }
+      record {
+        accepted_each = tt;
+        reached_last = reached;
+        members_last = λ e. ap (member e) (sym (append-nil (events g)));
+        counted_new = refl;
+        rows_last = refl;
+      }
   goes (c ∷ calls) g reached t behind imports within room = goes_one calls (goes calls) c c.request g reached t behind imports within room
 
 pub imports_agree : ImportsAgree
@@ -204,7 +209,7 @@ imports_agree h u xs ys legal first second same fit room =
     let two = goes h u all fit ys h here (last_moment h) (omega arith) second (λ e there. inside e (same e ∙ there)) (omega (arith, room, many)) in
     let last_same : events (through h xs) ≡ events (through h ys) =
     same_events (events (through h xs)) (events (through h ys)) (fit_within all (events (through h xs)) fit (one.reached_last.inside))
-        (events_in_order (through h xs)) (events_in_order (through h ys))
+    (events_in_order (through h xs)) (events_in_order (through h ys))
     (λ e. one.members_last e ∙ list_any-append (same_event e) (events h) rows ∙ ap (λ b. member e (events h) || b) (same e)
     ∙ sym (list_any-append (same_event e) (events h) (rows_imported ys)) ∙ sym (two.members_last e)) in
     record {

@@ -72,7 +72,7 @@ module _ (h : List Call) (p : Name) (t : ℕ) where
       (change h k)
   draft_anew n k d undecided =
       elim (same_number k n) as (λ s. same_number k n ≡ s
-          → option_map (change_as k (decision h k)) (or_else (when s d) (draft h k)) ≡ cond s (Some (change_as n None d)) (change h k)) [
+      → option_map (change_as k (decision h k)) (or_else (when s d) (draft h k)) ≡ cond s (Some (change_as n None d)) (change h k)) [
         | true ↦ λ e. ap (λ y. Some (change_as y (decision h y) d)) (same_numbers k n (tied _ true e refl))
             ∙ ap (λ o. Some (change_as n o d)) undecided
         | false ↦ λ e. refl
@@ -109,7 +109,7 @@ module _ (h : List Call) (p : Name) (t : ℕ) where
       let bands : List BandRow = filter_map (λ k. band_at k m) (band_places (proposals h + 1) m) in
       let cells : List CellRow = filter_map (λ k. cell_of k m) (cell_places (proposals h + 1) m) in
       let first : UnitRows =
-          put (ChangePut (change_entry (change_as (proposals h + 1) None (new_draft (Matrix m) base)))) (put (UnitPut (unit_row c)) (rows_of h)) in
+      put (ChangePut (change_entry (change_as (proposals h + 1) None (new_draft (Matrix m) base)))) (put (UnitPut (unit_row c)) (rows_of h)) in
       put_bands bands (cells_of (proposals h + 1) m) first ∙ put_cells cells (record first { bands = puts band_cmp band_key bands (band_rows h) })
       ∙ (λ i. record (rows_of c) {
         changes = change_rows_put u (Matrix m) base undecided i;
@@ -126,8 +126,12 @@ module _ (h : List Call) (p : Name) (t : ℕ) where
 
     abbrev unit_by : Option ChangeKind → UnitRow
     unit_by k =
-        record { last_s = t; matrix_no = (unwrap_or (or_else (matrix_in n k) (latest (λ c before. said_of_matrix before c.request) h)) no_matrix).0;
-        matrix_rev = (if is_some (matrix_in n k) then matrix_revision h + 1 else matrix_revision h); quota = quota h }
+        record {
+          last_s = t;
+          matrix_no = (unwrap_or (or_else (matrix_in n k) (latest (λ c before. said_of_matrix before c.request) h)) no_matrix).0;
+          matrix_rev = (if is_some (matrix_in n k) then matrix_revision h + 1 else matrix_revision h);
+          quota = quota h;
+        }
 
     abbrev record_by : Name → Option ChangeKind → Option RecordRow
     record_by a k =
@@ -160,9 +164,9 @@ module _ (h : List Call) (p : Name) (t : ℕ) where
         (alarm_row h k)
     limit_anew b k l max known =
         elim (same_name k b) as (λ s. same_name k b ≡ s
-            → option_map (alarm_as k (unwrap_or (or_else (when s max) (limit h k)) 0) (if is_some (when s max) then
-            limit_revision h k + 1 else limit_revision h k) (events_of h k) (outage h k)) (latching h k)
-            ≡ cond s (Some (alarm_as b max (limit_revision h b + 1) (events_of h b) (outage h b) l)) (alarm_row h k)) [
+        → option_map (alarm_as k (unwrap_or (or_else (when s max) (limit h k)) 0) (if is_some (when s max) then
+        limit_revision h k + 1 else limit_revision h k) (events_of h k) (outage h k)) (latching h k)
+        ≡ cond s (Some (alarm_as b max (limit_revision h b + 1) (events_of h b) (outage h b) l)) (alarm_row h k)) [
           | true ↦ λ e. ap (λ y. option_map (alarm_as y max (limit_revision h y + 1) (events_of h y) (outage h y)) (latching h y))
               (same_names k b (tied _ true e refl)) ∙ ap (option_map (alarm_as b max (limit_revision h b + 1) (events_of h b) (outage h b))) known
           | false ↦ λ e. refl
@@ -200,8 +204,8 @@ module _ (h : List Call) (p : Name) (t : ℕ) where
     record_anew b k s =
         let x : ℕ × Sheet = (n, s) in
         elim (same_name k b) as (λ v. same_name k b ≡ v
-            → option_map (record_as (matrix h).1 (if is_some (when v x) then record_revision h k + 1 else record_revision h k) k)
-            (or_else (when v x) (sheet h k)) ≡ cond v (Some (record_as (matrix h).1 (record_revision h b + 1) b x)) (record_of h k)) [
+        → option_map (record_as (matrix h).1 (if is_some (when v x) then record_revision h k + 1 else record_revision h k) k)
+        (or_else (when v x) (sheet h k)) ≡ cond v (Some (record_as (matrix h).1 (record_revision h b + 1) b x)) (record_of h k)) [
           | true ↦ λ e. ap (λ y. Some (record_as (matrix h).1 (record_revision h y + 1) y x)) (same_names k b (tied _ true e refl))
           | false ↦ λ e. refl
         ] refl
@@ -260,7 +264,7 @@ module _ (h : List Call) (p : Name) (t : ℕ) where
         → puts name_cmp record_tag (map (rerated m) (records_of h)) (record_rows h) ≡ record_rows approved_call
     records_rerated m kind =
         ap (λ rs. puts name_cmp record_tag rs (record_rows h)) (sym (map-map record_entry (rerated_row m) (records_of h)))
-            ∙ puts-map (map (rerated_row m) (records_of h)) (records_of h)
+        ∙ puts-map (map (rerated_row m) (records_of h)) (records_of h)
         ∙ ap (λ rows. map record_entry rows)
         (puts-rows (record_of h) (record_of approved_call) (tags_of_records h) (tags_of_records approved_call) (map (rerated_row m) (records_of h))
         (records_told h) (records_told approved_call)

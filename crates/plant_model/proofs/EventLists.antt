@@ -164,6 +164,8 @@ distinct_rising [] h = tt
 distinct_rising (e ∷ es) h = (others es h.0, distinct_rising es h.1) where
   others : (es : List Event) → Each (Before e) es → AllByRecursion (λ x. same_event e x ≡ false) es
   others [] h = tt
-  others (x ∷ es) h =
-      (false_from_ne_true (same_event e x) (λ is. let same : e.seq ≡ x.seq = ap event_number (same_is e x is) in let less = h.0.0 in
-      omega (arith, same, less)), others es h.1)
+  others (x ∷ es) h = (
+    false_from_ne_true (same_event e x) (λ is. let same : e.seq ≡ x.seq = ap event_number (same_is e x is) in let less = h.0.0 in
+        omega (arith, same, less)),
+    others es h.1,
+  )

@@ -9,9 +9,9 @@ use Rattle.plant_model.specs.{Calls.{changes_for, unit_after}, Changes.{change, 
 use Rattle.plant_model.specs.{Keys.{AllPutOverSeen, PutsOverSeen, has_key}, Laws.{PutsOverWhatIsSeen}, Legality.{IsLegal}, Refusals.{tags_of}}
 use Rattle.plant_model.specs.Matrices.{BandKey, CellKey, band_at, band_cmp, cell_cmp, cell_of, cells_of_row, band_places, cell_places, matrix_numbered}
 use Rattle.plant_model.specs.Parts.{Selection, is_crowded, of_approved, of_content, of_records, of_topic, part_of, part_of_holder, part_of_stranger, rows_selected, selected, with_number}
-use Rattle.plant_model.specs.RowChanges.{all_events, approval_changes, cells_of, changed, decided_as, decision_change, for_change, in_force, is_touched, kind_changes, new_events, placed_in, put, rerated, taken_out, with_state}
+use Rattle.plant_model.specs.RowChanges.{events_with_file, approval_changes, cells_of, changed, decided_as, decision_change, for_change, in_force, is_touched, kind_changes, new_events, placed_in, put, rerated, taken_out, with_state}
 use Rattle.plant_model.specs.RowFacts.{alarm_tag, band_key, cell_key, change_found, change_number, holds_by, pair_of, record_tag, shelf_tag}
-use Rattle.plant_model.specs.Rows.{alarm_row, alarm_rows, band_row, cell_row, change_entry, record_entry, records_of, rows_of, tag_of_kind, topic, with_limit}
+use Rattle.plant_model.specs.Rows.{alarm_row, alarm_rows, band_row, cell_row, change_entry, record_entry, records_of, rows_of, tag_of_kind, topic_of, with_limit}
 use Rattle.plant_model.specs.{Verdicts.{changes_history, is_opening, verdict, verdict_of}, declared.call.{Call.{Call}, Request.{Request}}}
 use Rattle.plant_model.specs.declared.call.Request.TheVariants.{Approve, Grant, Import, OneShotShelve, OpenUnit, PlaceInService, Propose, Register, Reject, RemoveFromService, TimedShelve, Unshelve, Withdraw, WithdrawChange}
 use Rattle.plant_model.specs.declared.{reply.{ChangeRow.{ChangeRow}, RecordRow.{RecordRow}, Refused.TheVariants.{NotGranted}}, rows.{AlarmRow.{AlarmRow}, BandRow.{BandRow}}}
@@ -35,7 +35,7 @@ any_left : {K X : Type 0} (R : K → K → Ordering) (key : X → K) (k : K) (te
     → (rows : List X) → list_any (λ r. eq_by_cmp R k (key r)) (filter test rows) ≡ list_any (λ r. eq_by_cmp R k (key r)) rows
 any_left R key k test passes rows =
     sym (is_some-find (λ r. eq_by_cmp R k (key r)) (filter test rows)) ∙ ap is_some (row_at-filter R key k test passes rows)
-        ∙ is_some-find (λ r. eq_by_cmp R k (key r)) rows
+    ∙ is_some-find (λ r. eq_by_cmp R k (key r)) rows
 
 all-weaker : {X : Type 0} (P Q : X → Type 0) → ((x : X) → P x → Q x) → (xs : List X) → AllByRecursion P xs → AllByRecursion Q xs
 all-weaker P Q weaker [] h = tt
@@ -89,7 +89,7 @@ module _ {K X : Type 0} (R : K → K → Ordering) (key : X → K) where
     after_told a (k ∷ ks) h =
         let rest = after_told a ks h.1 in
         elim (row k) as (λ o. row k ≡ o
-            → After R key a (cons_option o (filter_map row ks))) [ None ↦ λ _. rest | Some r ↦ λ is. (ap (R a) (at_key k r is) ∙ h.0, rest) ] refl
+        → After R key a (cons_option o (filter_map row ks))) [ None ↦ λ _. rest | Some r ↦ λ is. (ap (R a) (at_key k r is) ∙ h.0, rest) ] refl
 
     ordered_told : (ks : List K) → Ordered R (λ k. k) ks → Ordered R key (filter_map row ks)
     ordered_told [] h = tt
@@ -110,15 +110,19 @@ module _ {K X : Type 0} (R : K → K → Ordering) (key : X → K) where
         → AllByRecursion (λ x. row_at R key (key x) (put_row R key r rows) ≡ None) xs
     still_none r rows [] h none = tt
     still_none r rows (x ∷ xs) h none =
-        let apart : eq_by_cmp R (key x) (key r) ≡ false = ap is_eq (turned o (key r) (key x) h.0) in
-        (row_at-put_row R key o same (key x) r rows ∙ ap (λ b. cond b (Some r) (row_at R key (key x) rows)) apart
-        ∙ none.0, still_none r rows xs h.1 none.1)
+        let apart : eq_by_cmp R (key x) (key r) ≡ false = ap is_eq (turned o (key r) (key x) h.0) in (
+          row_at-put_row R key o same (key x) r rows ∙ ap (λ b. cond b (Some r) (row_at R key (key x) rows)) apart
+              ∙ none.0,
+          still_none r rows xs h.1 none.1,
+        )
 
     all_new : (rs rows : List X) → Ordered R key rs → AllByRecursion (λ x. row_at R key (key x) rows ≡ None) rs → AllNew rows rs
     all_new [] rows h none = tt
-    all_new (r ∷ rs) rows h none =
-        (sym (is_some-find (λ x. eq_by_cmp R (key r) (key x)) rows)
-        ∙ ap is_some none.0, all_new rs (put_row R key r rows) h.1 (still_none r rows rs h.0 none.1))
+    all_new (r ∷ rs) rows h none = (
+      sym (is_some-find (λ x. eq_by_cmp R (key r) (key x)) rows)
+          ∙ ap is_some none.0,
+      all_new rs (put_row R key r rows) h.1 (still_none r rows rs h.0 none.1),
+    )
 
 true_else : (b : Bool) → (b ≡ false → ⊥) → b ≡ true
 true_else true never = refl
@@ -166,14 +170,14 @@ module _ (n : ℕ) where
   before_rows severity later a [] less = tt
   before_rows severity later a (row ∷ rows) less =
       after-append cell_cmp (λ k. k) (n, severity, a) (map (λ (b : ℕ). (n, later, b)) (range_with_len 1 (length row)))
-          (flat_map (cells_of_row n) (enumerate_from (later + 1) rows))
+      (flat_map (cells_of_row n) (enumerate_from (later + 1) rows))
       (before_row severity later a 1 (length row) less) (before_rows severity (later + 1) a rows (omega (arith, less)))
 
   rows_rise : (severity : ℕ) (rows : List (List Cell)) → Ordered cell_cmp (λ k. k) (flat_map (cells_of_row n) (enumerate_from severity rows))
   rows_rise severity [] = tt
   rows_rise severity (row ∷ rows) =
       ordered-append cell_cmp (λ k. k) (map (λ (b : ℕ). (n, severity, b)) (range_with_len 1 (length row)))
-          (flat_map (cells_of_row n) (enumerate_from (severity + 1) rows))
+      (flat_map (cells_of_row n) (enumerate_from (severity + 1) rows))
       (cells_rise severity 1 (length row)) (rows_rise (severity + 1) rows)
       (all-made (λ (k : CellKey). After cell_cmp (λ k. k) k (flat_map (cells_of_row n) (enumerate_from (severity + 1) rows)))
       (λ (b : ℕ). (n, severity, b))
@@ -245,8 +249,8 @@ module _ (h : List Call) (p : Name) (t : ℕ) where
     no_bands (k ∷ ks) at =
         let rest = no_bands ks at.1 in
         elim (band_at k m) as (λ o. band_at k m ≡ o
-            → AllByRecursion (λ (r : BandRow). row_at band_cmp band_key (band_key r) rows.bands ≡ None)
-            (cons_option o (filter_map (λ k. band_at k m) ks))) [
+        → AllByRecursion (λ (r : BandRow). row_at band_cmp band_key (band_key r) rows.bands ≡ None)
+        (cons_option o (filter_map (λ k. band_at k m) ks))) [
           | None ↦ λ _. rest
           | Some r ↦ λ is. (no_band m k r is at.0, rest)
         ] refl
@@ -257,8 +261,8 @@ module _ (h : List Call) (p : Name) (t : ℕ) where
     no_cells (k ∷ ks) at =
         let rest = no_cells ks at.1 in
         elim (cell_of k m) as (λ o. cell_of k m ≡ o
-            → AllByRecursion (λ (r : CellRow). row_at cell_cmp cell_key (cell_key r) rows.cells ≡ None)
-            (cons_option o (filter_map (λ k. cell_of k m) ks))) [
+        → AllByRecursion (λ (r : CellRow). row_at cell_cmp cell_key (cell_key r) rows.cells ≡ None)
+        (cons_option o (filter_map (λ k. cell_of k m) ks))) [
           | None ↦ λ _. rest
           | Some r ↦ λ is. (no_cell m k r is at.0, rest)
         ] refl
@@ -268,7 +272,7 @@ module _ (h : List Call) (p : Name) (t : ℕ) where
     cells_at_next severity [] = tt
     cells_at_next severity (row ∷ more) =
         all-append (λ (k : CellKey). k.0 ≡ next) (map (λ (b : ℕ). (next, severity, b)) (range_with_len 1 (length row)))
-            (flat_map (cells_of_row next) (enumerate_from (severity + 1) more))
+        (flat_map (cells_of_row next) (enumerate_from (severity + 1) more))
         (all-made (λ (k : CellKey). k.0 ≡ next) (λ (b : ℕ). (next, severity, b)) (λ b. refl) (range_with_len 1 (length row)))
         (cells_at_next (severity + 1) more)
 
@@ -321,14 +325,16 @@ module _ (h : List Call) (p : Name) (t : ℕ) where
         → PutsOverSeen rows (seen_by s) (decision_change state p t c)
     decided s state own = λ e.
         any_left nat_cmp change_number c.number (λ (r : ChangeEntry). s.change r.number) (λ r same. own r.number (same_change r same)) rows.changes
-            ∙ e
+        ∙ e
 
     -- what an approval brings into force
     forced : (k : ChangeKind) (base : UnitRows) → base.alarms ≡ rows.alarms → base.records ≡ rows.records
-        → AllPutOverSeen base (seen_by (with_number n (of_topic rows (tag_of_kind k) (topic k)))) (in_force (facts h) c.number k)
-    forced (Rationale a sheet) base alarms records =
-        (λ e. any_left name_cmp record_tag a (λ (r : RecordEntry). same_name a r.tag) (λ r same. same) rows.records
-        ∙ sym (ap (list_any (λ (x : RecordEntry). same_name a x.tag)) records) ∙ e, tt)
+        → AllPutOverSeen base (seen_by (with_number n (of_topic rows (tag_of_kind k) (topic_of k)))) (in_force (facts h) c.number k)
+    forced (Rationale a sheet) base alarms records = (
+      λ e. any_left name_cmp record_tag a (λ (r : RecordEntry). same_name a r.tag) (λ r same. same) rows.records
+          ∙ sym (ap (list_any (λ (x : RecordEntry). same_name a x.tag)) records) ∙ e,
+      tt,
+    )
     forced (Matrix m) base alarms records =
         records_put (seen_by (with_number n (of_records rows))) (rerated m) (records_of h) base
         (all-weaker (λ (r : RecordRow). list_any (λ (x : RecordEntry). same_name r.tag x.tag) rows.records
@@ -339,11 +345,11 @@ module _ (h : List Call) (p : Name) (t : ℕ) where
         alarm_put a (with_limit max) (λ r. refl) (with_number n (of_content rows a)) (λ b same. same) base alarms (alarm_row h a) refl
 
     approved : (k : ChangeKind) (base : UnitRows) → base.alarms ≡ rows.alarms → base.records ≡ rows.records → base.changes ≡ rows.changes
-        → AllPutOverSeen base (seen_by (with_number n (of_topic rows (tag_of_kind k) (topic k))))
+        → AllPutOverSeen base (seen_by (with_number n (of_topic rows (tag_of_kind k) (topic_of k))))
         (decision_change Approved p t c ∷ in_force (facts h) c.number k)
     approved k base alarms records changes = (
-      λ e. decided (with_number n (of_topic rows (tag_of_kind k) (topic k))) Approved
-          (λ m same. or_right ((of_topic rows (tag_of_kind k) (topic k)).change m) (same_number n m) same)
+      λ e. decided (with_number n (of_topic rows (tag_of_kind k) (topic_of k))) Approved
+          (λ m same. or_right ((of_topic rows (tag_of_kind k) (topic_of k)).change m) (same_number n m) same)
           (sym (ap (list_any (λ (x : ChangeEntry). same_number c.number x.number)) changes) ∙ e),
       forced k (put (ChangePut (change_entry (decided_as Approved p t c))) base) alarms records,
     )
@@ -363,7 +369,7 @@ module _ (h : List Call) (p : Name) (t : ℕ) where
   approval_put u n (Some c) is =
       let found : change_found rows n ≡ Some (change_entry c) = change_entry_in h n ∙ ap (option_map change_entry) is in
       subst (λ o. AllPutOverSeen (moved u) (seen_by (of_approved rows n o)) (approval_changes (facts h) p t c)) (sym found)
-          (approved n c is c.kind (moved u) refl refl refl)
+      (approved n c is c.kind (moved u) refl refl refl)
 
   -- ---- an import
 
@@ -379,7 +385,7 @@ module _ (h : List Call) (p : Name) (t : ℕ) where
   file_put u (Err fault) entry = absurd (import_accepted h p t u (Err fault) entry)
   file_put u (Ok file) entry =
       let seen : UnitRows = seen_by (selected rows (Import u (Ok file))) in
-      let made_of : AlarmRow → AlarmRow = λ r. with_state (of_alarm r.tag (all_events (events h) file)) r in (
+      let made_of : AlarmRow → AlarmRow = λ r. with_state (of_alarm r.tag (events_with_file (events h) file)) r in (
         λ _. refl,
         alarms_put seen made_of (filter (is_touched (events h) file) (alarm_rows h)) (moved (unit_after (facts h) t (Import u (Ok file))))
             (PutEvents (new_events (events h) file) ∷ [])
@@ -396,35 +402,61 @@ module _ (h : List Call) (p : Name) (t : ℕ) where
   seen_put : (q : Request) → is_opening q ≡ false → IsEntry h (made p t q)
       → AllPutOverSeen rows (seen_by (selected rows q)) (changes_for (facts h) (made p t q))
   seen_put (OpenUnit u s m k) plain entry = absurd (true≢false plain)
-  seen_put (Grant u q r) plain entry =
-      (λ _. refl, (λ e. any_left pair_cmp pair_of (q, r.0) (λ (g : GrantRow). same_name p g.person
-      || true) (λ g same. or_right (same_name p g.person) true refl) rows.grants ∙ e, tt))
+  seen_put (Grant u q r) plain entry = (
+    λ _. refl,
+    (
+      λ e. any_left pair_cmp pair_of (q, r.0) (λ (g : GrantRow). same_name p g.person
+          || true) (λ g same. or_right (same_name p g.person) true refl) rows.grants ∙ e,
+      tt,
+    ),
+  )
   seen_put (Withdraw u q r) plain entry = (λ _. refl, (tt, tt))
   seen_put (Register u a l max) plain entry =
       (λ _. refl, (λ e. any_left name_cmp alarm_tag a (λ (r : AlarmRow). same_name a r.tag) (λ r same. same) rows.alarms ∙ e, tt))
   seen_put (Import u file) plain entry = file_put u file entry
-  seen_put (TimedShelve u a d w) plain entry =
-      (λ _. refl, (λ e. any_left name_cmp shelf_tag a (λ (r : ShelfRow). is_crowded rows
-      || same_name a r.tag) (λ r same. or_right (is_crowded rows) (same_name a r.tag) same) rows.shelves ∙ e, tt))
-  seen_put (OneShotShelve u a w) plain entry =
-      (λ _. refl, (λ e. any_left name_cmp shelf_tag a (λ (r : ShelfRow). is_crowded rows
-      || same_name a r.tag) (λ r same. or_right (is_crowded rows) (same_name a r.tag) same) rows.shelves ∙ e, tt))
+  seen_put (TimedShelve u a d w) plain entry = (
+    λ _. refl,
+    (
+      λ e. any_left name_cmp shelf_tag a (λ (r : ShelfRow). is_crowded rows
+          || same_name a r.tag) (λ r same. or_right (is_crowded rows) (same_name a r.tag) same) rows.shelves ∙ e,
+      tt,
+    ),
+  )
+  seen_put (OneShotShelve u a w) plain entry = (
+    λ _. refl,
+    (
+      λ e. any_left name_cmp shelf_tag a (λ (r : ShelfRow). is_crowded rows
+          || same_name a r.tag) (λ r same. or_right (is_crowded rows) (same_name a r.tag) same) rows.shelves ∙ e,
+      tt,
+    ),
+  )
   seen_put (Unshelve u a) plain entry = (λ _. refl, (tt, tt))
-  seen_put (RemoveFromService u a w) plain entry =
-      (λ _. refl, alarm_put a (taken_out p t w) (λ r. refl) (selected rows (RemoveFromService u a w)) (λ b same. same)
-      (moved (unit_after (facts h) t (RemoveFromService u a w))) refl (alarm_row h a) refl)
-  seen_put (PlaceInService u a) plain entry =
-      (λ _. refl, alarm_put a placed_in (λ r. refl) (selected rows (PlaceInService u a)) (λ b same. same)
-      (moved (unit_after (facts h) t (PlaceInService u a))) refl (alarm_row h a) refl)
+  seen_put (RemoveFromService u a w) plain entry = (
+    λ _. refl,
+    alarm_put a (taken_out p t w) (λ r. refl) (selected rows (RemoveFromService u a w)) (λ b same. same)
+        (moved (unit_after (facts h) t (RemoveFromService u a w))) refl (alarm_row h a) refl,
+  )
+  seen_put (PlaceInService u a) plain entry = (
+    λ _. refl,
+    alarm_put a placed_in (λ r. refl) (selected rows (PlaceInService u a)) (λ b same. same)
+        (moved (unit_after (facts h) t (PlaceInService u a))) refl (alarm_row h a) refl,
+  )
   seen_put (Propose u x) plain entry =
       let put_one : RowEdit =
-          Put (ChangePut (change_entry (change_as next None (record { proposer = p; proposed = t; kind = x.kind; base = x.base })))) in
-      (λ _. refl, (λ e. absurd (true≢false (sym e
-      ∙ no_change)), kind_put (seen_by (selected rows (Propose u x))) (changed put_one (moved (unit_after (facts h) t (Propose u x)))) x.kind refl
-      refl))
-  seen_put (WithdrawChange u n) plain entry =
-      (λ _. refl, change_put (unit_after (facts h) t (WithdrawChange u n)) n (selected rows (WithdrawChange u n)) Withdrawn (λ m same. same)
-      (change h n) refl)
+      Put (ChangePut (change_entry (change_as next None (record { proposer = p; proposed = t; kind = x.kind; base = x.base })))) in (
+        λ _. refl,
+        (
+          λ e. absurd (true≢false (sym e
+              ∙ no_change)),
+          kind_put (seen_by (selected rows (Propose u x))) (changed put_one (moved (unit_after (facts h) t (Propose u x)))) x.kind refl
+              refl,
+        ),
+      )
+  seen_put (WithdrawChange u n) plain entry = (
+    λ _. refl,
+    change_put (unit_after (facts h) t (WithdrawChange u n)) n (selected rows (WithdrawChange u n)) Withdrawn (λ m same. same)
+        (change h n) refl,
+  )
   seen_put (Approve u n) plain entry = (λ _. refl, approval_put (unit_after (facts h) t (Approve u n)) n (change h n) refl)
   seen_put (Reject u n) plain entry =
       (λ _. refl, change_put (unit_after (facts h) t (Reject u n)) n (selected rows (Reject u n)) Rejected (λ m same. same) (change h n) refl)
@@ -435,14 +467,14 @@ module _ (h : List Call) (p : Name) (t : ℕ) where
   holder q legal entry =
       true_else (holds_by rows.grants t p) (λ none.
       let refused : verdict h (made p t q) ≡ Err NotGranted = ap (λ f. verdict_of f (made p t q)) (sym (facts-rows h legal))
-          ∙ stranger_verdict rows p t q none in
+      ∙ stranger_verdict rows p t q none in
       true≢false (sym entry ∙ ap (λ v. changes_history v (made p t q)) refused))
 
   part_put : (q : Request) → IsLegal h → is_opening q ≡ false → IsEntry h (made p t q)
       → AllPutOverSeen rows (part_of (made p t q) rows).rows (changes_for (facts h) (made p t q))
   part_put q legal plain entry =
       subst (λ (b : Bool). AllPutOverSeen rows (if b then
-          part_of_holder (made p t q) rows else part_of_stranger (made p t q) rows).rows (changes_for (facts h) (made p t q)))
+      part_of_holder (made p t q) rows else part_of_stranger (made p t q) rows).rows (changes_for (facts h) (made p t q)))
       (sym (holder q legal entry)) (seen_put q plain entry)
 
 pub puts_over_seen : PutsOverWhatIsSeen

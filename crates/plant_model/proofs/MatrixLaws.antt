@@ -161,13 +161,13 @@ module _ {K X : Type 0} {R : K → K → Ordering} (total : IsTotalOrder R) (sam
   table_anew h n no_such m q elsewhere =
       let old : Option X = option_and_then (of q) (matrix_numbered h (number q)) in
       elim (same_number (number q) n) as (λ b. same_number (number q) n ≡ b
-          → option_and_then (of q)
-          (or_else (when b m) (matrix_numbered h (number q))) ≡ or_else (cond (list_any (eq_by_cmp R q) (places n m)) (of q m) None) old) [
+      → option_and_then (of q)
+      (or_else (when b m) (matrix_numbered h (number q))) ≡ or_else (cond (list_any (eq_by_cmp R q) (places n m)) (of q m) None) old) [
         | true ↦ λ s.
             let is : number q ≡ n = same_number_of (number q) n s in
             let nothing : old ≡ None = ap (λ k. option_and_then (of q) (matrix_numbered h k)) is ∙ ap (option_and_then (of q)) no_such in
             let there : cond (list_any (eq_by_cmp R q) (places n m)) (of q m) None ≡ of q m =
-                settled _ _ (subst (λ k. (of q m ≡ None) ⊎ (list_any (eq_by_cmp R q) (places k m) ≡ true)) is (here q m)) in
+            settled _ _ (subst (λ k. (of q m ≡ None) ⊎ (list_any (eq_by_cmp R q) (places k m) ≡ true)) is (here q m)) in
             sym (ap (λ o. or_else o old) there ∙ ap (or_else (of q m)) nothing ∙ else_none (of q m))
         | false ↦ λ other. ap (λ b. or_else (cond b (of q m) None) old) (sym (elsewhere other))
       ] refl

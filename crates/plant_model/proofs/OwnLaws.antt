@@ -38,7 +38,7 @@ module _ (w : World) (c : Call) (u : Name) (own : HasItsHistories w) (entry : Is
   next_own : HasItsHistories (next_at w c (Some u))
   next_own =
       elim (changes_history (answer_at w c (Some u)) c) as (λ b. changes_history (answer_at w c (Some u)) c ≡ b
-          → HasItsHistories (if b then with_call w c u else w)) [
+      → HasItsHistories (if b then with_call w c u else w)) [
         | true ↦ λ changing q h is. at_code q h (same_name q u) refl (entered (get w.units u) refl changing)
             (sym (get-insert name_total w.units u (c ∷ history w u) q) ∙ is)
         | false ↦ λ _. own

@@ -86,7 +86,7 @@ limited_known : (h : List Call) → IsLegal h → (n : ℕ) (a : Name) (d : Draf
     → is_some (latching h a) ≡ true
 limited_known h legal n a =
     latest_legal (λ c before. said_of_draft n c.person c.moment before c.request)
-        (λ h d. limited (Some d.kind) ≡ Some a → is_some (latching h a) ≡ true) (λ p t u s m k shape d e is. cc)
+    (λ h d. limited (Some d.kind) ≡ Some a → is_some (latching h a) ≡ true) (λ p t u s m k shape d e is. cc)
     (λ h c f d said is. registered_stays c h a (drafted_there h c.person c.moment c.request n d a f.entry said is))
     (λ h c f d rest is. registered_stays c h a (rest is)) h legal
 
@@ -97,7 +97,7 @@ limit_said h a = latest (λ c before. approved_limit a before c.request) h
 approved_known : (h : List Call) → IsLegal h → (a : Name) (q : Request) (max : ℕ) → approved_limit a h q ≡ Some max → is_some (latching h a) ≡ true
 approved_known h legal a (Approve u n) max e =
     elim (draft h n) as (λ o. draft h n ≡ o → limited (kind_of_draft o) ≡ Some a
-        → is_some (latching h a) ≡ true) [ None ↦ λ _ no. cc | Some d ↦ limited_known h legal n a d ] refl (limit_is_of a (kind_of_change h n) max e)
+    → is_some (latching h a) ≡ true) [ None ↦ λ _ no. cc | Some d ↦ limited_known h legal n a d ] refl (limit_is_of a (kind_of_change h n) max e)
 approved_known h legal a _ max e = cc
 
 limit_registered : (h : List Call) → IsLegal h → (a : Name) (max : ℕ) → limit_said h a ≡ Some max → is_some (latching h a) ≡ true

@@ -46,7 +46,7 @@ both_called : (p : Name) (units : Name → Bool) (w v : World) (c : Call) (u : N
     → IsInside p units (next_at w c (Some u)) → Purged p units (next_at w c (Some u)) (next_at v c (Some u))
 both_called p units w v c u a answers histories =
     subst (λ b. IsInside p units (next_at w c (Some u)) → Purged p units (next_at w c (Some u)) (if b then with_call v c u else v))
-        (ap (λ x. changes_history x c) answers)
+    (ap (λ x. changes_history x c) answers)
     (elim (changes_history (answer_at w c (Some u)) c) as (λ b. (b ≡ true → history w u ≡ history v u)
     → IsInside p units (if b then with_call w c u else w) → Purged p units (if b then with_call w c u else w) (if b then with_call v c u else v)) [
       | true ↦ λ same within. record {
@@ -96,7 +96,7 @@ outside_called : (p : Name) (units : Name → Bool) (w v : World) (c : Call) (u 
     → Purged p units w v → Purged p units (next_at w c (Some u)) v
 outside_called p units w v c u other e a =
     elim (changes_history (answer_at w c (Some u)) c) as (λ b. changes_history (answer_at w c (Some u)) c ≡ b
-        → Purged p units (if b then with_call w c u else w) v) [
+    → Purged p units (if b then with_call w c u else w) v) [
       | true ↦ λ t. record {
         admin = a.admin;
         inside = λ q i. get-with_call w c u q
@@ -118,7 +118,7 @@ own_step : (p : Name) (units : Name → Bool) (w v : World) (c : Call) → c.per
     → Purged p units w v → (answer w c ≡ answer v c) × Purged p units (next w c) (next v c)
 own_step p units w v c is =
     subst (λ x. IsInside x units w → IsInside x units (next w c) → Purged x units w v
-        → (answer w c ≡ answer v c) × Purged x units (next w c) (next v c)) is (own_called units w v c)
+    → (answer w c ≡ answer v c) × Purged x units (next w c) (next v c)) is (own_called units w v c)
 
 -- what is left gives the same answers from worlds that are so
 abbrev GoesOn : Name → (Name → Bool) → List Call → Type 0
@@ -131,7 +131,7 @@ others_step : (p : Name) (units : Name → Bool) (c : Call) (calls : List Call) 
 others_step p units c calls goes_on w v a e None is within = goes_on w v within a
 others_step p units c calls goes_on w v a e (Some u) is within =
     elim (units u) as (λ b. units u ≡ b
-        → answers_to p v (cond b (c ∷ purge p units calls) (purge p units calls)) ≡ answers_to p (next_at w c (Some u)) calls) [
+    → answers_to p v (cond b (c ∷ purge p units calls) (purge p units calls)) ≡ answers_to p (next_at w c (Some u)) calls) [
       | true ↦ λ i. ap (λ b. if b then
           answer v c ∷ answers_to p (next v c) (purge p units calls) else answers_to p (next v c) (purge p units calls)) e
           ∙ ap (λ o. answers_to p (next_at v c o) (purge p units calls)) is
@@ -143,12 +143,12 @@ purged_answers : (p : Name) (units : Name → Bool) (calls : List Call) → Goes
 purged_answers p units [] w v within a = refl
 purged_answers p units (c ∷ calls) w v within a =
     elim (same_name c.person p) as (λ b. same_name c.person p ≡ b
-        → answers_to p v (cond (b || names_in units (unit_named c.request)) (c ∷ purge p units calls) (purge p units calls))
-        ≡ (if b then answer w c ∷ answers_to p (next w c) calls else answers_to p (next w c) calls)) [
+    → answers_to p v (cond (b || names_in units (unit_named c.request)) (c ∷ purge p units calls) (purge p units calls))
+    ≡ (if b then answer w c ∷ answers_to p (next w c) calls else answers_to p (next w c) calls)) [
       | true ↦ λ e.
           let both = own_step p units w v c (same_of c.person p e) within.0 (now_inside p units (next w c) calls within.1) a in
           ap (λ b. if b then answer v c ∷ answers_to p (next v c) (purge p units calls) else answers_to p (next v c) (purge p units calls)) e
-              ∙ ap (λ x. x ∷ answers_to p (next v c) (purge p units calls)) (sym both.0)
+          ∙ ap (λ x. x ∷ answers_to p (next v c) (purge p units calls)) (sym both.0)
           ∙ ap (λ xs. answer w c ∷ xs) (purged_answers p units calls (next w c) (next v c) within.1 both.1)
       | false ↦ λ e. others_step p units c calls (purged_answers p units calls) w v a e (unit_named c.request) refl within.1
     ] refl

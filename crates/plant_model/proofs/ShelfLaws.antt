@@ -31,7 +31,7 @@ returned_last h legal a (Some l) is =
     (option_map (alarm_as a (unwrap_or (limit h a) 0) (limit_revision h a) (events_of h a) (outage h a)) o)) is
 returned_last h legal a None is =
     ap (λ o. option_and_then (λ r. r.return_s)
-        (option_map (alarm_as a (unwrap_or (limit h a) 0) (limit_revision h a) (events_of h a) (outage h a)) o)) is
+    (option_map (alarm_as a (unwrap_or (limit h a) 0) (limit_revision h a) (events_of h a) (outage h a)) o)) is
     ∙ sym (ap last_return (unspoken h legal a is).no_event)
 
 -- ---- rows that a function gives at keys, seen by two that agree at its own rows
@@ -43,8 +43,8 @@ module _ {X : Type 0} (row : Name → Option X) where
   filter_map-agree f g same (k ∷ ks) =
       let rest = filter_map-agree f g same ks in
       elim (row k) as (λ o. row k ≡ o
-          → filter_map f (cons_option o (filter_map row ks))
-          ≡ filter_map g (cons_option o (filter_map row ks))) [ None ↦ λ _. rest | Some x ↦ λ is. λ i. cons_option (same k x is i) (rest i) ] refl
+      → filter_map f (cons_option o (filter_map row ks))
+      ≡ filter_map g (cons_option o (filter_map row ks))) [ None ↦ λ _. rest | Some x ↦ λ is. λ i. cons_option (same k x is i) (rest i) ] refl
 
   filter-agree : (p q : X → Bool) → ((k : Name) (x : X) → row k ≡ Some x → p x ≡ q x) → (ks : List Name)
       → filter p (filter_map row ks) ≡ filter q (filter_map row ks)
@@ -52,8 +52,8 @@ module _ {X : Type 0} (row : Name → Option X) where
   filter-agree p q same (k ∷ ks) =
       let rest = filter-agree p q same ks in
       elim (row k) as (λ o. row k ≡ o
-          → filter p (cons_option o (filter_map row ks))
-          ≡ filter q (cons_option o (filter_map row ks))) [ None ↦ λ _. rest | Some x ↦ λ is. λ i. cond (same k x is i) (x ∷ rest i) (rest i) ] refl
+      → filter p (cons_option o (filter_map row ks))
+      ≡ filter q (cons_option o (filter_map row ks))) [ None ↦ λ _. rest | Some x ↦ λ is. λ i. cond (same k x is i) (x ∷ rest i) (rest i) ] refl
 
   map-all : {Y : Type 0} (f : X → Y) (P : Y → Type 0) → ((k : Name) (x : X) → row k ≡ Some x → P (f x)) → (ks : List Name)
       → AllByRecursion P (map f (filter_map row ks))
@@ -61,7 +61,7 @@ module _ {X : Type 0} (row : Name → Option X) where
   map-all f P holds (k ∷ ks) =
       let rest = map-all f P holds ks in
       elim (row k) as (λ o. row k ≡ o
-          → AllByRecursion P (map f (cons_option o (filter_map row ks)))) [ None ↦ λ _. rest | Some x ↦ λ is. (holds k x is, rest) ] refl
+      → AllByRecursion P (map f (cons_option o (filter_map row ks)))) [ None ↦ λ _. rest | Some x ↦ λ is. (holds k x is, rest) ] refl
 
   filter_map-all : {Y : Type 0} (f : X → Option Y) (P : Y → Type 0) → ((k : Name) (x : X) (y : Y) → row k ≡ Some x → f x ≡ Some y → P y)
       → (ks : List Name) → AllByRecursion P (filter_map f (filter_map row ks))

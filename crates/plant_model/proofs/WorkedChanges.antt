@@ -83,8 +83,16 @@ withdrawn = withdraw eve 2 ∷ approved
 
 changes_read : IsAnswered withdrawn (call vic now (ChangeOf u1 3)) ChangeUnknown
     × (verdict withdrawn (call vic now (ChangeOf u1 2))
-    ≡ Ok (ChangeReply (record { number = 2; kind = Rationale pt (seal 2); base = 0; proposer = eve; proposed = now; state = Withdrawn;
-    decider = Some eve; decided = Some now })))
+    ≡ Ok (ChangeReply (record {
+      number = 2;
+      kind = Rationale pt (seal 2);
+      base = 0;
+      proposer = eve;
+      proposed = now;
+      state = Withdrawn;
+      decider = Some eve;
+      decided = Some now;
+    })))
 unfolding holds_some
 changes_read = (refl, refl)
 
@@ -101,8 +109,17 @@ whole = call abe now (Reject u1 3) ∷ third ∷ withdrawn
 -- the record, with its priority by the matrix in force
 abbrev record_with : Cell → Result Reply Refused
 record_with cell =
-    Ok (RecordReply (record { tag = pt; change = 1; revision = 1; cause = codes "seal leak"; consequence = codes "loss of pressure";
-    action = codes "close XV-7"; severity = 2; response = 120; priority = cell }))
+    Ok (RecordReply (record {
+      tag = pt;
+      change = 1;
+      revision = 1;
+      cause = codes "seal leak";
+      consequence = codes "loss of pressure";
+      action = codes "close XV-7";
+      severity = 2;
+      response = 120;
+      priority = cell;
+    }))
 
 high : verdict whole (call vic now (RecordOf u1 pt)) ≡ record_with P1
 unfolding holds_some

@@ -38,8 +38,15 @@ abbrev standing_unit : List Call
 standing_unit = call ann (at 10 0 0) (TimedShelve u1 pt 60 x) ∷ call ann (at 9 30 0) (Import u1 (Ok (event 1 Act (at 9 0 0) pt ∷ []))) ∷ base
 
 standing_list : verdict standing_unit (call vic (at 10 0 0) (Standing u1))
-    ≡ Ok (StandingOf u1 (at 10 0 0) (record { tag = pt; state = Unacknowledged; priority = None; since = at 9 0 0; shelved = true; by_design = false;
-    out_of_service = false } ∷ []))
+    ≡ Ok (StandingOf u1 (at 10 0 0) (record {
+      tag = pt;
+      state = Unacknowledged;
+      priority = None;
+      since = at 9 0 0;
+      shelved = true;
+      by_design = false;
+      out_of_service = false;
+    } ∷ []))
 unfolding holds_some
 standing_list = refl
 

@@ -123,8 +123,16 @@ filled_gap = (refl, refl, refl, refl)
 
 -- suppression by design
 suppressed_by_design : (status (one_pt 1 Sup ∷ base) (at 9 30 0)
-    ≡ Ok (StatusOf (record { tag = pt; limit = 3600; limit_revision = 0; state = Normal; shelf = Unshelved; suppressed = true; out_of_service = false;
-    suppressed_or_shelved = true })))
+    ≡ Ok (StatusOf (record {
+      tag = pt;
+      limit = 3600;
+      limit_revision = 0;
+      state = Normal;
+      shelf = Unshelved;
+      suppressed = true;
+      out_of_service = false;
+      suppressed_or_shelved = true;
+    })))
     × (status (one_pt 2 Unsup ∷ one_pt 1 Sup ∷ base) (at 9 30 0) ≡ plain pt 3600 0 Normal Unshelved)
 unfolding holds_some merge_fault
 suppressed_by_design = (refl, refl)

@@ -17,8 +17,16 @@ removal : IsDone base (call moe (at 10 0 0) (RemoveFromService u1 pt (codes "val
     × IsAnswered base (call ann (at 10 0 0) (RemoveFromService u1 pt (codes "valve"))) (RoleLacking Maintainer)
     × IsAnswered base (call moe (at 10 0 0) (RemoveFromService u1 x (codes "valve"))) AlarmUnknown
     × (status removed (at 10 0 0)
-    ≡ Ok (StatusOf (record { tag = pt; limit = 3600; limit_revision = 0; state = Normal; shelf = Unshelved; suppressed = false; out_of_service = true;
-    suppressed_or_shelved = true })))
+    ≡ Ok (StatusOf (record {
+      tag = pt;
+      limit = 3600;
+      limit_revision = 0;
+      state = Normal;
+      shelf = Unshelved;
+      suppressed = false;
+      out_of_service = true;
+      suppressed_or_shelved = true;
+    })))
     × IsAnswered removed (call moe (at 10 0 0) (RemoveFromService u1 pt (codes "valve"))) AlreadyOutOfService
 unfolding holds_some
 removal = (refl, refl, refl, refl, refl)
@@ -49,8 +57,16 @@ placed = call moe (at 10 0 0) (PlaceInService u1 pt) ∷ shelved_too
 placement : IsDone shelved_too (call moe (at 10 0 0) (PlaceInService u1 pt))
     × IsAnswered placed (call moe (at 10 0 0) (PlaceInService u1 pt)) NotOutOfService
     × (status placed (at 10 0 30)
-    ≡ Ok (StatusOf (record { tag = pt; limit = 3600; limit_revision = 0; state = Normal; shelf = TimedShelved 30; suppressed = false;
-    out_of_service = false; suppressed_or_shelved = true })))
+    ≡ Ok (StatusOf (record {
+      tag = pt;
+      limit = 3600;
+      limit_revision = 0;
+      state = Normal;
+      shelf = TimedShelved 30;
+      suppressed = false;
+      out_of_service = false;
+      suppressed_or_shelved = true;
+    })))
 unfolding holds_some
 placement = (refl, refl, refl)
 

@@ -99,8 +99,12 @@ own_changes f p t (RemoveFromService u a w) = with_alarm f a (taken_out p t w)
 own_changes f p t (PlaceInService u a) = with_alarm f a placed_in
 own_changes f p t (Propose u x) =
     Put (ChangePut
-    (change_entry (change_as (f.change_count + 1) None (record { proposer = p; proposed = t; kind = x.kind;
-    base = x.base })))) ∷ kind_changes (f.change_count + 1) x.kind
+    (change_entry (change_as (f.change_count + 1) None (record {
+      proposer = p;
+      proposed = t;
+      kind = x.kind;
+      base = x.base;
+    })))) ∷ kind_changes (f.change_count + 1) x.kind
 own_changes f p t (WithdrawChange u n) = for_change (f.change n) (λ c. decision_change Withdrawn p t c ∷ [])
 own_changes f p t (Approve u n) = for_change (f.change n) (approval_changes f p t)
 own_changes f p t (Reject u n) = for_change (f.change n) (λ c. decision_change Rejected p t c ∷ [])

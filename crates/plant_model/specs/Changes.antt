@@ -60,9 +60,16 @@ state_after (Some d) = d.state
 -- the change of a number, with its state
 abbrev pub change_as : ℕ → Option Decision → Draft → ChangeRow
 change_as n decided d =
-    record { number = n; kind = d.kind; base = d.base; proposer = d.proposer; proposed = d.proposed;
-    state = state_after decided; decider = option_map (λ x. x.decider) decided;
-    decided = option_map (λ x. x.decided) decided }
+    record {
+      number = n;
+      kind = d.kind;
+      base = d.base;
+      proposer = d.proposer;
+      proposed = d.proposed;
+      state = state_after decided;
+      decider = option_map (λ x. x.decider) decided;
+      decided = option_map (λ x. x.decided) decided;
+    }
 
 abbrev pub change : List Call → ℕ → Option ChangeRow
 change h n = option_map (change_as n (decision h n)) (draft h n)
@@ -147,9 +154,17 @@ priority_by m severity response = unwrap_or (priority_of m severity response) N
 -- the rationalisation record of an alarm, with its priority by the matrix in force now
 abbrev pub record_as : Grid → ℕ → Name → ℕ × Sheet → RecordRow
 record_as m revision a e =
-    record { tag = a; change = e.0; revision = revision; cause = e.1.cause; consequence = e.1.consequence;
-    action = e.1.action; severity = e.1.severity; response = e.1.response;
-    priority = priority_by m e.1.severity e.1.response }
+    record {
+      tag = a;
+      change = e.0;
+      revision = revision;
+      cause = e.1.cause;
+      consequence = e.1.consequence;
+      action = e.1.action;
+      severity = e.1.severity;
+      response = e.1.response;
+      priority = priority_by m e.1.severity e.1.response;
+    }
 
 abbrev pub record_of : List Call → Name → Option RecordRow
 record_of h a = option_map (record_as (matrix h).1 (record_revision h a) a) (sheet h a)

@@ -10,12 +10,12 @@ use Rattle.plant_types.specs.{KeyedRows.{in_order}, Limits.{max_flood_seconds}, 
 pub use Rattle.plant_model.specs.Kinds.{rows_of_file}
 
 -- the rows that an entry imports
-abbrev pub rows_in : Option (Result (List Event) BadFile) → List Event
-rows_in None = []
-rows_in (Some file) = rows_of_file file
+abbrev pub imported_rows : Option (Result (List Event) BadFile) → List Event
+imported_rows None = []
+imported_rows (Some file) = rows_of_file file
 
 abbrev pub imported : Request → List Event
-imported r = rows_in (says r).file
+imported r = imported_rows (says r).file
 
 -- the event of a number, where some import has it
 abbrev pub event_numbered : List Call → ℕ → Option Event

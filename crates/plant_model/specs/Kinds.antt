@@ -172,14 +172,24 @@ pub record Sayings : Type 0 where
 
 -- an entry that says nothing
 abbrev pub silent : Sayings
-silent = record { opening = None; pair = None; registration = None; file = None; shelf = None; outage = None;
-    proposal = None; decision = None }
+silent = record {
+  opening = None;
+  pair = None;
+  registration = None;
+  file = None;
+  shelf = None;
+  outage = None;
+  proposal = None;
+  decision = None;
+}
 
 -- what a request says once it is an entry. An opening also makes its first steward a Steward, for good; a request that only reads says nothing
 abbrev pub says : Request → Sayings
 says (request.OpenUnit u s m q) =
-    record silent { opening = Some (record { unit = u; steward = s; matrix = m; quota = q });
-    pair = Some ((s, Steward), Begins None) }
+    record silent {
+      opening = Some (record { unit = u; steward = s; matrix = m; quota = q });
+      pair = Some ((s, Steward), Begins None);
+    }
 says (request.Grant u p t) = record silent { pair = Some ((p, t.0), Begins t.1) }
 says (request.Withdraw u p r) = record silent { pair = Some ((p, r), Over) }
 says (request.Register u a latching max) =

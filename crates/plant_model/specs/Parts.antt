@@ -36,16 +36,23 @@ all_events es = es
 
 abbrev pub nothing : Selection
 nothing =
-    record { pair = none; alarm = none; shelf = none; events = no_events; matrix = none; rationale = none;
-    change = none }
+    record {
+      pair = none;
+      alarm = none;
+      shelf = none;
+      events = no_events;
+      matrix = none;
+      rationale = none;
+      change = none;
+    }
 
 -- the alarm and the shelf of a tag
 abbrev pub of_tag : Name → Selection
 of_tag a = record nothing { alarm = same_name a; shelf = same_name a }
 
 -- a change with its matrix
-abbrev pub of_number : ℕ → Selection
-of_number n = record nothing { matrix = same_number n; change = same_number n }
+abbrev pub change_by_number : ℕ → Selection
+change_by_number n = record nothing { matrix = same_number n; change = same_number n }
 
 abbrev pub is_in_force : UnitRows → ℕ → Bool
 is_in_force rows = same_number (unit_read rows).matrix_no
@@ -74,7 +81,7 @@ abbrev pub with_number : ℕ → Selection → Selection
 with_number n s = record s { matrix = λ m. s.matrix m || same_number n m; change = λ m. s.change m || same_number n m }
 
 abbrev pub of_approved : UnitRows → ℕ → Option ChangeEntry → Selection
-of_approved rows n None = of_number n
+of_approved rows n None = change_by_number n
 of_approved rows n (Some c) = with_number n (of_topic rows c.tag c.kind_no)
 
 -- so many shelves are kept that the quota may be used up
@@ -96,7 +103,7 @@ selection rows (OneAlarm a) = of_tag a
 selection rows (Shelving a) = of_shelving (is_crowded rows) a
 selection rows (OneRecord a) =
     record nothing { alarm = same_name a; rationale = same_name a; change = is_source rows (same_name a) }
-selection rows (OneChange n) = of_number n
+selection rows (OneChange n) = change_by_number n
 selection rows (Approval n) = of_approved rows n (change_found rows n)
 selection rows (Content a) = of_content rows a
 selection rows AllRecords = of_records rows
@@ -109,14 +116,14 @@ abbrev pub selected : UnitRows → Request → Selection
 selected rows r = selection rows (scope_of r)
 
 -- how many alarms or events there are, or the number of the last change, for the calls that need it
-abbrev pub counted : Counted → UnitRows → ℕ
-counted Nothing rows = 0
-counted AlarmsCounted rows = length rows.alarms
-counted EventsCounted rows = length rows.events
-counted ChangesCounted rows = last_number rows.changes
+abbrev pub count_of_kind : Counted → UnitRows → ℕ
+count_of_kind Nothing rows = 0
+count_of_kind AlarmsCounted rows = length rows.alarms
+count_of_kind EventsCounted rows = length rows.events
+count_of_kind ChangesCounted rows = last_number rows.changes
 
 abbrev pub counted_for : UnitRows → Request → ℕ
-counted_for rows r = counted (count_of (kind_of r)) rows
+counted_for rows r = count_of_kind (count_of (kind_of r)) rows
 
 abbrev pub rows_selected : Name → Selection → UnitRows → UnitRows
 rows_selected p s rows =

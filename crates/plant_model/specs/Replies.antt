@@ -49,8 +49,15 @@ alarm_line f t r =
 -- the line of an alarm that is active since a moment
 abbrev pub standing_as : AlarmLine → ℕ → StandingLine
 standing_as l since =
-    record { tag = l.tag; state = l.state; priority = l.priority; since = since; shelved = l.shelved;
-    by_design = l.by_design; out_of_service = l.out_of_service }
+    record {
+      tag = l.tag;
+      state = l.state;
+      priority = l.priority;
+      since = since;
+      shelved = l.shelved;
+      by_design = l.by_design;
+      out_of_service = l.out_of_service;
+    }
 
 abbrev pub standing_line : Facts → ℕ → AlarmRow → Option StandingLine
 standing_line f t r = option_map (standing_as (alarm_line f t r)) r.active_s

@@ -44,8 +44,17 @@ changed_by (c ∷ cs) rows = changed_by cs (changed c rows)
 -- what a unit's rows are before its opening
 abbrev pub no_rows : UnitRows
 no_rows =
-    record { units = []; grants = []; alarms = []; shelves = []; events = []; bands = []; cells = []; records = [];
-    changes = [] }
+    record {
+      units = [];
+      grants = [];
+      alarms = [];
+      shelves = [];
+      events = [];
+      bands = [];
+      cells = [];
+      records = [];
+      changes = [];
+    }
 
 -- some change puts the unit's own row
 abbrev pub is_unit_put : RowEdit → Bool
@@ -95,8 +104,8 @@ abbrev pub new_events : List Event → List Event → List Event
 new_events kept rows = with_events [] (fresh kept rows)
 
 -- all events with the new ones of a file
-abbrev pub all_events : List Event → List Event → List Event
-all_events kept rows = with_events kept (fresh kept rows)
+abbrev pub events_with_file : List Event → List Event → List Event
+events_with_file kept rows = with_events kept (fresh kept rows)
 
 -- a new row of the file names the alarm: its state is computed anew from all its events
 abbrev pub is_touched : List Event → List Event → AlarmRow → Bool
@@ -104,15 +113,19 @@ is_touched kept rows r = list_any (λ e. same_name r.tag e.tag) (fresh kept rows
 
 abbrev pub with_state : List Event → AlarmRow → AlarmRow
 with_state es r =
-    record r { state_no = state_of r.latching es; suppressed = is_suppressed es; active_s = active_since es;
-    return_s = last_return es }
+    record r {
+      state_no = state_of r.latching es;
+      suppressed = is_suppressed es;
+      active_s = active_since es;
+      return_s = last_return es;
+    }
 
 abbrev pub state_put : List Event → AlarmRow → RowEdit
 state_put es r = Put (AlarmPut (with_state (of_alarm r.tag es) r))
 
 abbrev pub import_changes : Facts → List Event → List RowEdit
 import_changes f rows =
-    map (state_put (all_events f.events rows)) (filter (is_touched f.events rows) f.alarms)
+    map (state_put (events_with_file f.events rows)) (filter (is_touched f.events rows) f.alarms)
     ++ PutEvents (new_events f.events rows) ∷ []
 
 -- a change that is decided
@@ -129,8 +142,12 @@ rerated m r =
 
 abbrev pub in_force : Facts → ℕ → ChangeKind → List RowEdit
 in_force f n (Rationale a s) =
-    Put (RecordPut (record { tag = a; change_no = n; rev = f.revision a + 1;
-    cell_no = priority_by f.matrix s.severity s.response })) ∷ []
+    Put (RecordPut (record {
+      tag = a;
+      change_no = n;
+      rev = f.revision a + 1;
+      cell_no = priority_by f.matrix s.severity s.response;
+    })) ∷ []
 in_force f n (Matrix m) = map (λ r. Put (RecordPut (rerated m r))) f.rationales
 in_force f n (Limit a max) = with_alarm f a (with_limit max)
 

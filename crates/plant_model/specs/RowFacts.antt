@@ -54,8 +54,13 @@ matrix_read rows n =
 -- a change from its row
 abbrev pub sheet_read : ChangeEntry → Sheet
 sheet_read c =
-    record { cause = unwrap_or c.cause []; consequence = unwrap_or c.consequence []; action = unwrap_or c.remedy [];
-    severity = unwrap_or c.severity 0; response = unwrap_or c.response_s 0 }
+    record {
+      cause = unwrap_or c.cause [];
+      consequence = unwrap_or c.consequence [];
+      action = unwrap_or c.remedy [];
+      severity = unwrap_or c.severity 0;
+      response = unwrap_or c.response_s 0;
+    }
 
 abbrev pub kind_read : UnitRows → ChangeEntry → ChangeTopic → ChangeKind
 kind_read rows c RecordTopic = Rationale (unwrap_or c.tag []) (sheet_read c)
@@ -64,8 +69,16 @@ kind_read rows c LimitTopic = Limit (unwrap_or c.tag []) (unwrap_or c.max_s 0)
 
 abbrev pub change_read : UnitRows → ChangeEntry → ChangeRow
 change_read rows c =
-    record { number = c.number; kind = kind_read rows c c.kind_no; base = c.base; proposer = c.proposer;
-    proposed = c.proposed_s; state = c.state_no; decider = c.decider; decided = c.decided_s }
+    record {
+      number = c.number;
+      kind = kind_read rows c c.kind_no;
+      base = c.base;
+      proposer = c.proposer;
+      proposed = c.proposed_s;
+      state = c.state_no;
+      decider = c.decider;
+      decided = c.decided_s;
+    }
 
 abbrev pub change_found : UnitRows → ℕ → Option ChangeEntry
 change_found rows n = row_at nat_cmp change_number n rows.changes
@@ -73,8 +86,17 @@ change_found rows n = row_at nat_cmp change_number n rows.changes
 -- a record from its row and the change that it came from
 abbrev pub record_from : RecordEntry → Sheet → RecordRow
 record_from r s =
-    record { tag = r.tag; change = r.change_no; revision = r.rev; cause = s.cause; consequence = s.consequence;
-    action = s.action; severity = s.severity; response = s.response; priority = r.cell_no }
+    record {
+      tag = r.tag;
+      change = r.change_no;
+      revision = r.rev;
+      cause = s.cause;
+      consequence = s.consequence;
+      action = s.action;
+      severity = s.severity;
+      response = s.response;
+      priority = r.cell_no;
+    }
 
 abbrev pub record_read : UnitRows → RecordEntry → Option RecordRow
 record_read rows r = option_map (λ c. record_from r (sheet_read c)) (change_found rows r.change_no)
@@ -93,8 +115,8 @@ abbrev pub last_number : List ChangeEntry → ℕ
 last_number changes = unwrap_or (option_map change_number (slice_get changes (length changes - 1))) 0
 
 -- when the alarm of a tag last returned to normal
-abbrev pub last_return : List AlarmRow → Name → Option ℕ
-last_return alarms a = option_and_then (λ r. r.return_s) (row_at name_cmp alarm_tag a alarms)
+abbrev pub last_return_in : List AlarmRow → Name → Option ℕ
+last_return_in alarms a = option_and_then (λ r. r.return_s) (row_at name_cmp alarm_tag a alarms)
 
 -- the pair is held at the moment by these grants, and the person holds some role by them
 abbrev pub held_by : List GrantRow → ℕ → Pair → Bool

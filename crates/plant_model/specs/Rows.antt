@@ -106,10 +106,10 @@ records_of h = filter_map (record_of h) (in_order name_cmp (all_named (λ c befo
 abbrev pub record_rows : List Call → List RecordEntry
 record_rows h = map record_entry (records_of h)
 
-abbrev pub topic : ChangeKind → ChangeTopic
-topic (Rationale a s) = RecordTopic
-topic (Matrix m) = MatrixTopic
-topic (Limit a max) = LimitTopic
+abbrev pub topic_of : ChangeKind → ChangeTopic
+topic_of (Rationale a s) = RecordTopic
+topic_of (Matrix m) = MatrixTopic
+topic_of (Limit a max) = LimitTopic
 
 abbrev pub tag_of_kind : ChangeKind → Option Name
 tag_of_kind (Rationale a s) = Some a
@@ -133,7 +133,7 @@ change_entry c =
       number = c.number;
       proposer = c.proposer;
       proposed_s = c.proposed;
-      kind_no = topic c.kind;
+      kind_no = topic_of c.kind;
       tag = tag_of_kind c.kind;
       base = c.base;
       cause = option_map (λ s. s.cause) (sheet_of_kind c.kind);

@@ -2,7 +2,7 @@
 use Rattle.std.specs.Prelude.{Bool, None, Option, Some, false, option_copied, true, ℕ, ◌≡◌}
 use Rattle.plant_import.specs.Needed.{needed}
 use Rattle.plant_model.specs.{Histories.{Begins, Over, Said}, Kinds.{NewShelf, Scope as Looked, says, scope_of}}
-use Rattle.plant_model.specs.Parts.{Selection, all_events, every, has_shelf, is_crowded, is_source, nothing, of_approved, of_content, of_number, of_records, of_shelving, of_tag, of_topic, selected}
+use Rattle.plant_model.specs.Parts.{Selection, all_events, every, has_shelf, is_crowded, is_source, nothing, of_approved, of_content, change_by_number, of_records, of_shelving, of_tag, of_topic, selected}
 use Rattle.plant_model.specs.{RowFacts.{change_found}, declared.{call.Request.{Request}, kinds.Scope.{Scope}}}
 use Rattle.plant_model.specs.declared.kinds.Scope.TheVariants.{AllAlarms, AllEvents, AllGrants, AllRecords, AllShelves, Approval, Content, File, NothingElse, OneAlarm, OneChange, OneRecord, Shelving}
 use Rattle.plant_model.specs.declared.rows.{ChangeEntry.{ChangeEntry}, UnitRows.{UnitRows}}
@@ -17,9 +17,12 @@ selection_by rows AllGrants = record nothing { pair = every }
 selection_by rows (OneAlarm tag) = of_tag tag.now
 selection_by rows (Shelving tag crowded) = of_shelving crowded tag.now
 selection_by rows (OneRecord tag) =
-    record nothing { alarm = same_name tag.now; rationale = same_name tag.now;
-    change = is_source rows (same_name tag.now) }
-selection_by rows (OneChange n) = of_number n
+    record nothing {
+      alarm = same_name tag.now;
+      rationale = same_name tag.now;
+      change = is_source rows (same_name tag.now);
+    }
+selection_by rows (OneChange n) = change_by_number n
 selection_by rows (Approval n change) = of_approved rows n (option_copied change)
 selection_by rows (Content tag) = of_content rows tag.now
 selection_by rows AllRecords = of_records rows
@@ -29,8 +32,8 @@ selection_by rows AllAlarms = record nothing { alarm = every; shelf = every; rat
 selection_by rows AllEvents = record nothing { events = all_events }
 
 -- what a change is of
-abbrev pub of_change : ChangeEntry → UnitRows → Selection
-of_change c rows = of_topic rows c.tag c.kind_no
+abbrev pub of_entry : ChangeEntry → UnitRows → Selection
+of_entry c rows = of_topic rows c.tag c.kind_no
 
 -- of the rows of any unit the scope takes in these
 abbrev pub Selects : Scope → (UnitRows → Selection) → Type 0

@@ -5,7 +5,7 @@ use crate::{
     AlarmRow, BandRow, CellRow, ChangeEntry, GrantRow, Key, RecordEntry, Row, RowEdit, ShelfRow,
     UnitRow, UnitRows,
 };
-use plant_types::{Duplicate, Fault, List};
+use plant_types::{Fault, List, TryCopy};
 use std::alloc::Global;
 
 impl UnitRows {
@@ -27,42 +27,42 @@ impl UnitRows {
     }
 }
 
-impl Duplicate for UnitRows {
-    fn duplicate(&self, alloc: Global) -> Result<UnitRows, Fault> {
+impl TryCopy for UnitRows {
+    fn copy(&self, alloc: Global) -> Result<UnitRows, Fault> {
         Ok(UnitRows {
-            units: self.units.duplicate(alloc)?,
-            grants: self.grants.duplicate(alloc)?,
-            alarms: self.alarms.duplicate(alloc)?,
-            shelves: self.shelves.duplicate(alloc)?,
-            events: self.events.duplicate(alloc)?,
-            bands: self.bands.duplicate(alloc)?,
-            cells: self.cells.duplicate(alloc)?,
-            records: self.records.duplicate(alloc)?,
-            changes: self.changes.duplicate(alloc)?,
+            units: self.units.copy(alloc)?,
+            grants: self.grants.copy(alloc)?,
+            alarms: self.alarms.copy(alloc)?,
+            shelves: self.shelves.copy(alloc)?,
+            events: self.events.copy(alloc)?,
+            bands: self.bands.copy(alloc)?,
+            cells: self.cells.copy(alloc)?,
+            records: self.records.copy(alloc)?,
+            changes: self.changes.copy(alloc)?,
         })
     }
 }
 
-impl Duplicate for UnitRow {
-    fn duplicate(&self, _alloc: Global) -> Result<UnitRow, Fault> {
+impl TryCopy for UnitRow {
+    fn copy(&self, _alloc: Global) -> Result<UnitRow, Fault> {
         Ok(*self)
     }
 }
 
-impl Duplicate for GrantRow {
-    fn duplicate(&self, alloc: Global) -> Result<GrantRow, Fault> {
+impl TryCopy for GrantRow {
+    fn copy(&self, alloc: Global) -> Result<GrantRow, Fault> {
         Ok(GrantRow {
-            person: self.person.duplicate(alloc)?,
+            person: self.person.copy(alloc)?,
             role_no: self.role_no,
             end_s: self.end_s,
         })
     }
 }
 
-impl Duplicate for AlarmRow {
-    fn duplicate(&self, alloc: Global) -> Result<AlarmRow, Fault> {
+impl TryCopy for AlarmRow {
+    fn copy(&self, alloc: Global) -> Result<AlarmRow, Fault> {
         Ok(AlarmRow {
-            tag: self.tag.duplicate(alloc)?,
+            tag: self.tag.copy(alloc)?,
             latching: self.latching,
             max_s: self.max_s,
             max_rev: self.max_rev,
@@ -71,41 +71,41 @@ impl Duplicate for AlarmRow {
             active_s: self.active_s,
             return_s: self.return_s,
             out_s: self.out_s,
-            out_by: self.out_by.duplicate(alloc)?,
-            out_words: self.out_words.duplicate(alloc)?,
+            out_by: self.out_by.copy(alloc)?,
+            out_words: self.out_words.copy(alloc)?,
         })
     }
 }
 
-impl Duplicate for ShelfRow {
-    fn duplicate(&self, alloc: Global) -> Result<ShelfRow, Fault> {
+impl TryCopy for ShelfRow {
+    fn copy(&self, alloc: Global) -> Result<ShelfRow, Fault> {
         Ok(ShelfRow {
-            tag: self.tag.duplicate(alloc)?,
+            tag: self.tag.copy(alloc)?,
             one_shot: self.one_shot,
             start_s: self.start_s,
             until_s: self.until_s,
-            person: self.person.duplicate(alloc)?,
-            words: self.words.duplicate(alloc)?,
+            person: self.person.copy(alloc)?,
+            words: self.words.copy(alloc)?,
         })
     }
 }
 
-impl Duplicate for BandRow {
-    fn duplicate(&self, _alloc: Global) -> Result<BandRow, Fault> {
+impl TryCopy for BandRow {
+    fn copy(&self, _alloc: Global) -> Result<BandRow, Fault> {
         Ok(*self)
     }
 }
 
-impl Duplicate for CellRow {
-    fn duplicate(&self, _alloc: Global) -> Result<CellRow, Fault> {
+impl TryCopy for CellRow {
+    fn copy(&self, _alloc: Global) -> Result<CellRow, Fault> {
         Ok(*self)
     }
 }
 
-impl Duplicate for RecordEntry {
-    fn duplicate(&self, alloc: Global) -> Result<RecordEntry, Fault> {
+impl TryCopy for RecordEntry {
+    fn copy(&self, alloc: Global) -> Result<RecordEntry, Fault> {
         Ok(RecordEntry {
-            tag: self.tag.duplicate(alloc)?,
+            tag: self.tag.copy(alloc)?,
             change_no: self.change_no,
             rev: self.rev,
             cell_no: self.cell_no,
@@ -113,59 +113,59 @@ impl Duplicate for RecordEntry {
     }
 }
 
-impl Duplicate for ChangeEntry {
-    fn duplicate(&self, alloc: Global) -> Result<ChangeEntry, Fault> {
+impl TryCopy for ChangeEntry {
+    fn copy(&self, alloc: Global) -> Result<ChangeEntry, Fault> {
         Ok(ChangeEntry {
             number: self.number,
-            proposer: self.proposer.duplicate(alloc)?,
+            proposer: self.proposer.copy(alloc)?,
             proposed_s: self.proposed_s,
             kind_no: self.kind_no,
-            tag: self.tag.duplicate(alloc)?,
+            tag: self.tag.copy(alloc)?,
             base: self.base,
-            cause: self.cause.duplicate(alloc)?,
-            consequence: self.consequence.duplicate(alloc)?,
-            remedy: self.remedy.duplicate(alloc)?,
+            cause: self.cause.copy(alloc)?,
+            consequence: self.consequence.copy(alloc)?,
+            remedy: self.remedy.copy(alloc)?,
             severity: self.severity,
             response_s: self.response_s,
             max_s: self.max_s,
             state_no: self.state_no,
-            decider: self.decider.duplicate(alloc)?,
+            decider: self.decider.copy(alloc)?,
             decided_s: self.decided_s,
         })
     }
 }
 
-impl Duplicate for Row {
-    fn duplicate(&self, alloc: Global) -> Result<Row, Fault> {
+impl TryCopy for Row {
+    fn copy(&self, alloc: Global) -> Result<Row, Fault> {
         Ok(match self {
             Row::Unit(row) => Row::Unit(*row),
-            Row::Grant(row) => Row::Grant(row.duplicate(alloc)?),
-            Row::Alarm(row) => Row::Alarm(row.duplicate(alloc)?),
-            Row::Shelf(row) => Row::Shelf(row.duplicate(alloc)?),
-            Row::Event(row) => Row::Event(row.duplicate(alloc)?),
+            Row::Grant(row) => Row::Grant(row.copy(alloc)?),
+            Row::Alarm(row) => Row::Alarm(row.copy(alloc)?),
+            Row::Shelf(row) => Row::Shelf(row.copy(alloc)?),
+            Row::Event(row) => Row::Event(row.copy(alloc)?),
             Row::Band(row) => Row::Band(*row),
             Row::Cell(row) => Row::Cell(*row),
-            Row::Record(row) => Row::Record(row.duplicate(alloc)?),
-            Row::Change(row) => Row::Change(row.duplicate(alloc)?),
+            Row::Record(row) => Row::Record(row.copy(alloc)?),
+            Row::Change(row) => Row::Change(row.copy(alloc)?),
         })
     }
 }
 
-impl Duplicate for Key {
-    fn duplicate(&self, alloc: Global) -> Result<Key, Fault> {
+impl TryCopy for Key {
+    fn copy(&self, alloc: Global) -> Result<Key, Fault> {
         Ok(match self {
-            Key::Grant(person, role) => Key::Grant(person.duplicate(alloc)?, *role),
-            Key::Shelf(tag) => Key::Shelf(tag.duplicate(alloc)?),
+            Key::Grant(person, role) => Key::Grant(person.copy(alloc)?, *role),
+            Key::Shelf(tag) => Key::Shelf(tag.copy(alloc)?),
         })
     }
 }
 
-impl Duplicate for RowEdit {
-    fn duplicate(&self, alloc: Global) -> Result<RowEdit, Fault> {
+impl TryCopy for RowEdit {
+    fn copy(&self, alloc: Global) -> Result<RowEdit, Fault> {
         Ok(match self {
-            RowEdit::Put(row) => RowEdit::Put(row.duplicate(alloc)?),
-            RowEdit::PutEvents(events) => RowEdit::PutEvents(events.duplicate(alloc)?),
-            RowEdit::Remove(key) => RowEdit::Remove(key.duplicate(alloc)?),
+            RowEdit::Put(row) => RowEdit::Put(row.copy(alloc)?),
+            RowEdit::PutEvents(events) => RowEdit::PutEvents(events.copy(alloc)?),
+            RowEdit::Remove(key) => RowEdit::Remove(key.copy(alloc)?),
         })
     }
 }

@@ -78,7 +78,7 @@ pub fn alarm_of<'a>(alarms: &'a [AlarmRow], tag: &Tag) -> Option<&'a AlarmRow>
 
 /// When the alarm of the tag last returned to normal.
 pub fn last_return(alarms: &[AlarmRow], tag: &Tag) -> Option<Moment>
-    ensures { result ≡ facts.last_return alarms.now tag.now }
+    ensures { result ≡ facts.last_return_in alarms.now tag.now }
 {
     alarm_of(alarms, tag).and_then(|alarm| alarm.return_s)
 }

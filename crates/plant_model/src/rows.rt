@@ -5,7 +5,7 @@ ghost use Rattle.plant_types.specs.Results.{Gives, OnlyMemory};
 use crate::{Refused, Reply};
 use plant_alarm::{AlarmState, Event};
 use plant_ration::{Cell, ChangeState};
-use plant_types::{Duplicate, Fault, List, Moment, Person, Quota, Role, Seconds, Tag, Words};
+use plant_types::{Fault, List, Moment, Person, Quota, Role, Seconds, Tag, TryCopy, Words};
 use std::alloc::Global;
 
 /// The unit's own row: its last moment, the number and the revision of the matrix in force, and its quota of shelves.
@@ -75,7 +75,7 @@ impl AlarmRow {
             → Gives result (with_limit max self.now) }
         ensures err { OnlyMemory result }
     {
-        let mut row = self.duplicate(alloc)?;
+        let mut row = self.copy(alloc)?;
         row.max_s = max;
         row.max_rev = self.max_rev.saturating_add(1);
         Ok(row)

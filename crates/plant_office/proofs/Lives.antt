@@ -22,7 +22,7 @@ within_life calls answers own ys zs (inl is) it =
     subst (λ l. IsWithin (confirmed calls answers ++ ys) (l ++ zs)) (sym is) (within_both (confirmed calls answers) ys zs it)
 within_life calls answers own ys zs (inr (c, doubt, is)) it =
     subst (IsWithin (confirmed calls answers ++ ys)) (sym (ap (λ l. l ++ zs) is ∙ append_assoc (confirmed calls answers) (c ∷ []) zs))
-        (within_both (confirmed calls answers) ys (c ∷ zs) (within_more ys zs c it))
+    (within_both (confirmed calls answers) ys (c ∷ zs) (within_more ys zs c it))
 
 -- at most one more than were confirmed
 made_bound : (calls : List Call) (answers : List Answer) (own : List Call) → AreMade calls answers own

@@ -4,7 +4,7 @@ use Rattle.std.proofs.Common.{true≢false, ap, arith, inl, inr, refl, subst, sy
 use Rattle.std.proofs.lemmas.{Bool.Decides.{nat_tests}, List.Elements.{filter_map-append}, Simd.{map-map}}
 use Rattle.plant_model.specs.{Calls.{reply}, Facts.{facts, returned}, Grants.{held, holds_any, roles_held}, Histories.{last_moment}}
 use Rattle.plant_model.specs.{Legality.{has_matrix}, Parts.{part_of, part_of_holder, part_of_stranger}, Replies.{line_of, shelf_lines}}
-use Rattle.plant_model.specs.{RowChanges.{changed_by, no_rows}, RowFacts.{holds_by, last_return}, Rows.{alarm_rows, rows_of, shelf_rows}}
+use Rattle.plant_model.specs.{RowChanges.{changed_by, no_rows}, RowFacts.{holds_by, last_return_in}, Rows.{alarm_rows, rows_of, shelf_rows}}
 use Rattle.plant_model.specs.{Shelves.{shelf_left}, Verdicts.{changes_history, is_opening, is_read, verdict}, Views.{view}}
 use Rattle.plant_model.specs.Worlds.{IsLegalWorld, World, answer, answer_at, answer_of_units, by_admin, greatest_last, history, is_taken, mine_line, mine_lines, next, next_at, opening, reply_of_units, unit_lines, unit_named, unit_seen, units_held, with_call}
 use Rattle.plant_model.specs.declared.{call.{Call.{Call}, Request.{Request, TheVariants.{MyShelves, MyUnits, OpenUnit}}}, reply.Answer.{Answer}}
@@ -116,7 +116,7 @@ changing_call b w c u reply cs h named plain read v =
     let accepted : changes_history (verdict (history w u) c) c ≡ true = ap (λ x. changes_history x c) (sym v.answer) ∙ changing in
     let there = there_of_accepted w c u accepted in
     let left = ap (changed_by cs) (rows_told b w u (Some (history w u)) h there) ∙ v.changes
-        ∙ ap (λ x. rows_of (if x then c ∷ history w u else history w u)) accepted in
+    ∙ ap (λ x. rows_of (if x then c ∷ history w u else history w u)) accepted in
     served _ w c u (Ok reply) named is (put b w c u (Ok reply) _ h is changing left)
 
 -- a reply to a call that is no read changes a history
@@ -158,14 +158,14 @@ pub opening_of : (b : Content) (w : World) (c : Call) (u admin : Name) (taken : 
     → taken ≡ contains_key b.units u → IsOpening (same_name c.person admin) taken c v → IsOpening (by_admin w c) (is_taken w u) c v
 opening_of b w c u admin taken v h a t o =
     subst (λ x. IsOpening x (is_taken w u) c v) (ap (same_name c.person) (a ∙ h.same_admin))
-        (subst (λ x. IsOpening (same_name c.person admin) x c v) (t ∙ held_taken b w u h) o)
+    (subst (λ x. IsOpening (same_name c.person admin) x c v) (t ∙ held_taken b w u h) o)
 
 -- the verdict on the part that the books gave is that on the unit's history
 pub on_history : (b : Content) (w : World) (c : Call) (u : Name) (o p : Option UnitPart) (v x : Verdict) → IsLegalWorld w → Holds b w
     → o ≡ part_in b c u → p ≡ o → ((h : List Call) → IsPartOf p h c → IsVerdictOn h c v) → v ≡ x → IsVerdictOn (history w u) c x
 on_history b w c u o p v x legal h found same verdicts is =
     subst (IsVerdictOn (history w u) c) is
-        (verdicts (history w u) (subst (λ y. IsPartOf y (history w u) c) (sym (same ∙ found)) (held_part b w c u legal h)))
+    (verdicts (history w u) (subst (λ y. IsPartOf y (history w u) c) (sym (same ∙ found)) (held_part b w c u legal h)))
 
 -- the headline: what was answered and left is what any other world that looks the same to the caller would give
 own_units : (w v : World) (c : Call) (u : Name) → w.admin ≡ v.admin → view c.moment c.person w ≡ view c.moment c.person v → IsOwnUnit v c u
@@ -173,7 +173,7 @@ own_units : (w v : World) (c : Call) (u : Name) → w.admin ≡ v.admin → view
 own_units w v c u admin e (inl before) = own_units_after w v c u (view_alike c.moment c.person w v admin e) before
 own_units w v c u admin e (inr held) =
     same_unit c.moment c.person (next w c)
-        (next v c) u (same_seen (next w c) (next v c) c.moment c.person (ap (λ x. x.0) (equal_views w v c admin e).1) u) held
+    (next v c) u (same_seen (next w c) (next v c) c.moment c.person (ap (λ x. x.0) (equal_views w v c admin e).1) u) held
 
 pub isolated : (w v : World) (c : Call) (a : Said) (left : Content → Type 0) → IsServed w c a left → w.admin ≡ v.admin
     → view c.moment c.person w ≡ view c.moment c.person v → IsIsolated v c a left
@@ -214,7 +214,7 @@ known_call b w c u reply cs left h read v =
 units_in_part : (c : Call) (rows : UnitRows) → rows.units ≡ (part_of c rows).rows.units
 units_in_part c rows =
     elim (holds_by rows.grants c.moment c.person) as (λ b. rows.units
-        ≡ (if b then part_of_holder c rows else part_of_stranger c rows).rows.units) [ true ↦ refl | false ↦ refl ]
+    ≡ (if b then part_of_holder c rows else part_of_stranger c rows).rows.units) [ true ↦ refl | false ↦ refl ]
 
 units_in_some_part : (c : Call) (o : Option UnitRows) → IfSome (option_map (part_of c) o) (λ p. (unwrap_or o no_rows).units ≡ p.rows.units)
 units_in_some_part c None = tt
@@ -226,7 +226,7 @@ pub same_changes : (b : Content) (c : Call) (u : Name) (part : Option UnitPart) 
     → after_changes b u left ≡ after_changes b u cs
 same_changes b c u part cs left found same =
     ap (with_rows b u)
-        (same (rows_in b u) (subst (λ o. IfSome o (λ p. (rows_in b u).units ≡ p.rows.units)) (sym found) (units_in_some_part c (get b.units u))))
+    (same (rows_in b u) (subst (λ o. IfSome o (λ p. (rows_in b u).units ≡ p.rows.units)) (sym found) (units_in_some_part c (get b.units u))))
 
 -- the changes of an accepted opening put the unit's own row
 pub known_opening : (b : Content) (w : World) (c : Call) (u : Name) (reply : Reply) (cs : List RowEdit)
@@ -242,7 +242,7 @@ filter_map-mapped : {A B C : Type 0} (f : B → C) (s : A → Option B) (xs : Li
 filter_map-mapped f s [] = refl
 filter_map-mapped f s (x ∷ xs) =
     elim (s x) as (λ o. cons_option (option_map f o) (filter_map (λ x. option_map f (s x)) xs)
-        ≡ map f (cons_option o (filter_map s xs))) [ None ↦ filter_map-mapped f s xs | Some y ↦ ap (λ ys. f y ∷ ys) (filter_map-mapped f s xs) ]
+    ≡ map f (cons_option o (filter_map s xs))) [ None ↦ filter_map-mapped f s xs | Some y ↦ ap (λ ys. f y ∷ ys) (filter_map-mapped f s xs) ]
 
 -- a unit of the person, as the history tells it
 abbrev mine_of : ℕ → Name → Name × List Call → MineUnit
@@ -279,7 +279,7 @@ last_told : (t : ℕ) (p : Name) (us : List (Name × List Call)) (units : List M
     → last ≡ fold max t (map (λ (u : MineUnit). u.last) units) → last ≡ max t (greatest_last us)
 last_told t p us units last is e =
     e ∙ ap (λ xs. fold max t (map (λ (u : MineUnit). u.last) xs)) is ∙ ap (fold max t) (map-map (λ (u : MineUnit). u.last) (mine_of t p) us)
-        ∙ latest_of t (map (λ e. last_moment e.1) us)
+    ∙ latest_of t (map (λ e. last_moment e.1) us)
 
 answered_of_units : (b : Content) (w : World) (c : Call) (a : Said) → Holds b w → unit_named c.request ≡ None
     → a ≡ answer_of_units (units_held w c.moment c.person) c → IsAnswered w c a (λ m. m ≡ b)
@@ -292,24 +292,24 @@ units_behind us c last e lt =
     let is : last ≡ greatest_last us = omega (arith, e, lt) in
     let less : c.moment < greatest_last us = omega (arith, e, lt) in
     ap (λ x. Err (MomentBehind x)) is
-        ∙ sym (ap (λ b. if b then
-        Err (MomentBehind (greatest_last us)) else Ok (reply_of_units us c c.request)) (lt_true c.moment (greatest_last us) less))
+    ∙ sym (ap (λ b. if b then
+    Err (MomentBehind (greatest_last us)) else Ok (reply_of_units us c c.request)) (lt_true c.moment (greatest_last us) less))
 
 units_told : (us : List (Name × List Call)) (c : Call) (last : ℕ) (reply : Reply) → last ≡ max c.moment (greatest_last us)
     → reply ≡ reply_of_units us c c.request → last ≤ c.moment → Ok reply ≡ answer_of_units us c
 units_told us c last reply e is le =
     let least : greatest_last us ≤ c.moment = omega (arith, e, le) in
     ap (λ x. Ok x) is
-        ∙ sym (ap (λ b. if b then
-        Err (MomentBehind (greatest_last us)) else Ok (reply_of_units us c c.request)) (lt_false c.moment (greatest_last us) least))
+    ∙ sym (ap (λ b. if b then
+    Err (MomentBehind (greatest_last us)) else Ok (reply_of_units us c c.request)) (lt_false c.moment (greatest_last us) least))
 
 pub behind_units : (b : Content) (w : World) (c : Call) (units : List MineUnit) (last : ℕ) → Holds b w → unit_named c.request ≡ None
     → units ≡ mine_units b c.moment c.person → last ≡ fold max c.moment (map (λ (u : MineUnit). u.last) units) → c.moment < last
     → IsAnswered w c (Err (MomentBehind last)) (λ m. m ≡ b)
 behind_units b w c units last h named is e lt =
     answered_of_units b w c _ h named
-        (units_behind (units_held w c.moment c.person) c last (last_told c.moment c.person (units_held w c.moment c.person) units last (is
-        ∙ mine_told b w c.moment c.person h) e) lt)
+    (units_behind (units_held w c.moment c.person) c last (last_told c.moment c.person (units_held w c.moment c.person) units last (is
+    ∙ mine_told b w c.moment c.person h) e) lt)
 
 pub told_units : (b : Content) (w : World) (c : Call) (units : List MineUnit) (last : ℕ) (lines : List UnitLine) → Holds b w → c.request ≡ MyUnits
     → units ≡ mine_units b c.moment c.person → last ≡ fold max c.moment (map (λ (u : MineUnit). u.last) units) → lines ≡ map line_of_mine units
@@ -319,11 +319,11 @@ told_units b w c units last lines h asked is e l le =
     let honest = is ∙ mine_told b w c.moment c.person h in
     let same : lines ≡ unit_lines c.moment c.person us = l ∙ ap (map line_of_mine) honest ∙ map-map line_of_mine (mine_of c.moment c.person) us in
     answered_of_units b w c _ h (ap unit_named asked)
-        (units_told us c last (Units lines) (last_told c.moment c.person us units last honest e) (ap (λ x. Units x) same
-        ∙ ap (reply_of_units us c) (sym asked)) le)
+    (units_told us c last (Units lines) (last_told c.moment c.person us units last honest e) (ap (λ x. Units x) same
+    ∙ ap (reply_of_units us c) (sym asked)) le)
 
 -- The shelves of a person
-returned_in : (h : List Call) (a : Name) → last_return (alarm_rows h) a ≡ returned (facts h) a
+returned_in : (h : List Call) (a : Name) → last_return_in (alarm_rows h) a ≡ returned (facts h) a
 returned_in h a = ap (option_and_then (λ (r : AlarmRow). r.return_s)) (alarm_in h a)
 
 -- the shelves of a unit that is seen
@@ -346,9 +346,12 @@ flat_map-seen : {A : Type 0} (s : A → Option (Name × List Call)) (xs : List A
 flat_map-seen s [] = refl
 flat_map-seen s (x ∷ xs) =
     elim (s x) as (λ o. seen_shelves o
-        ++ flat_map (λ x. seen_shelves (s x)) xs
-        ≡ flat_map shelves_of (cons_option o (filter_map s xs))) [ None ↦ flat_map-seen s xs | Some e ↦ ap (λ ys. shelves_of e ++ ys)
-        (flat_map-seen s xs) ]
+    ++ flat_map (λ x. seen_shelves (s x)) xs
+    ≡ flat_map shelves_of (cons_option o (filter_map s xs))) [
+      | None ↦ flat_map-seen s xs
+      | Some e ↦ ap (λ ys. shelves_of e ++ ys)
+          (flat_map-seen s xs)
+    ]
 
 shelves_told : (b : Content) (w : World) (t : ℕ) (p : Name) → Holds b w → mine_shelves b t p ≡ flat_map shelves_of (units_held w t p)
 shelves_told b w t p h =
@@ -377,10 +380,10 @@ pub told_shelves : (b : Content) (w : World) (c : Call) (units : List MineUnit) 
 told_shelves b w c units last shelves lines person h asked is e found l le copied =
     let us = units_held w c.moment c.person in
     let same : lines ≡ mine_lines c.moment us = l ∙ ap (filter_map (line_of_shelf c.moment)) (found ∙ shelves_told b w c.moment c.person h)
-        ∙ all_shelf_lines c.moment us in
+    ∙ all_shelf_lines c.moment us in
     answered_of_units b w c _ h (ap unit_named asked)
-        (units_told us c last (Mine person c.moment lines) (last_told c.moment c.person us units last (is
-        ∙ mine_told b w c.moment c.person h) e) ((λ i. Mine (copied i) c.moment (same i)) ∙ ap (reply_of_units us c) (sym asked)) le)
+    (units_told us c last (Mine person c.moment lines) (last_told c.moment c.person us units last (is
+    ∙ mine_told b w c.moment c.person h) e) ((λ i. Mine (copied i) c.moment (same i)) ∙ ap (reply_of_units us c) (sym asked)) le)
 
 -- the content after the changes of a call that is accepted holds the world after it
 pub holds_meant : (b : Content) (w : World) (c : Call) (u : Name) (reply : Reply) (cs left : List RowEdit) → IsLegalWorld w → Holds b w
@@ -388,7 +391,7 @@ pub holds_meant : (b : Content) (w : World) (c : Call) (u : Name) (reply : Reply
     → IsVerdictOn (history w u) c (IsAccepted reply cs) → after_changes b u left ≡ after_changes b u cs → Holds (after_changes b u left) (next w c)
 holds_meant b w c u reply cs left legal h matrix named plain changes v same =
     let s = leaves w c (Ok reply) (after_changes b u cs)
-        (λ m. m ≡ after_changes b u cs) legal matrix (changing_call b w c u reply cs h named plain changes v) refl in
+    (λ m. m ≡ after_changes b u cs) legal matrix (changing_call b w c u reply cs h named plain changes v) refl in
     subst (λ (m : Content). Holds m (next w c)) (s.left_it ∙ sym same) s.holds
 
 pub holds_opened : (b : Content) (w : World) (c : Call) (u : Name) (reply : Reply) (cs : List RowEdit) → IsLegalWorld w → Holds b w
@@ -396,7 +399,7 @@ pub holds_opened : (b : Content) (w : World) (c : Call) (u : Name) (reply : Repl
     → IsOpening (by_admin w c) (is_taken w u) c (IsAccepted reply cs) → Holds (after_changes b u cs) (next w c)
 holds_opened b w c u reply cs legal h matrix named opens v =
     let s = leaves w c (Ok reply) (after_changes b u cs)
-        (λ m. m ≡ after_changes b u cs) legal matrix (accepted_opening b w c u reply cs h named opens v) refl in
+    (λ m. m ≡ after_changes b u cs) legal matrix (accepted_opening b w c u reply cs h named opens v) refl in
     subst (λ (m : Content). Holds m (next w c)) s.left_it s.holds
 
 -- ---- what a crash leaves of a call
@@ -462,14 +465,17 @@ module _ {B : Type 0} (books : Ghosts B) (c : Call) (u : Name) (cs : List RowEdi
     | inl was ↦ inl (it.read.fewer (it.writes.clean tidy) x was)
     | inr new ↦
         let m = of.content in
-        inr (holds_alike x (after_changes m u cs) (next w c) (new.1 m (it.same m of.held) (it.known m of.held w of.legal of.holds new.0))
-            (it.meant m of.held w of.legal of.holds new.0), it.legal w of.legal)
+        inr (
+          holds_alike x (after_changes m u cs) (next w c) (new.1 m (it.same m of.held) (it.known m of.held w of.legal of.holds new.0))
+              (it.meant m of.held w of.legal of.holds new.0),
+          it.legal w of.legal,
+        )
   ]
 
   made_sound : books.is_clean after → (w : World) → HoldsWorld w (books_state books before) → books.leaves_books before → books.leaves_books after
   made_sound tidy w of s =
       it.writes.sound tidy of.content (it.same of.content of.held) (λ honest. it.known of.content of.held w of.legal of.holds honest)
-          (it.read.sound (it.writes.clean tidy) s)
+      (it.read.sound (it.writes.clean tidy) s)
 
   -- a call that was made
   pub endures_made : (reply : Reply) → is_read c.request ≡ false → (books.is_clean after → books.is_honest after)
@@ -508,8 +514,14 @@ pub serves_same : {B : Type 0} {books : Ghosts B} {c : Call} {a : Said} {before 
     → ((m : Content) → books.represents before m → books.represents after m) → books.stores after ≡ books.stores before
     → IsUnmade c (answer_as (Ok a)) → Loses books before after → Serves books c (Ok a) before after
 serves_same {B} {books} {c} {a} {before} {after} served honest same count none crash =
-    record { served = served; honest = honest; unchanged = λ m k _. same m k; fault = λ _ _. tt; count = count;
-        endures = endures_unmade books c (answer_as (Ok a)) before after none same crash }
+    record {
+      served = served;
+      honest = honest;
+      unchanged = λ m k _. same m k;
+      fault = λ _ _. tt;
+      count = count;
+      endures = endures_unmade books c (answer_as (Ok a)) before after none same crash;
+    }
 
 -- a call whose reply changed the books
 pub serves_changing : {B : Type 0} {books : Ghosts B} {c : Call} {reply : Reply} {before after : B}

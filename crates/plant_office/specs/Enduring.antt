@@ -23,8 +23,13 @@ pub record BooksState : Type 1 where
 -- that of a keeper's books
 abbrev pub books_state : {B : Type 0} → Ghosts B → B → BooksState
 books_state g b =
-    record { held = g.represents b; honest = g.is_honest b; clean = g.is_clean b; leaves = g.may_leave b;
-    sound = g.leaves_books b }
+    record {
+      held = g.represents b;
+      honest = g.is_honest b;
+      clean = g.is_clean b;
+      leaves = g.may_leave b;
+      sound = g.leaves_books b;
+    }
 
 -- by this answer the caller knows that the call changed nothing: a reply to a read, or a refusal
 abbrev pub IsUnmade : Call → Answer → Type 0

@@ -59,7 +59,7 @@ severities rows h i j less more p q =
     let one = row_at rows i j less p in
     let two = row_at rows (suc i) j more q in
     leb-true _ _
-        (beside_at one.row two.row j less more (neighbours_at is_no_lower_row rows i one.row two.row h one.row_is two.row_is) one.cell_is two.cell_is)
+    (beside_at one.row two.row j less more (neighbours_at is_no_lower_row rows i one.row two.row h one.row_is two.row_is) one.cell_is two.cell_is)
 
 -- no cell is lower than its neighbours allow
 pub ordered : (limits : List ℕ) (rows : List (List Cell)) → is_matrix limits rows ≡ true → IsOrdered rows
@@ -82,7 +82,7 @@ rising (x ∷ y ∷ rest) h (suc k) lt = grind (arith, rising (y ∷ rest))
 pub limits_rise : (limits : List ℕ) (rows : List (List Cell)) → is_matrix limits rows ≡ true → IsStrictlyIncreasing limits
 limits_rise limits rows h k lt =
     let test : is_rising limits ≡ true =
-        right (has_shape limits rows) (is_rising limits) (left (has_shape limits rows && is_rising limits) (is_ordered rows) h) in
+    right (has_shape limits rows) (is_rising limits) (left (has_shape limits rows && is_rising limits) (is_ordered rows) h) in
     rw (add-one k) (rising limits test k (omega arith))
 
 -- each row has a cell for each band
@@ -103,7 +103,7 @@ cell_in_row : (t : Grid) (row : Option (List Cell)) (k response : ℕ) → is_ma
 cell_in_row t None k response h e = refl
 cell_in_row t (Some r) k response h e =
     let wide : length r ≡ length t.limits + 1 =
-        eqb-true (length r) (length t.limits + 1) (all_at (λ x. length x == length t.limits + 1) t.cells k r (wide_rows t.limits t.cells h) e) in
+    eqb-true (length r) (length t.limits + 1) (all_at (λ x. length x == length t.limits + 1) t.cells k r (wide_rows t.limits t.cells h) e) in
     there r (band t.limits response) (rw wide (band_within t.limits response))
 
 row_there : (rows : List (List Cell)) (k : ℕ) → is_some (slice_get rows k) ≡ nat_lt k (length rows)
@@ -115,8 +115,14 @@ row_test t severity one = grind (arith, nat_tests)
 priority_there : (t : Grid) (severity response : ℕ) → is_matrix t.limits t.cells ≡ true
     → is_some (priority_of t severity response) ≡ is_row t severity
 priority_there t severity response h =
-    grind (arith, nat_tests, cell_in_row t (slice_get t.cells (severity - 1)) (severity - 1) response h refl, row_there t.cells
-        (severity - 1), row_test t severity)
+    grind (
+      arith,
+      nat_tests,
+      cell_in_row t (slice_get t.cells (severity - 1)) (severity - 1) response h refl,
+      row_there t.cells
+          (severity - 1),
+      row_test t severity,
+    )
 
 pub only_rows : (t : Grid) (severity response : ℕ) (cell : Option Cell) → is_matrix t.limits t.cells ≡ true → cell ≡ priority_of t severity response
     → (is_some cell ≡ true → is_row t severity ≡ true) × (is_row t severity ≡ true → is_some cell ≡ true)

@@ -22,7 +22,7 @@ pub neighbours_all : {A : Type 0} (ok : A → A → Bool) (xs : List A) (i : ℕ
     → ((k : ℕ) (d : A) → k + 1 < i → k + 1 < length xs → ok (get_or xs k d) (get_or xs (k + 1) d) ≡ true) → neighbours ok xs ≡ true
 neighbours_all ok xs i le h =
     all_by ok xs (λ k d lt. let e : k + 1 ≡ suc k = omega arith in
-        subst (λ (n : ℕ). ok (get_or xs k d) (get_or xs n d) ≡ true) e (h k d (omega arith) (omega arith)))
+    subst (λ (n : ℕ). ok (get_or xs k d) (get_or xs n d) ≡ true) e (h k d (omega arith) (omega arith)))
 
 pub neighbours_not : {A : Type 0} (ok : A → A → Bool) (xs : List A) (i : ℕ) → 1 ≤ i → i < length xs
     → ((d : A) → ok (get_or xs (i - 1) d) (get_or xs i d) ≡ false) → neighbours ok xs ≡ false
@@ -60,11 +60,11 @@ pub shape_is : (limits : List ℕ) (cells : List (Vec Cell Global)) (a b c : Boo
     → ((a && b) && c) ≡ has_shape limits (rows cells)
 shape_is limits cells a b c p q r =
     both (both (p ∙ ap (λ n. nat_le 1 n && nat_le n 5 && nat_le (length limits) 4) (sym (length-rows cells))) (q
-        ∙ sym (list_all-map (λ row. eqb (length row) (length limits + 1)) (λ row. row.items) cells))) r
+    ∙ sym (list_all-map (λ row. eqb (length row) (length limits + 1)) (λ row. row.items) cells))) r
 
 pub not_above : (a b x y : Vec Cell Global) (xs ys : List Cell) → a ≡ x → b ≡ y → xs ≡ a.items → ys ≡ b.items → false ≡ is_no_lower_row xs ys
     → is_no_lower_row x.items y.items ≡ false
 not_above a b x y xs ys p q r s t =
     subst (λ (v : Vec Cell Global). is_no_lower_row x.items v.items
-        ≡ false) q (subst (λ (v : Vec Cell Global). is_no_lower_row v.items b.items ≡ false) p
+    ≡ false) q (subst (λ (v : Vec Cell Global). is_no_lower_row v.items b.items ≡ false) p
     (subst (λ (l : List Cell). is_no_lower_row a.items l ≡ false) s (subst (λ (l : List Cell). is_no_lower_row l ys ≡ false) r (sym t))))

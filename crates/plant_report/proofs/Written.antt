@@ -25,7 +25,7 @@ moment_of-moment_text n lt =
     let of_year = years (pos date.year) date.month date.day is.civil (omega (arith, is.count)) (omega (arith, is.count)) in
     let high : date.year ≤ 2099 = omega (arith, ints, of_year.is, of_year.high) in
     written n date.year date.month date.day (moment_text n) (is_date_true date.year date.month date.day is.low high is.civil)
-        (omega (arith, is.count, day_count-2000)) (clock_is date.year date.month date.day n)
+    (omega (arith, is.count, day_count-2000)) (clock_is date.year date.month date.day n)
 
 day_is_early : (y m d : ℕ) → is_date y m d ≡ true → days_since_2000 y m d < 36525
 day_is_early y m d e =
@@ -35,9 +35,15 @@ day_is_early y m d e =
     let e₄ = left _ _ e₃ in
     let low : 2000 ≤ y = leb-true 2000 y (left _ _ e₄) in
     let high : y ≤ 2099 = leb-true y 2099 (right _ _ e₄) in
-    let civil : IsCivilDate (pos y) m d =
-        ((omega (arith, ints), omega (arith, ints)), (leb-true 1 m (right _ _ e₃), leb-true m 12 (right _ _ e₂)), (leb-true 1 d
-        (right _ _ e₁), leb-true d (days_in_month (pos y) m) (right _ _ e))) in
+    let civil : IsCivilDate (pos y) m d = (
+      (omega (arith, ints), omega (arith, ints)),
+      (leb-true 1 m (right _ _ e₃), leb-true m 12 (right _ _ e₂)),
+      (
+        leb-true 1 d
+            (right _ _ e₁),
+        leb-true d (days_in_month (pos y) m) (right _ _ e),
+      ),
+    ) in
     omega (arith, until-2100 y m d high civil, day_count-2000)
 
 time_is_short : (h m s : ℕ) → is_time h m s ≡ true → 3600 * h + 60 * m + s < 86400

@@ -13,14 +13,14 @@ abbrev pub heading : List ℕ → Name → ℕ → ℕ → List ℕ
 heading what whose at count = line (what ∷ whose ∷ codes "AT" ∷ moment_text at ∷ codes "COUNT" ∷ decimal count ∷ [])
 
 -- the kind of a shelf
-abbrev pub kind_of : Bool → List ℕ
-kind_of one_shot = if one_shot then codes "one-shot" else codes "timed"
+abbrev pub shelf_kind : Bool → List ℕ
+shelf_kind one_shot = if one_shot then codes "one-shot" else codes "timed"
 
 -- a shelf: its alarm, its kind, its start, the seconds that are left, who shelved, and why
 abbrev pub shelf_columns : ShelfLine → List (List ℕ)
 shelf_columns l =
     left 24 l.tag
-    ∷ left 8 (kind_of l.one_shot)
+    ∷ left 8 (shelf_kind l.one_shot)
     ∷ moment_text l.start
     ∷ right 6 (decimal l.left)
     ∷ left 32 l.person
@@ -63,12 +63,12 @@ abbrev pub priority_name : Option Cell → List ℕ
 priority_name None = codes "-"
 priority_name (Some cell) = cell_name cell
 
-abbrev pub flag : Bool → ℕ → ℕ
-flag holds mark = if holds then mark else 45
+abbrev pub mark_if : Bool → ℕ → ℕ
+mark_if holds mark = if holds then mark else 45
 
 -- S shelved, D suppressed by design, O out of service, each a hyphen where it doesn't hold
 abbrev pub flags : Bool → Bool → Bool → List ℕ
-flags shelved by_design out_of_service = flag shelved 83 ∷ flag by_design 68 ∷ flag out_of_service 79 ∷ []
+flags shelved by_design out_of_service = mark_if shelved 83 ∷ mark_if by_design 68 ∷ mark_if out_of_service 79 ∷ []
 
 -- an active alarm: its state, its priority, since when it is active, and its suppression
 abbrev pub standing_columns : StandingLine → List (List ℕ)
@@ -107,7 +107,7 @@ flood_columns l = moment_text l.start ∷ moment_text l.until ∷ right 6 (decim
 abbrev pub flood_heading : Name → ℕ → ℕ → ℕ → List ℕ
 flood_heading unit begin until count =
     line (codes "FLOODS" ∷ unit ∷ codes "FROM" ∷ moment_text begin ∷ codes "TO" ∷ moment_text until ∷ codes "COUNT"
-        ∷ decimal count ∷ [])
+    ∷ decimal count ∷ [])
 
 -- the floods of a unit in a range of time
 unfoldable pub flood_text : Name → ℕ → ℕ → List FloodLine → List ℕ

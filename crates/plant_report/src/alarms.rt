@@ -127,7 +127,7 @@ fn flags(shelved: bool, by_design: bool, out_of_service: bool) -> [u8; 3]
 }
 
 fn flag(holds: bool, mark: u8) -> u8
-    ensures { result ≡ texts.flag holds mark }
+    ensures { result ≡ texts.mark_if holds mark }
 {
     if holds { mark } else { b'-' }
 }

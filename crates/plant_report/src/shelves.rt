@@ -71,7 +71,7 @@ fn push_shelf(text: &mut Vec<u8>, line: &ShelfLine) -> Result<(), Fault>
 }
 
 fn kind_of(one_shot: bool) -> &'static [u8]
-    ensures { result.now ≡ texts.kind_of one_shot }
+    ensures { result.now ≡ texts.shelf_kind one_shot }
 {
     if one_shot { b"one-shot" } else { b"timed" }
 }

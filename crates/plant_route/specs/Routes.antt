@@ -104,5 +104,5 @@ abbrev pub route_of : List ℕ → List ℕ → Option CallKind
 route_of method target =
     if is_path target
     then (if bytes_eq method (codes "POST") then
-        route_in post_rows target else (if bytes_eq method (codes "GET") then route_in get_rows target else None))
+    route_in post_rows target else (if bytes_eq method (codes "GET") then route_in get_rows target else None))
     else None

@@ -32,8 +32,14 @@ ran_below before after before_below after_below count counted_to count_below cou
     record {
       run = λ m h w legal rows told.
           let run = is.run m (down.held m h) w legal rows (honest told) in
-          record { answered = run.answered; isolated = run.isolated; after = run.after; left_it = up.held run.after run.left_it; holds = run.holds;
-              legal = run.legal };
+          record {
+            answered = run.answered;
+            isolated = run.isolated;
+            after = run.after;
+            left_it = up.held run.after run.left_it;
+            holds = run.holds;
+            legal = run.legal;
+          };
       counted =
           λ room. subst (λ n. counted_below
           ≡ n + stores_in answers) first (subst (λ n. n ≡ count + stores_in answers) (sym last)

@@ -18,8 +18,16 @@ module _ (ran also : List Call → List Answer → Type 0)
 
   abbrev partial : {bytes : List ℕ} → ServesPart bytes o o' ran → ServesPart bytes o o' also
   partial s =
-      record { marks = s.marks; rest = s.rest; last = s.last; part = s.part; parses = s.parses; stands = s.stands; writes = s.writes;
-      served = follows _ _ s.served }
+      record {
+        marks = s.marks;
+        rest = s.rest;
+        last = s.last;
+        part = s.part;
+        parses = s.parses;
+        stands = s.stands;
+        writes = s.writes;
+        served = follows _ _ s.served;
+      }
 
   cut : {bytes : List ℕ} {r' : Option (List ℕ)} {ended : Bool} → IsCutShort bytes r' ended o o' ran → IsCutShort bytes r' ended o o' also
   cut s = record { seen = s.seen; nothing_left = s.nothing_left; rest = s.rest; some = s.some; waiting = s.waiting; serves = whole s.serves }

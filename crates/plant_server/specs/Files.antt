@@ -33,10 +33,10 @@ pub record HoldsStill (s : State) (db : Database) : Type 0 where
   pub left : HasCleanDisk s → (trees : Trees) → s.may_leave trees → trees ≡ db.trees
 
 -- a file that is not a database is not this store; every other error is a fault, of memory or of the store
-abbrev pub fault_of : Error → StoreFault
-fault_of (SqliteFailure NotADatabase) = store_fault.NotThisStore
-fault_of (SqliteFailure OutOfMemory) = store_fault.Fault Memory
-fault_of _ = store_fault.Fault Store
+abbrev pub fault_by_error : Error → StoreFault
+fault_by_error (SqliteFailure NotADatabase) = store_fault.NotThisStore
+fault_by_error (SqliteFailure OutOfMemory) = store_fault.Fault Memory
+fault_by_error _ = store_fault.Fault Store
 
 -- what an error of the store at its closing is reported as
 abbrev pub closing_fault_of : StoreError → StoreFault

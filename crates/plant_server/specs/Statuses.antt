@@ -27,12 +27,12 @@ code statuses.NoMemory = 7
 code statuses.NetFailed = 8
 
 -- how a session ended: done where all was answered
-abbrev pub status_of : End → ExitStatus
-status_of Closed = statuses.Done
-status_of BrokenInput = statuses.BrokenInput
-status_of ReadFailed = statuses.ReadFailed
-status_of WriteFailed = statuses.WriteFailed
-status_of Fault = statuses.NoMemory
+abbrev pub exit_status_of : End → ExitStatus
+exit_status_of Closed = statuses.Done
+exit_status_of BrokenInput = statuses.BrokenInput
+exit_status_of ReadFailed = statuses.ReadFailed
+exit_status_of WriteFailed = statuses.WriteFailed
+exit_status_of Fault = statuses.NoMemory
 
 -- why the words can't be followed: done where they ask for help
 abbrev pub status_of_line : LineError → ExitStatus
@@ -71,7 +71,7 @@ Bytes = Option (List ℕ)
 abbrev pub IsStreamed : Bytes → Bytes → Bytes → Bytes → OfCalls → ExitStatus → Type 0
 IsStreamed unread unread_after written written_after ran n =
     (end : End) × (ended : Bool) × IsSession unread unread_after ended written written_after ran end
-    × (n ≡ status_of end)
+    × (n ≡ exit_status_of end)
 
 -- whatever the office did
 abbrev pub Whatever : List Call → List Answer → Type 0

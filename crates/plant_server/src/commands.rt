@@ -42,7 +42,7 @@ use std::time::Duration;
 
 /// The status for the end of a session.
 fn status_of(end: End) -> ExitStatus
-    ensures { result ≡ statuses.status_of end }
+    ensures { result ≡ statuses.exit_status_of end }
 {
     match end {
         End::Closed => ExitStatus::Done,
@@ -55,7 +55,7 @@ fn status_of(end: End) -> ExitStatus
 
 /// Says how the session ended, and gives the status.
 fn report_end(errors: &mut impl Write, end: End) -> ExitStatus
-    ensures { result ≡ statuses.status_of end }
+    ensures { result ≡ statuses.exit_status_of end }
 {
     say(errors, b"end: ");
     say(errors, end_name(end));

@@ -31,7 +31,7 @@ const MEMORY: StoreFault = StoreFault::Fault(Fault::Memory);
 
 /// What an error of the engine is reported as.
 fn fault_of(error: &Error) -> StoreFault
-    ensures { result ≡ files.fault_of error.now }
+    ensures { result ≡ files.fault_by_error error.now }
 {
     match error {
         Error::SqliteFailure(ErrorCode::NotADatabase) => StoreFault::NotThisStore,
@@ -58,7 +58,7 @@ pub fn connect<S: Start>(
     ensures sums { IfOk result (λ conn. HasCleanDisk (file_state conn)
         → IsBlankAs true (image_at S.Start) → (view conn.store).has_sums ≡ true) }
     ensures refused { IfErr result (λ e. (error : EngineError)
-        × IsTrue (is_open_error error) × (e.0 ≡ files.fault_of error)) }
+        × IsTrue (is_open_error error) × (e.0 ≡ files.fault_by_error error)) }
     ensures left { IfErr result (λ e. IfSome e.1 (λ left. (opened : _)
         × IsFresh true opened.log × IsFresh false opened.db
         × (IsCleanLeft left → LeavesFiles opened left))) }

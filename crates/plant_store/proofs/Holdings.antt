@@ -72,8 +72,8 @@ module _ (m : Content) (t : ℕ) (p : Name) where
   unfolding is_held
   codes_are codes rise those =
       btree_set_from_contains name_total (record { keys = codes })
-          (record { keys = filter is_held (keys m.units) }) rise
-          (IsStrictlySortedBy-filter name_cmp is_held (keys m.units) (rising (entries m.units) (entries_sorted m.units)))
+      (record { keys = filter is_held (keys m.units) }) rise
+      (IsStrictlySortedBy-filter name_cmp is_held (keys m.units) (rising (entries m.units) (entries_sorted m.units)))
       (λ q. those q ∙ opened (get m.units q) ∙ ap (λ b. is_held q && b) (contains_key-keys m.units q)
       ∙ sym (any-filter_same (same_name q) is_held (is_held q) (λ u same. ap is_held (sym (same_codes q u same))) (keys m.units))) same_names
       ∙ filter-when is_held (keys m.units)
@@ -133,6 +133,6 @@ own_roles t p (g ∷ gs) =
     elim (same_name p g.person) as (λ b. filter (λ g. is_before t g.end_s) (cond b (g
     ∷ filter (λ g. same_name p g.person) gs) (filter (λ g. same_name p g.person) gs))
     ≡ cond (if b then is_before t g.end_s else false) (g ∷ filter (is_held_by t p) gs) (filter (is_held_by t p) gs)) [
-  | true ↦ ap (λ l. cond (is_before t g.end_s) (g ∷ l) l) (own_roles t p gs)
-  | false ↦ own_roles t p gs
-]
+      | true ↦ ap (λ l. cond (is_before t g.end_s) (g ∷ l) l) (own_roles t p gs)
+      | false ↦ own_roles t p gs
+    ]

@@ -13,7 +13,7 @@ use Rattle.sqlite_value.specs.{Order.{Row, bytes, column, value_cmp}, declared.{
 use Rattle.sqlite_value.proofs.OrderLemmas.{value_cmp_total, value_cmp-Text}
 use Rattle.plant_books.specs.Contents.{Content, rows_in}
 use Rattle.plant_columns.specs.{Codes.{flag_in, open_number_in, number_in, role_in}, Kept.{by_columns, is_of, plain_query}, Shape.{IsRowIn, row_in}, Shown.{columns}}
-use Rattle.plant_columns.specs.{Tables.{RowOf, books_schema, grant_shape, rows_at, rows_seen, shape, shelf_shape}, declared.tables.TableKind.{TableKind, TheVariants.{Grants, Shelves, Units}}}
+use Rattle.plant_columns.specs.{Tables.{RowOf, books_schema, grant_shape, rows_of_table, rows_seen, shape, shelf_shape}, declared.tables.TableKind.{TableKind, TheVariants.{Grants, Shelves, Units}}}
 use Rattle.plant_columns.proofs.public.{Keys.{by_columns_total, same_text}, Kept.{all-sort, sort-filter, strict-sort}, ShapeLaws.{flag_back, good, open_number_back, role_back}}
 use Rattle.plant_columns.proofs.public.Shapes.{named, shown_kept}
 use Rattle.plant_model.specs.{RowChanges.{no_rows}, declared.rows.{GrantRow.{GrantRow}, UnitRows.{UnitRows}}}
@@ -72,9 +72,11 @@ any_sorted f cmp (x ∷ xs) r h = any_inserted f cmp x (sort_by cmp xs)
 names_rise : (ks : List Name) → IsStrictlySortedBy name_cmp ks → IsAscending (λ a b. value_cmp a b ≡ Less) (map Text ks)
 unfolding IsStrictlySortedBy
 names_rise [] up = tt
-names_rise (k ∷ ks) up =
-    (all_map (λ v. value_cmp (Text k) v
-    ≡ Less) Text ks (all_weaker _ (λ b. value_cmp (Text k) (Text b) ≡ Less) (λ b less. value_cmp-Text k b ∙ less) ks up.0), names_rise ks up.1)
+names_rise (k ∷ ks) up = (
+  all_map (λ v. value_cmp (Text k) v
+      ≡ Less) Text ks (all_weaker _ (λ b. value_cmp (Text k) (Text b) ≡ Less) (λ b less. value_cmp-Text k b ∙ less) ks up.0),
+  names_rise ks up.1,
+)
 
 among_names : (q : Name) (ks : List Name) → list_any (λ u. is_eq (value_cmp (Text q) u)) (map Text ks) ≡ list_any (same_name q) ks
 among_names q [] = refl
@@ -103,9 +105,9 @@ module _ (s : State) (m : Content) (k : HasContent s m) where
       let name : column r 1 ≡ Text q = named grant_shape (good Grants) r wf in
       let own : is_of q r ≡ true = ap (λ v. is_eq (value_cmp v (Text q))) name ∙ ap is_eq (tied_itself value_cmp_total (Text q)) in
       let any : has_any (rows_seen q s.now.trees Grants) ≡ true =
-          any_sorted grant_shape.read by_grant (filter (is_of q) (s.now.trees 3)) r (has_kept (is_of q) (s.now.trees 3) r h own) in
+      any_sorted grant_shape.read by_grant (filter (is_of q) (s.now.trees 3)) r (has_kept (is_of q) (s.now.trees 3) r h own) in
       ap (λ v. list_any (λ u. is_eq (value_cmp v u)) (map Text (keys m.units))) name ∙ among_names q (keys m.units)
-          ∙ sym (contains_key-keys m.units q) ∙ opened q any
+      ∙ sym (contains_key-keys m.units q) ∙ opened q any
 
   unit_by_unit : sort_by (by_columns (1 ∷ 2 ∷ 3 ∷ []))
       (s.now.trees 3) ≡ flat_map (λ q. filter (is_of q) (sort_by (by_columns (1 ∷ 2 ∷ 3 ∷ [])) (s.now.trees 3))) (keys m.units)
@@ -113,11 +115,11 @@ module _ (s : State) (m : Content) (k : HasContent s m) where
       let total = by_columns_total (1 ∷ 2 ∷ 3 ∷ []) in
       let test = is_known value_cmp value_cmp_total (λ (r : Row). column r 1) (map Text (keys m.units)) in
       let rise =
-          ascending_weaker (λ a b. by_grant a b ≡ Less) (λ a b. is_gt (value_cmp (column a 1) (column b 1)) ≡ false)
-          (λ a b less. not_after (value_cmp (column a 1) (column b 1)) (by_columns (2 ∷ 3 ∷ []) a b) less) sorted
+      ascending_weaker (λ a b. by_grant a b ≡ Less) (λ a b. is_gt (value_cmp (column a 1) (column b 1)) ≡ false)
+      (λ a b less. not_after (value_cmp (column a 1) (column b 1)) (by_columns (2 ∷ 3 ∷ []) a b) less) sorted
       (strict-sort by_grant total (s.now.trees 3) (k.books.tidy Grants).apart) in
       sym (filter_all test sorted (all-sort by_grant total (λ r. test r
-          ≡ true) (s.now.trees 3) (all_from (λ r. test r ≡ true) (s.now.trees 3) known)))
+      ≡ true) (s.now.trees 3) (all_from (λ r. test r ≡ true) (s.now.trees 3) known)))
       ∙ sym (blocks value_cmp value_cmp_total (λ r. column r 1) (map Text (keys m.units))
       (names_rise (keys m.units) (rising (entries m.units) (entries_sorted m.units))) sorted rise)
       ∙ flat_map-map (λ u. filter (λ r. is_eq (value_cmp (column r 1) u)) sorted) Text (keys m.units)
@@ -149,16 +151,16 @@ module _ (s : State) (m : Content) (k : HasContent s m) where
     one_grant id u g =
         let r = row_in grant_shape id u g in
         ap (map (show r))
-            (filter_same (meet r) (λ x. is_of u x && same_name p g.person) (λ x. two_tests (column x 1) (Text g.person) u p
-            ∙ ap (λ b. is_of u x && b) (named_same g.person p)) (sort_by others rest))
+        (filter_same (meet r) (λ x. is_of u x && same_name p g.person) (λ x. two_tests (column x 1) (Text g.person) u p
+        ∙ ap (λ b. is_of u x && b) (named_same g.person p)) (sort_by others rest))
         ∙ by (same_name p g.person)
       where
         by : (b : Bool)
             → map (show (row_in grant_shape id u g)) (filter (λ x. is_of u x && b) (sort_by others rest)) ≡ cond b (map (line u g) (seen u)) []
         by true =
             ap (map (show (row_in grant_shape id u g)))
-                (filter_same (λ x. is_of u x && true) (is_of u) (λ x. and_true (is_of u x)) (sort_by others rest)
-                ∙ sym (sort-filter others (by_columns_total (1 ∷ (shape i).keys)) (is_of u) rest))
+            (filter_same (λ x. is_of u x && true) (is_of u) (λ x. and_true (is_of u x)) (sort_by others rest)
+            ∙ sym (sort-filter others (by_columns_total (1 ∷ (shape i).keys)) (is_of u) rest))
             ∙ shown_kept (shape i) (good i) (show (row_in grant_shape id u g)) (line u g) (λ jd v x. shows id jd u v g x)
             (is_of u) rest (k.books.tidy i).each
         by false =
@@ -171,11 +173,11 @@ module _ (s : State) (m : Content) (k : HasContent s m) where
     one_unit u [] all own = refl
     one_unit u (r ∷ rs) all own =
         let same : bytes (column r 1) ≡ u =
-            same_text (bytes (column r 1)) u (sym (ap (λ v. is_eq (value_cmp v (Text u))) (named grant_shape (good Grants) r all.0)) ∙ own.0) in
+        same_text (bytes (column r 1)) u (sym (ap (λ v. is_eq (value_cmp v (Text u))) (named grant_shape (good Grants) r all.0)) ∙ own.0) in
         let is : r ≡ row_in grant_shape (column r 0) u (grant_shape.read r) = all.0
-            ∙ ap (λ n. row_in grant_shape (column r 0) n (grant_shape.read r)) same in
+        ∙ ap (λ n. row_in grant_shape (column r 0) n (grant_shape.read r)) same in
         ap₂ ◌++◌ (ap beside is ∙ one_grant (column r 0) u (grant_shape.read r)) (one_unit u rs all.1 own.1)
-            ∙ by (same_name p (grant_shape.read r).person)
+        ∙ by (same_name p (grant_shape.read r).person)
       where
         more : List GrantRow
         more = filter (λ g. same_name p g.person) (map grant_shape.read rs)
@@ -190,13 +192,13 @@ module _ (s : State) (m : Content) (k : HasContent s m) where
         by false = refl
 
     in_unit : (u : Name)
-        → flat_map beside (filter (is_of u) sorted) ≡ flat_map (λ g. map (line u g) (rows_at i (rows_in m u)))
+        → flat_map beside (filter (is_of u) sorted) ≡ flat_map (λ g. map (line u g) (rows_of_table i (rows_in m u)))
         (filter (λ g. same_name p g.person) (rows_in m u).grants)
     in_unit u =
         let total = by_columns_total (1 ∷ 2 ∷ 3 ∷ []) in
         one_unit u (filter (is_of u) sorted)
-            (all-filter (IsRowIn grant_shape) (is_of u) sorted
-            (all-sort by_grant total (IsRowIn grant_shape) (s.now.trees 3) (k.books.tidy Grants).each)) (passing (is_of u) sorted)
+        (all-filter (IsRowIn grant_shape) (is_of u) sorted
+        (all-sort by_grant total (IsRowIn grant_shape) (s.now.trees 3) (k.books.tidy Grants).each)) (passing (is_of u) sorted)
         ∙ ap (λ rs. flat_map (λ g. map (line u g) (seen u)) (filter (λ g. same_name p g.person) (map grant_shape.read rs)))
         (sym (sort-filter by_grant total (is_of u) (s.now.trees 3)))
         ∙ ap₂ (λ gs xs. flat_map (λ g. map (line u g) xs) (filter (λ g. same_name p g.person) gs)) (k.seen u Grants) (k.seen u i)
@@ -204,7 +206,7 @@ module _ (s : State) (m : Content) (k : HasContent s m) where
     lines_found : map back
         (flat_map
         (λ g. map (λ u. (pair_shown 3 (shape i).tree joined_tests project order grant_key (1 ∷ (shape i).keys) (Text p
-        ∷ []) g u).1) (filter (meet g) (sort_by others rest))) sorted) ≡ lines_of line (rows_at i) m p
+        ∷ []) g u).1) (filter (meet g) (sort_by others rest))) sorted) ≡ lines_of line (rows_of_table i) m p
     lines_found =
         map-flat_map back _ sorted
         ∙ flat_map_same_on _ beside
@@ -220,51 +222,85 @@ module _ (s : State) (m : Content) (k : HasContent s m) where
       record { unit = bytes (column r 0); role_no = role_in (column r 1); end_s = open_number_in (column r 2); last_s = number_in (column r 3) }
 
   pub units_read : (p : Name) (new : State) (rows : List Row) → Shown unit_lines_text (Text p ∷ []) s new rows → (read : List UnitLine)
-      → map (columns 4) rows ≡ map unit_line_cells read → read ≡ mine.unit_lines m p
+      → map (columns 4) rows ≡ map unit_line_cells read → read ≡ mine.own_unit_lines m p
   unfolding unit_back
   units_read p new rows h read said =
       let project = grant_shows ++ col 2 2 ∷ [] in
       let got =
-          reads_as unit_lines_text (Text p ∷ []) s new books_schema k.books.same_schema _ unit_lines.is unit_lines.plain unit_lines.unlisted rows h in
+      reads_as unit_lines_text (Text p ∷ []) s new books_schema k.books.same_schema _ unit_lines.is unit_lines.plain unit_lines.unlisted rows h in
       let ordered =
-          λ (g h u v : Row). thens (value_cmp (column g 1) (column h 1)) (value_cmp (column g 2) (column h 2)) (value_cmp (column g 3) (column h 3))
-          (by_columns (1 ∷ []) u v) in
+      λ (g h u v : Row). thens (value_cmp (column g 1) (column h 1)) (value_cmp (column g 2) (column h 2)) (value_cmp (column g 3) (column h 3))
+      (by_columns (1 ∷ []) u v) in
       let are =
-          joins 3 1 joined_tests project (joined_order []) grant_key (1 ∷ [])
-          (Text p ∷ []) ordered s.now.trees rows (k.books.tidy Grants).apart (k.books.tidy Units).apart (got.answer Null) in
-      told unit_line_cells unit_back (λ l i. record { unit = l.unit; role_no = role_back l.role_no i; end_s = open_number_back l.end_s i;
-          last_s = l.last_s }) _ read said
+      joins 3 1 joined_tests project (joined_order []) grant_key (1 ∷ [])
+      (Text p ∷ []) ordered s.now.trees rows (k.books.tidy Grants).apart (k.books.tidy Units).apart (got.answer Null) in
+      told unit_line_cells unit_back (λ l i. record {
+        unit = l.unit;
+        role_no = role_back l.role_no i;
+        end_s = open_number_back l.end_s i;
+        last_s = l.last_s;
+      }) _ read said
       ∙ map-map unit_back (columns 4) rows
       ∙ ap (map (λ r. unit_back (columns 4 r))) are
-      ∙ lines_found Units project (joined_order []) p (λ r. unit_back (columns 4 r)) unit_line (λ id jd u v g x i. record { unit = u;
-      role_no = role_back g.role_no i; end_s = open_number_back g.end_s i; last_s = x.last_s })
+      ∙ lines_found Units project (joined_order []) p (λ r. unit_back (columns 4 r)) unit_line (λ id jd u v g x i. record {
+        unit = u;
+        role_no = role_back g.role_no i;
+        end_s = open_number_back g.end_s i;
+        last_s = x.last_s;
+      })
 
   shelf_back : Row → ShelfLine
   shelf_back r = record {
     unit = bytes (column r 0);
     role_no = role_in (column r 1);
     end_s = open_number_in (column r 2);
-    shelf = record { tag = bytes (column r 3); one_shot = flag_in (column r 4); start_s = number_in (column r 5); until_s = number_in (column r 6);
-        person = bytes (column r 7); words = bytes (column r 8) };
+    shelf = record {
+      tag = bytes (column r 3);
+      one_shot = flag_in (column r 4);
+      start_s = number_in (column r 5);
+      until_s = number_in (column r 6);
+      person = bytes (column r 7);
+      words = bytes (column r 8);
+    };
   }
 
   pub shelves_read : (p : Name) (new : State) (rows : List Row) → Shown shelf_lines_text (Text p ∷ []) s new rows → (read : List ShelfLine)
-      → map (columns 9) rows ≡ map shelf_line_cells read → IsPermutation (mine.shelf_lines m p) read
+      → map (columns 9) rows ≡ map shelf_line_cells read → IsPermutation (mine.own_shelf_lines m p) read
   unfolding shelf_back
   shelves_read p new rows h read said =
       let project = grant_shows ++ terms 2 2 (drop 1 shelf_shape.columns) in
       let got =
-          reads_as shelf_lines_text (Text p
-          ∷ []) s new books_schema k.books.same_schema _ shelf_lines.is shelf_lines.plain shelf_lines.unlisted rows h in
+      reads_as shelf_lines_text (Text p
+      ∷ []) s new books_schema k.books.same_schema _ shelf_lines.is shelf_lines.plain shelf_lines.unlisted rows h in
       let back = λ (r : Row). shelf_back (columns 9 r) in
       let is : read ≡ map back rows =
-      told shelf_line_cells shelf_back (λ l i. record { unit = l.unit; role_no = role_back l.role_no i; end_s = open_number_back l.end_s i;
-          shelf = record { tag = l.shelf.tag; one_shot = flag_back l.shelf.one_shot i; start_s = l.shelf.start_s; until_s = l.shelf.until_s;
-          person = l.shelf.person; words = l.shelf.words } }) _ read said
+      told shelf_line_cells shelf_back (λ l i. record {
+        unit = l.unit;
+        role_no = role_back l.role_no i;
+        end_s = open_number_back l.end_s i;
+        shelf = record {
+          tag = l.shelf.tag;
+          one_shot = flag_back l.shelf.one_shot i;
+          start_s = l.shelf.start_s;
+          until_s = l.shelf.until_s;
+          person = l.shelf.person;
+          words = l.shelf.words;
+        };
+      }) _ read said
       ∙ map-map shelf_back (columns 9) rows in
       let found = lines_found Shelves project unit_order p back shelf_line
-      (λ id jd u v g x i. record { unit = u; role_no = role_back g.role_no i; end_s = open_number_back g.end_s i;
-      shelf = record { tag = x.tag; one_shot = flag_back x.one_shot i; start_s = x.start_s; until_s = x.until_s; person = x.person;
-      words = x.words } }) in
+      (λ id jd u v g x i. record {
+        unit = u;
+        role_no = role_back g.role_no i;
+        end_s = open_number_back g.end_s i;
+        shelf = record {
+          tag = x.tag;
+          one_shot = flag_back x.one_shot i;
+          start_s = x.start_s;
+          until_s = x.until_s;
+          person = x.person;
+          words = x.words;
+        };
+      }) in
       let same = joins_unordered 3 7 joined_tests project unit_order grant_key (1 ∷ 2 ∷ []) (Text p ∷ []) s.now.trees rows (got.answer Null) in
-      subst (IsPermutation (mine.shelf_lines m p)) (sym is) (subst (λ l. IsPermutation l (map back rows)) found (IsPermutation-map back _ _ same))
+      subst (IsPermutation (mine.own_shelf_lines m p)) (sym is) (subst (λ l. IsPermutation l (map back rows)) found (IsPermutation-map back _ _ same))

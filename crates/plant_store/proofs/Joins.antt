@@ -15,9 +15,9 @@ picked : {A B : Type 0} (t : A → Bool) (f : A → B) (xs : List A) → flat_ma
 picked t f [] = refl
 picked t f (x ∷ xs) =
     elim (t x) as (λ b. cond b (f x ∷ []) [] ++ flat_map (λ x. cond (t x) (f x ∷ []) []) xs ≡ map f (cond b (x ∷ filter t xs) (filter t xs))) [
-  | true ↦ ap (λ l. f x ∷ l) (picked t f xs)
-  | false ↦ picked t f xs
-]
+      | true ↦ ap (λ l. f x ∷ l) (picked t f xs)
+      | false ↦ picked t f xs
+    ]
 
 -- lists that rise one after another, each below the next
 pub rising-flat_map : {A B : Type 0} (S : A → A → Type 0) (R : B → B → Type 0) (f : A → List B) → ((a : A) → IsAscending R (f a))
@@ -66,8 +66,8 @@ module _ (first second : ℕ) (tests project : List Term) (order : List (Term ×
       let vs = sort_by (by_columns others) (trees second) in
       let sorted = sort_by (by_columns key) (trees first) in
       map-flat_map (λ (o : Output). o.1) (met vs) sorted
-          ∙ flat_map_same_on _ (λ g. map (λ u. (pair_shown g u).1) (filter (meets g) vs))
-          (λ g. map-map (λ (o : Output). o.1) (pair_shown g) (filter (meets g) vs)) sorted
+      ∙ flat_map_same_on _ (λ g. map (λ u. (pair_shown g u).1) (filter (meets g) vs))
+      (λ g. map-map (λ (o : Output). o.1) (pair_shown g) (filter (meets g) vs)) sorted
 
   matched : (trees : Trees) (rows : List Row)
       (a : IsAnswer (plain_query (inner first (inner second end)) tests project order) (overlay trees []) params rows)
@@ -81,10 +81,10 @@ module _ (first second : ℕ) (tests project : List Term) (order : List (Term ×
       let over = λ (gs us : List Row). flat_map (λ g. flat_map (λ u. cond (meets g u) ((params ∷ g ∷ u ∷ []) ∷ []) []) us) gs in
       let staged = a.grouped ∙ ap (λ gs. over gs (overlay trees [] second)) (overlay_none trees first) ∙ ap (over gs) (overlay_none trees second) in
       let kept : a.kept ≡ flat_map (met us) gs = a.distinct ∙ ap (map (output q)) staged
-          ∙ map-flat_map (output q) (λ g. flat_map (λ u. cond (meets g u) ((params ∷ g ∷ u ∷ []) ∷ []) []) us) gs
-          ∙ flat_map_same_on _ (met us) (shown_each us) gs in
+      ∙ map-flat_map (output q) (λ g. flat_map (λ u. cond (meets g u) ((params ∷ g ∷ u ∷ []) ∷ []) []) us) gs
+      ∙ flat_map_same_on _ (met us) (shown_each us) gs in
       let moved : IsPermutation (flat_map (met vs) sorted) (flat_map (met us) gs) =
-          IsPermutation-trans _ _ _ (IsPermutation-flat_map (met vs) sorted gs (IsPermutation-sort_by (by_columns key) (by_columns_total key) gs))
+      IsPermutation-trans _ _ _ (IsPermutation-flat_map (met vs) sorted gs (IsPermutation-sort_by (by_columns key) (by_columns_total key) gs))
       (IsPermutation-flat_map_each (met vs) (met us)
       (λ g. IsPermutation-map (pair_shown g) (filter (meets g) vs) (filter (meets g) us)
       (IsPermutation-filter (meets g) vs us (IsPermutation-sort_by (by_columns others) (by_columns_total others) us))) gs) in
@@ -115,18 +115,18 @@ module _ (first second : ℕ) (tests project : List Term) (order : List (Term ×
       let sorted = sort_by (by_columns key) (trees first) in
       let R = λ (a b : Output). output_cmp q a b ≡ Less in
       let rise : IsAscending (λ u v. by_columns others u v ≡ Less) vs =
-          strict-sort (by_columns others) (by_columns_total others) (trees second) lone in
+      strict-sort (by_columns others) (by_columns_total others) (trees second) lone in
       let inside : (g : Row)
-          → IsAscending R (met vs g) =
-          λ g. ascending-map R (pair_shown g) (filter (meets g) vs)
-          (ascending-filter _ (meets g) vs (ascending_weaker (λ u v. by_columns others u v ≡ Less) (λ u v. R (pair_shown g u) (pair_shown g v))
+      → IsAscending R (met vs g) =
+      λ g. ascending-map R (pair_shown g) (filter (meets g) vs)
+      (ascending-filter _ (meets g) vs (ascending_weaker (λ u v. by_columns others u v ≡ Less) (λ u v. R (pair_shown g u) (pair_shown g v))
       (λ u v less. agrees g g u v ∙ ap (λ o. ordering_then o (by_columns others u v)) (tied_itself (by_columns_total key) g) ∙ less) vs rise)) in
       let across : (g h : Row) → by_columns key g h ≡ Less → AllByRecursion (λ o. AllByRecursion (R o) (met vs h)) (met vs g) =
       λ g h less. all-map (λ o. AllByRecursion (R o) (met vs h)) (pair_shown g)
-          (λ u. all-map (R (pair_shown g u)) (pair_shown h) (λ v. agrees g h u v
-          ∙ ap (λ o. ordering_then o (by_columns others u v)) less) (filter (meets h) vs)) (filter (meets g) vs) in
+      (λ u. all-map (R (pair_shown g u)) (pair_shown h) (λ v. agrees g h u v
+      ∙ ap (λ o. ordering_then o (by_columns others u v)) less) (filter (meets h) vs)) (filter (meets g) vs) in
       let strict : IsAscending R (by_keys trees) =
-          rising-flat_map (λ g h. by_columns key g h
-          ≡ Less) R (met vs) inside across sorted (strict-sort (by_columns key) (by_columns_total key) (trees first) apart) in
+      rising-flat_map (λ g h. by_columns key g h
+      ≡ Less) R (met vs) inside across sorted (strict-sort (by_columns key) (by_columns_total key) (trees first) apart) in
       a.shown ∙ ap (map (λ (o : Output). o.1))
-          (sorted_unique (output_cmp q) (output_cmp_total q) (by_keys trees) a.ordered strict (matched trees rows a) a.sorted) ∙ cells_by_keys trees
+      (sorted_unique (output_cmp q) (output_cmp_total q) (by_keys trees) a.ordered strict (matched trees rows a) a.sorted) ∙ cells_by_keys trees

@@ -64,23 +64,31 @@ module _ (tree : ℕ) (tests project : List Term) (order : List (Term × Key)) (
       let sorted = sort_by (by_columns key) some in
       let all = map show sorted in
       let whole : IsAnswer q (overlay trees []) params (map cells a.ordered) =
-          record { staged = a.staged; grouped = a.grouped; kept = a.kept; distinct = a.distinct; ordered = a.ordered; same = a.same;
-          sorted = a.sorted; shown = refl } in
+      record {
+        staged = a.staged;
+        grouped = a.grouped;
+        kept = a.kept;
+        distinct = a.distinct;
+        ordered = a.ordered;
+        same = a.same;
+        sorted = a.sorted;
+        shown = refl;
+      } in
       let it = reads tree tests project order trees params (map cells a.ordered) whole in
       let rise =
-          strict-sort (by_columns key)
-          (by_columns_total key) some
-          (no_ties-out (by_columns key) (by_columns_total key) (passes tree tests project order params) (trees tree) apart) in
+      strict-sort (by_columns key)
+      (by_columns_total key) some
+      (no_ties-out (by_columns key) (by_columns_total key) (passes tree tests project order params) (trees tree) apart) in
       let fall : IsAscending (λ a b. output_cmp q b a ≡ Less) all =
-          ascending-map (λ a b. output_cmp q b a
-          ≡ Less) show sorted (subst (λ (c : Row → Row → Ordering). IsAscending (λ a b. c b a ≡ Less) sorted) (sym falls) rise) in
+      ascending-map (λ a b. output_cmp q b a
+      ≡ Less) show sorted (subst (λ (c : Row → Row → Ordering). IsAscending (λ a b. c b a ≡ Less) sorted) (sym falls) rise) in
       let same : IsPermutation (reverse all) it.ordered =
-          IsPermutation-trans _ _ _ (IsPermutation-sym _ _ (IsPermutation-reverse all))
-          (IsPermutation-trans _ _ _ (IsPermutation-map show sorted some (IsPermutation-sort_by (by_columns key) (by_columns_total key) some))
-          it.same) in
+      IsPermutation-trans _ _ _ (IsPermutation-sym _ _ (IsPermutation-reverse all))
+      (IsPermutation-trans _ _ _ (IsPermutation-map show sorted some (IsPermutation-sort_by (by_columns key) (by_columns_total key) some))
+      it.same) in
       let ordered : it.ordered ≡ reverse all =
-          sorted_unique (output_cmp q) (output_cmp_total q)
-          (reverse all) it.ordered (ascending-reverse (λ a b. output_cmp q b a ≡ Less) all fall) same it.sorted in
+      sorted_unique (output_cmp q) (output_cmp_total q)
+      (reverse all) it.ordered (ascending-reverse (λ a b. output_cmp q b a ≡ Less) all fall) same it.sorted in
       ap (λ l. slice_get l 0) a.shown ∙ first_taken (map cells a.ordered) ∙ ap (λ l. slice_get l 0) it.rows_are ∙ slice_get-map cells it.ordered 0
       ∙ ap (option_map cells) (ap (λ l. slice_get l 0) ordered ∙ last_turned all) ∙ sym (slice_get-map cells all (length all - 1))
       ∙ (λ i. slice_get (map-map cells show sorted i) (length-map sorted show i - 1))
@@ -94,12 +102,12 @@ last_found : (u : Name) (old new : State) → AreBooks old.now → (rows : List 
     → slice_get rows 0 ≡ option_map drawn (slice_get (rows_seen u old.now.trees Changes) (length (rows_seen u old.now.trees Changes) - 1))
 last_found u old new books rows h =
     let got =
-        reads_as last_change_text (Text u
-        ∷ []) old new books_schema books.same_schema _ last_change.is last_change.plain last_change.unlisted rows h in
+    reads_as last_change_text (Text u
+    ∷ []) old new books_schema books.same_schema _ last_change.is last_change.plain last_change.unlisted rows h in
     let key : List ℕ = 1 ∷ 2 ∷ [] in
     let show = λ (r : Row). (shows 17 by_unit (col 1 2 ∷ []) falling_2 (Text u ∷ []) r).1 in
     let passing =
-        filter_same (passes 17 by_unit (col 1 2 ∷ []) falling_2 (Text u ∷ [])) (is_of u) (λ r. one_test (column r 1) u) (old.now.trees 17) in
+    filter_same (passes 17 by_unit (col 1 2 ∷ []) falling_2 (Text u ∷ [])) (is_of u) (λ r. one_test (column r 1) u) (old.now.trees 17) in
     let rows_kept = kept (by_columns key) (is_of u) (old.now.trees 17) in
     first_falling 17 by_unit (col 1 2 ∷ []) falling_2 key (Text u ∷ []) refl old.now.trees rows (books.tidy Changes).apart (got.answer Null)
     ∙ ap (λ l. slice_get (map show (sort_by (by_columns key) l)) (length (sort_by (by_columns key) l) - 1)) passing

@@ -9,7 +9,7 @@ use Rattle.plant_books.specs.Contents.{Content, rows_in}
 use Rattle.plant_columns.specs.{Tables.{grant_shape, shelf_shape}, declared.tables.TableKind.TheVariants.{Grants, Shelves}}
 use Rattle.plant_columns.proofs.public.{Bridge.{AreRising}, ShapeLaws.{good}, Shapes.{rising as rows_rise}}
 use Rattle.plant_model.specs.{RowFacts.{pair_of, shelf_tag}, declared.rows.{GrantRow.{GrantRow}, ShelfRow.{ShelfRow}}}
-use Rattle.plant_store.specs.{Keeping.{HasContent}, Mine.{line_cmp, shelf_line, shelf_lines}, declared.shelves.ShelfLine.{ShelfLine}}
+use Rattle.plant_store.specs.{Keeping.{HasContent}, Mine.{line_cmp, shelf_line, own_shelf_lines}, declared.shelves.ShelfLine.{ShelfLine}}
 use Rattle.plant_store.proofs.{Holdings.{rising}, JoinedLines.{passing}, Joins.{rising-flat_map}, public.Contents.{same_codes}}
 use Rattle.plant_types.{specs.{Names.{Name, name_cmp, same_name}, Roles.{pair_cmp, role_no}}, proofs.public.Orders.{name_total}}
 
@@ -59,8 +59,8 @@ module _ (s : State) (m : Content) (k : HasContent s m) (p : Name) where
   in_grant u g =
       let tie = ap (λ o. ordering_then o (by_role g g)) (tied_itself name_total u) ∙ tied_itself nat_cmp_total (role_no g.role_no) in
       ascending-map _ (shelf_line u g)
-          (rows_in m u).shelves (ascending_weaker _ _ (λ (a b : ShelfRow) less. ap (λ o. ordering_then o (name_cmp a.tag b.tag)) tie
-          ∙ less) _ (tags_rise u))
+      (rows_in m u).shelves (ascending_weaker _ _ (λ (a b : ShelfRow) less. ap (λ o. ordering_then o (name_cmp a.tag b.tag)) tie
+      ∙ less) _ (tags_rise u))
 
   in_unit : (u : Name) → IsAscending (λ (a b : ShelfLine). line_cmp a b ≡ Less) (flat_map (λ g. map (shelf_line u g) (rows_in m u).shelves) (own u))
   in_unit u = rising-flat_map (λ g h. by_role g h ≡ Less) _ (λ g. map (shelf_line u g) (rows_in m u).shelves) (in_grant u) across (own u) (own_rise u)
@@ -80,28 +80,28 @@ module _ (s : State) (m : Content) (k : HasContent s m) (p : Name) where
   apart : (u v : Name) → name_cmp u v ≡ Less → AllByRecursion (λ x. AllByRecursion (λ y. line_cmp x y ≡ Less) (lines_in v)) (lines_in u)
   apart u v less =
       let before : (g h : GrantRow) (a b : ShelfRow)
-          → line_cmp (shelf_line u g a) (shelf_line v h b) ≡ Less =
-          λ g h a b. ap (λ o. ordering_then (ordering_then o (by_role g h)) (name_cmp a.tag b.tag)) less in
+      → line_cmp (shelf_line u g a) (shelf_line v h b) ≡ Less =
+      λ g h a b. ap (λ o. ordering_then (ordering_then o (by_role g h)) (name_cmp a.tag b.tag)) less in
       let ss = (rows_in m u).shelves in
       let ts = (rows_in m v).shelves in
       all-flat_map _ (λ g. map (shelf_line u g) ss) (own u)
-          (all_of _
-          (λ g. all-map _ (shelf_line u g)
-          (λ a. all-flat_map _ (λ h. map (shelf_line v h) ts) (own v) (all_of _ (λ h. all-map _ (shelf_line v h) (λ b. before g h a b) ts) (own v)))
-          ss) (own u))
+      (all_of _
+      (λ g. all-map _ (shelf_line u g)
+      (λ a. all-flat_map _ (λ h. map (shelf_line v h) ts) (own v) (all_of _ (λ h. all-map _ (shelf_line v h) (λ b. before g h a b) ts) (own v)))
+      ss) (own u))
 
   names_rise : (us : List Name) → IsStrictlySortedBy name_cmp us → IsAscending (λ u v. name_cmp u v ≡ Less) us
   unfolding IsStrictlySortedBy
   names_rise [] up = tt
   names_rise (u ∷ us) up = (up.0, names_rise us up.1)
 
-  lines_rise : IsAscending (λ (a b : ShelfLine). line_cmp a b ≡ Less) (shelf_lines m p)
+  lines_rise : IsAscending (λ (a b : ShelfLine). line_cmp a b ≡ Less) (own_shelf_lines m p)
   lines_rise =
       rising-flat_map (λ u v. name_cmp u v ≡ Less) _ lines_in in_unit apart (keys m.units)
       (names_rise (keys m.units) (rising (entries m.units) (entries_sorted m.units)))
 
   -- so these lines have one order by unit, role and tag, however they were read
-  pub one_order : (read lines : List ShelfLine) → IsPermutation (shelf_lines m p) read → IsPermutation read lines → IsSorted line_cmp lines
-      → lines ≡ shelf_lines m p
+  pub one_order : (read lines : List ShelfLine) → IsPermutation (own_shelf_lines m p) read → IsPermutation read lines → IsSorted line_cmp lines
+      → lines ≡ own_shelf_lines m p
   one_order read lines same moved sorted =
-      sorted_unique line_cmp line_cmp_total (shelf_lines m p) lines lines_rise (IsPermutation-trans _ _ _ same moved) sorted
+      sorted_unique line_cmp line_cmp_total (own_shelf_lines m p) lines lines_rise (IsPermutation-trans _ _ _ same moved) sorted

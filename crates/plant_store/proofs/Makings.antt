@@ -26,7 +26,7 @@ makes : (before : Schema) (text : List ℕ) (made : Table) (after : Schema) → 
     → (old new : State) → AreEmpty before old.now → (count : ℕ) → Executes text [] old new (Ok count) → AreEmpty after new.now
 makes before text made after it last more at free_ old new has count h =
     let done =
-        creates text before after made last.tree old new has.same_schema it.means.is it.whole it.means.plain it.defines it.leaves at free_ count h in
+    creates text before after made last.tree old new has.same_schema it.means.is it.whole it.means.plain it.defines it.leaves at free_ count h in
     record {
       same_schema = done.schema;
       empty = subst (AllByRecursion (λ t. new.now.trees t.tree ≡ [])) (sym more)
@@ -48,7 +48,7 @@ pub makes_index : (old new : State) → AreEmpty (schema_with table_count) old.n
     → AreEmpty books_schema new.now
 makes_index old new has count h =
     let it = indexes by_person_text (schema_with table_count) books_schema 2 (table_in grant_shape) _ old new has.same_schema refl by_person_means.is
-        by_person_whole by_person_means.plain by_person_made by_person_created count h in
+    by_person_whole by_person_means.plain by_person_made by_person_created count h in
     record { same_schema = it.schema; empty = still_empty (schema_with table_count).tables old.now.trees new.now.trees it.kept has.empty }
 
 -- ---- the office's row
@@ -65,28 +65,28 @@ makes_new admin old new has count h =
     let params : Row = Text admin ∷ [] in
     let db = old.now.trees in
     let command =
-        Insert 0 (Values (Rattle.sqlite.specs.Term.lit (Int (pos 1)) ∷ Rattle.sqlite.specs.Term.lit Null ∷ Rattle.sqlite.specs.Term.lit (Int (pos 2))
-        ∷ Rattle.sqlite.specs.Term.col 0 0 ∷ []) 4) in
+    Insert 0 (Values (Rattle.sqlite.specs.Term.lit (Int (pos 1)) ∷ Rattle.sqlite.specs.Term.lit Null ∷ Rattle.sqlite.specs.Term.lit (Int (pos 2))
+    ∷ Rattle.sqlite.specs.Term.col 0 0 ∷ []) 4) in
     let w = runs_as put_office_text params old new books_schema has.same_schema command put_office.is put_office.plain count h in
     let text = statement_of put_office_text (understood books_schema put_office_text) in
     let done =
-        went (subst (λ s. Does old.step_limit (mode_of old) params (record old.now { schema = s }) text None command (Ok (w.tally, new.now)))
-        has.same_schema w.changed) in
+    went (subst (λ s. Does old.step_limit (mode_of old) params (record old.now { schema = s }) text None command (Ok (w.tally, new.now)))
+    has.same_schema w.changed) in
     let now : new.now ≡ record { schema = books_schema; trees = done.0.trees } =
-        ap (λ (p : Tally × Database). p.1) (same_value (went (went done.2).2).2) in
+    ap (λ (p : Tally × Database). p.1) (same_value (went (went done.2).2).2) in
     let given = went done.1 in
     let written = went (went given.2).2 in
     let counted = went written.2 in
     let trees : done.0.trees ≡ written.0 = ap (λ (it : Written). it.trees) (same_value counted.2) ∙ same_value counted.1 in
     let step = lone_step books_schema free _ db written.0 (edit_of db office_table [] Chosen 0 given.0) written.1 in
     let edit : edited db (edit_of db office_table [] Chosen 0 given.0) ≡ office_row admin ∷ [] =
-        ap (λ all. edited db (edit_of db office_table [] Chosen 0 all)) given.1.1 ∙ rw (has.empty.0, cast_int (pos 1), cast_null, cast_int (pos 2)) in
+    ap (λ all. edited db (edit_of db office_table [] Chosen 0 all)) given.1.1 ∙ rw (has.empty.0, cast_int (pos 1), cast_null, cast_int (pos 2)) in
     let all : new.now.trees ≡ written.0 = ap (λ (d : Database). d.trees) now ∙ trees in
     let kept : KeepsOthers books_schema 0 db new.now.trees = subst (KeepsOthers books_schema 0 db) (sym all) step.tables in
     let none : (i : TableKind)
-        → new.now.trees (shape i).tree ≡ [] =
-        λ i. kept_at books_schema 0 db new.now.trees kept (shape i).place (table_in (shape i)) (all_listed.at i) (λ e. office_apart i (sym e))
-        ∙ empty_at i old.now has in
+    → new.now.trees (shape i).tree ≡ [] =
+    λ i. kept_at books_schema 0 db new.now.trees kept (shape i).place (table_in (shape i)) (all_listed.at i) (λ e. office_apart i (sym e))
+    ∙ empty_at i old.now has in
     record {
       books = record {
         same_schema = ap (λ (d : Database). d.schema) now;

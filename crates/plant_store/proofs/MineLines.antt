@@ -11,7 +11,7 @@ use Rattle.plant_columns.specs.{Tables.{grant_shape, own_key, unit_shape}, decla
 use Rattle.plant_columns.proofs.public.{Bridge.{AreRising}, ShapeLaws.{good}, Shapes.{rising as rows_rise}}
 use Rattle.plant_model.specs.{Grants.{is_before}, RowChanges.{no_rows}, RowFacts.{no_unit, pair_of}, declared.rows.{GrantRow.{GrantRow}, ShelfRow.{ShelfRow}, UnitRow.{UnitRow}, UnitRows.{UnitRows}}}
 use Rattle.plant_store.specs.{Keeping.{HasContent, has_any}, declared.{mine.UnitLine.{UnitLine}, shelves.ShelfLine.{ShelfLine}}}
-use Rattle.plant_store.specs.Mine.{lines_of, put_run, repeats, runs_of, shelf_line, shelf_lines, standing_shelves, standing_units, started, unit_line, unit_lines, with_return}
+use Rattle.plant_store.specs.Mine.{lines_of, put_run, repeats, runs_of, shelf_line, own_shelf_lines, standing_shelves, standing_units, started, unit_line, own_unit_lines, with_return}
 use Rattle.plant_store.proofs.{Holdings.{own_roles, rising}, LineOrder.{own_rise}, public.Contents.{same_codes}}
 use Rattle.plant_types.specs.{Names.{Name, name_cmp, same_name}, Options.{when}, Roles.{pair_cmp, role_no, same_role}, declared.role.Role.{Role}}
 
@@ -124,7 +124,7 @@ module _ (t : ℕ) (p : Name) where
     standing_at xs [] = refl
     standing_at xs (g ∷ gs) =
         filter-append (λ l. is_before t (end_of l)) (map (line g) xs) (flat_map (λ g. map (line g) xs) gs)
-            ∙ ap₂ ◌++◌ (one_grant g xs) (standing_at xs gs) ∙ by (is_before t g.end_s)
+        ∙ ap₂ ◌++◌ (one_grant g xs) (standing_at xs gs) ∙ by (is_before t g.end_s)
       where
         by : (b : Bool)
             → cond b (map (line g) xs) [] ++ flat_map (λ g. map (line g) xs) (filter (λ g. is_before t g.end_s) gs) ≡ flat_map (λ g. map (line g) xs)
@@ -146,7 +146,7 @@ module _ (t : ℕ) (p : Name) where
         ≡ flat_map (λ u. flat_map (λ g. map (line u g) (these (rows_in m u))) (filter (is_held_by t p) (rows_in m u).grants)) (keys m.units)
     held_lines line end_of is these =
         filter-flat_map (λ l. is_before t (end_of l))
-            (λ u. flat_map (λ g. map (line u g) (these (rows_in m u))) (filter (λ g. same_name p g.person) (rows_in m u).grants)) (keys m.units)
+        (λ u. flat_map (λ g. map (line u g) (these (rows_in m u))) (filter (λ g. same_name p g.person) (rows_in m u).grants)) (keys m.units)
         ∙ flat_map_same_on _ _
         (λ u. standing_at (line u) end_of (is u) (these (rows_in m u)) (filter (λ g. same_name p g.person) (rows_in m u).grants)
         ∙ ap (flat_map (λ g. map (line u g) (these (rows_in m u)))) (own_roles t p (rows_in m u).grants)) (keys m.units)
@@ -250,8 +250,8 @@ module _ (t : ℕ) (p : Name) where
       in_unit u ls z last new now later (s ∷ ss) (g ∷ gs) differ =
           let more = flat_map (λ (h : GrantRow). map (shelf_line u h) (s ∷ ss)) gs in
           rw (begins last u g s new)
-              (ap (λ l. mine_row u (rows_in m u) s
-              ∷ l) (ap (λ l. map (with_return m) (listed_after (Some (shelf_line u g s)) l)) (append_assoc (map (shelf_line u g) ss) more ls)
+          (ap (λ l. mine_row u (rows_in m u) s
+          ∷ l) (ap (λ l. map (with_return m) (listed_after (Some (shelf_line u g s)) l)) (append_assoc (map (shelf_line u g) ss) more ls)
           ∙ takes u g ss (more ++ ls) z (λ x. ap (map (with_return m)) (skips u g x (s ∷ ss) gs differ.0 ls) ∙ later g x) s))
 
       with_unit : (u : Name) (ls : List ShelfLine) (z : List MineRow) (last : Option ShelfLine) → is_new last u ≡ true
@@ -283,10 +283,10 @@ module _ (t : ℕ) (p : Name) where
       one_row : (u : Name) (rows : UnitRows) → get m.units u ≡ Some rows → (r : UnitRow) × (rows.units ≡ r ∷ [])
       one_row u rows e =
           single rows.units (subst (AreRising nat_cmp own_key) (k.seen u Units
-              ∙ ap (λ o. (unwrap_or o no_rows).units) e) (rows_rise unit_shape (good Units) u (s.now.trees 1) (k.books.tidy Units)))
+          ∙ ap (λ o. (unwrap_or o no_rows).units) e) (rows_rise unit_shape (good Units) u (s.now.trees 1) (k.books.tidy Units)))
           (sym (ap (λ o. has_any (unwrap_or o no_rows).units) e) ∙ sym (k.opened u) ∙ ap is_some e)
 
-      pub units_found : runs_of (standing_units t (unit_lines m p)) ≡ mine_units m t p
+      pub units_found : runs_of (standing_units t (own_unit_lines m p)) ≡ mine_units m t p
       units_found = ap runs_of (held_lines unit_line (λ l. l.end_s) (λ u g x. refl) (λ rows. rows.units))
           ∙ units_merged one_row (keys m.units) names_up
 
@@ -298,8 +298,8 @@ module _ (t : ℕ) (p : Name) where
           (subst (λ o. IsAscending (λ (a b : GrantRow). nat_cmp (role_no a.role_no) (role_no b.role_no)
           ≡ Less) (filter (λ g. same_name p g.person) (unwrap_or o no_rows).grants)) e (own_rise s m k p u))))
 
-      pub shelves_found : map (with_return m) (dedup repeats (standing_shelves t (shelf_lines m p))) ≡ mine_shelves m t p
+      pub shelves_found : map (with_return m) (dedup repeats (standing_shelves t (own_shelf_lines m p))) ≡ mine_shelves m t p
       shelves_found =
-          ap (map (with_return m)) (listed (standing_shelves t (shelf_lines m p)))
+          ap (map (with_return m)) (listed (standing_shelves t (own_shelf_lines m p)))
           ∙ ap (λ ls. map (with_return m) (listed_after None ls)) (held_lines shelf_line (λ l. l.end_s) (λ u g x. refl) (λ rows. rows.shelves))
           ∙ shelves_merged differ (keys m.units) names_up None (all_of (λ u. is_new None u ≡ true) (λ u. refl) (keys m.units))

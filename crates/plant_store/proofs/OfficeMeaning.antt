@@ -21,8 +21,15 @@ module _ (schema : Schema) (k : ℕ) (t : Table) (named : table_named schema (co
   program = record { lets = []; body = query }
 
   abbrev pub meant : Compiled
-  meant = record { command = Select program names; returning = None; names = []; formats = []; start = asked.p.start; end = asked.p.end;
-      tail = asked.p.tail }
+  meant = record {
+    command = Select program names;
+    returning = None;
+    names = [];
+    formats = [];
+    start = asked.p.start;
+    end = asked.p.end;
+    tail = asked.p.tail;
+  }
 
   reads : (b : Bool) → accepts_program schema [] query [] ≡ b → compile.read schema asked.s ≡ cond b (Ok (Select program names)) (Err Mismatch)
   reads = is_read schema (codes "office") k t named is (codes "id") (codes "schema_no") (codes "admin") asked.s asked.asks id schema_no admin

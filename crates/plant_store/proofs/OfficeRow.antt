@@ -36,8 +36,12 @@ found_column t n h =
     let p = λ (c : Rattle.sqlite_schema.specs.declared.schema.Column.Column). same_name c.name n in
     let at = position_or_len p t.columns in
     elim (cases_Bool (ltb at (length t.columns))) [
-      | inl within ↦ record { at = at; column = _; has = sym (position_from-zero p t.columns) ∙ rw within;
-          it = slice_get-get_or t.columns at (column_of [] Integer) (ltb-true at (length t.columns) within) }
+      | inl within ↦ record {
+        at = at;
+        column = _;
+        has = sym (position_from-zero p t.columns) ∙ rw within;
+        it = slice_get-get_or t.columns at (column_of [] Integer) (ltb-true at (length t.columns) within);
+      }
       | inr past ↦ absurd (let e : column_named t n ≡ None = sym (position_from-zero p t.columns) ∙ rw past in false≢true (sym (ap is_some e) ∙ h))
     ]
 
@@ -51,11 +55,11 @@ one_shown : (x : Row) (all rows : List Row) → map (columns 3) all ≡ all → 
 one_shown x all rows same order = (
   λ e.
       let turned : IsPermutation all (x ∷ []) =
-          subst (IsPermutation all) e (subst (λ l. IsPermutation l (map (columns 3) rows)) same (IsPermutation-map (columns 3) all rows order)) in
+      subst (IsPermutation all) e (subst (λ l. IsPermutation l (map (columns 3) rows)) same (IsPermutation-map (columns 3) all rows order)) in
       one_permutation x all (IsPermutation-sym all (x ∷ []) turned),
   λ e.
       let turned : IsPermutation (x ∷ []) (map (columns 3) rows) =
-          subst (λ l. IsPermutation l (map (columns 3) rows)) (same ∙ e) (IsPermutation-map (columns 3) all rows order) in
+      subst (λ l. IsPermutation l (map (columns 3) rows)) (same ∙ e) (IsPermutation-map (columns 3) all rows order) in
       one_permutation x (map (columns 3) rows) turned,
 )
 
@@ -97,14 +101,14 @@ module _ (n : ℕ) (admin : Name) (old new : State) (t : Table) (is_there : offi
   some_order =
       let known = is_understood old.now.schema spot.0 t spot.1 spot.2 id schema_no by accepted in
       let got =
-          reads_as office_row_text [] old new old.now.schema refl _ (ap command_of known.0)
-          (subst IsPlain (sym known.0) (refl, refl)) known.1 rows h in
+      reads_as office_row_text [] old new old.now.schema refl _ (ap command_of known.0)
+      (subst IsPlain (sym known.0) (refl, refl)) known.1 rows h in
       let it = reads t.tree [] (col 1 a ∷ col 1 b ∷ col 1 c ∷ []) [] old.now.trees [] rows (got.answer Null) in
       let show = shows t.tree [] (col 1 a ∷ col 1 b ∷ col 1 c ∷ []) [] [] in
       let all = subst (λ rs. IsPermutation (map show rs) it.ordered) (filter-true (old.now.trees t.tree)) it.same in
       subst (λ l. IsPermutation l rows) (map-map (λ (o : Output). o.1) show (old.now.trees t.tree))
-          (subst (IsPermutation (map (λ (o : Output). o.1) (map show (old.now.trees t.tree)))) (sym it.rows_are)
-          (IsPermutation-map (λ (o : Output). o.1) _ _ all))
+      (subst (IsPermutation (map (λ (o : Output). o.1) (map show (old.now.trees t.tree)))) (sym it.rows_are)
+      (IsPermutation-map (λ (o : Output). o.1) _ _ all))
 
   by_names : (rs : List Row) → map (office_shown t) rs ≡ map (three a b c) rs
   by_names rs =
@@ -115,7 +119,7 @@ module _ (n : ℕ) (admin : Name) (old new : State) (t : Table) (is_there : offi
   this_row : (map (columns 3) rows ≡ office_cells n admin ∷ []) ↔ (map (office_shown t) (old.now.trees t.tree) ≡ office_cells n admin ∷ [])
   this_row =
       let it = one_shown (office_cells n admin)
-          (map (three a b c) (old.now.trees t.tree)) rows (map-map (columns 3) (three a b c) (old.now.trees t.tree)) some_order in
+      (map (three a b c) (old.now.trees t.tree)) rows (map-map (columns 3) (three a b c) (old.now.trees t.tree)) some_order in
       (λ e. by_names (old.now.trees t.tree) ∙ it.0 e, λ e. it.1 (sym (by_names (old.now.trees t.tree)) ∙ e))
 
   -- the rows that are shown tell whether it is this office

@@ -58,11 +58,11 @@ pub old_codes_read : (old new : State) → AreOldBooks old.now → (rows : List 
 unfolding code_back
 old_codes_read old new books rows h lines said =
     let found =
-        finds_rows old_unit_shape old_unit_good old_books_schema old_codes_text [] _ (by_key old_unit_shape) _ asks_codes.is asks_codes.unlisted
-        asks_codes.plain [] refl (λ r. true) (λ r. refl)
+    finds_rows old_unit_shape old_unit_good old_books_schema old_codes_text [] _ (by_key old_unit_shape) _ asks_codes.is asks_codes.unlisted
+    asks_codes.plain [] refl (λ r. true) (λ r. refl)
     old new books.same_schema (books.tidy Units).apart rows h in
     ap (map (λ (l : CodeLine). l.unit)) (told (λ (l : CodeLine). Text l.unit ∷ []) code_back (λ l. refl) _ lines said)
-        ∙ ap (λ rs. codes_in (map (columns 1) rs)) found ∙ again _
+    ∙ ap (λ rs. codes_in (map (columns 1) rs)) found ∙ again _
   where
     codes_in : List Row → List Name
     codes_in rs = map (λ (l : CodeLine). l.unit) (map code_back rs)

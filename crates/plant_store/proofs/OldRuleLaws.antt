@@ -78,7 +78,7 @@ grants_for_good h was [] = tt
 grants_for_good h was (k ∷ ks) =
     let rest = grants_for_good h was ks in
     elim (standing h k) as (λ o. standing h k ≡ o
-        → AllByRecursion (λ (g : GrantRow). g.end_s ≡ None) (cons_option (option_map (grant_as k) o) (filter_map (grant_row h) ks))) [
+    → AllByRecursion (λ (g : GrantRow). g.end_s ≡ None) (cons_option (option_map (grant_as k) o) (filter_map (grant_row h) ks))) [
       | None ↦ λ _. rest
       | Some until ↦ λ is. (stands_for_good h (no_ends h was) k until is, rest)
     ] refl
@@ -122,7 +122,7 @@ module _ (f : Facts) where
   file_alike t (Err fault) = refl
   file_alike t (Ok rows) =
       ap (λ rest. (nat_lt old_max_events (length f.events + length (new_numbers f.events rows)), UnitFull TooManyEvents) ∷ rest)
-          (faults_alike (first_fault (map alarm_tag f.alarms) t 2 f.events rows))
+      (faults_alike (first_fault (map alarm_tag f.alarms) t 2 f.events rows))
 
   kind_alike : (base : ℕ) (k : ChangeKind) → kind_refusals f base k ≡ old_kind_refusals f base k
   kind_alike base (Rationale a s) = λ i.
@@ -173,7 +173,7 @@ module _ (h : List Call) (was : WasLegal h) (legal : IsLegal h) where
   same_own p t (Import u file) e = ap first_refusal (file_alike (facts h) t file)
   same_own p t (Propose u x) e =
       ap (λ rest. first_refusal ((nat_le old_max_changes (facts h).change_count, UnitFull TooManyChanges) ∷ rest))
-          (proposed_alike (facts h) x.base x.kind)
+      (proposed_alike (facts h) x.base x.kind)
   same_own p t (WithdrawChange u n) e =
       ap first_refusal (change_alike ((facts h).change n) (λ c. (not (same_name p c.proposer), NotProposer)
       ∷ []) (λ c. (not (same_name p c.proposer), NotProposer) ∷ []) (λ c. refl))
@@ -193,7 +193,7 @@ module _ (h : List Call) (was : WasLegal h) (legal : IsLegal h) where
       let own = own_refusals (facts h) c.person c.moment c.request in
       let old_own = old_own_refusals (facts h) c.person c.moment c.request in
       ap (λ b. first_refusal ((not b, NotGranted) ∷ lacks_role (facts h) c.moment c.person (role_needed c.request) ++ behind ∷ own))
-          (same_some c.moment c.person)
+      (same_some c.moment c.person)
       ∙ ap (λ l. first_refusal (none ∷ l ++ behind ∷ own))
       (same_lack c.moment c.person (role_needed c.request) ∙ ap (old_lacks_role (facts h) c.person) (roles_stay c.request))
       ∙ refused_alike (none ∷ old_lacks_role (facts h) c.person (old_role_needed c.request)) (behind ∷ own) (behind ∷ old_own)

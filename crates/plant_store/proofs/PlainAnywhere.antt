@@ -44,16 +44,16 @@ some_shown : (schema : Schema) (base : ℕ) (name : List ℕ) (list : List Shown
     (λ r. and_then (source_of schema (length r.0) r.1) (λ s. Ok (Some (record { names = r.0; row = s })))))))
 some_shown schema base name list =
     never_then (target schema name)
-        (λ at. and_then (table_at schema at)
-        (λ table. and_then (returned schema table base list)
-        (λ r. and_then (source_of schema (length r.0) r.1) (λ s. Ok (Some (record { names = r.0; row = s })))))) (λ at.
+    (λ at. and_then (table_at schema at)
+    (λ table. and_then (returned schema table base list)
+    (λ r. and_then (source_of schema (length r.0) r.1) (λ s. Ok (Some (record { names = r.0; row = s })))))) (λ at.
     never_then (table_at schema at)
-        (λ table. and_then (returned schema table base list)
-        (λ r. and_then (source_of schema (length r.0) r.1) (λ s. Ok (Some (record { names = r.0; row = s }))))) (λ table.
+    (λ table. and_then (returned schema table base list)
+    (λ r. and_then (source_of schema (length r.0) r.1) (λ s. Ok (Some (record { names = r.0; row = s }))))) (λ table.
     never_then (returned schema table base list)
-        (λ r. and_then (source_of schema (length r.0) r.1) (λ s. Ok (Some (record { names = r.0; row = s })))) (λ r.
+    (λ r. and_then (source_of schema (length r.0) r.1) (λ s. Ok (Some (record { names = r.0; row = s })))) (λ r.
     never_then (source_of schema (length r.0) r.1) (λ s. Ok (Some (record { names = r.0; row = s })))
-        (λ s. never_some (record { names = r.0; row = s })))))
+    (λ s. never_some (record { names = r.0; row = s })))))
 
 -- nothing is shown only where nothing is asked for
 shows_some : (schema : Schema) (base : ℕ) (name : List ℕ) (list : List Shown) (o : Option Returning) → (length list == 0) ≡ false
@@ -141,7 +141,7 @@ same_parsed : (sql : List ℕ) (o p : Option Returning) → Asks sql o → Asks 
 same_parsed sql o p a b is =
     let same : a.parsed ≡ b.parsed = same_ok a.parsed b.parsed (sym a.is ∙ b.is) in
     returning_both a.schema b.schema a.base b.base b.parsed.statement o p (subst (λ (x : Parsed). returning a.schema a.base x.statement
-        ≡ Ok o) same a.asked) is b.asked
+    ≡ Ok o) same a.asked) is b.asked
 
 plain_returning : (r : Result Compiled CompileError) → IsPlain r → (c : Compiled) × (r ≡ Ok c) × (c.returning ≡ None)
 plain_returning (Ok c) h = (c, refl, h.0)

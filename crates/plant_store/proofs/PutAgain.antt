@@ -15,7 +15,7 @@ again : {K X : Type 0} (R : K → K → Ordering) (key : X → K) → IsTotalOrd
     → put_row R key x (remove_row R key (key x) rows) ≡ put_row R key x rows
 again {K} {X} R key total same x rows up =
     same_rows R key total same _ _ (IsInOrder-put_row R key total same x _ (IsInOrder-remove_row R key total same (key x) rows up))
-        (IsInOrder-put_row R key total same x rows up)
+    (IsInOrder-put_row R key total same x rows up)
     (λ q. row_at-put_row R key total same q x (remove_row R key (key x) rows)
     ∙ ap (cond (eq_by_cmp R q (key x)) (Some x)) (row_at-remove_row R key total same q (key x) rows)
     ∙ by (eq_by_cmp R q (key x)) (row_at R key q rows) ∙ sym (row_at-put_row R key total same q x rows))

@@ -68,49 +68,49 @@ pub own_grants_read : (u p : Name)
     → Reads 3 grant_shape.cells (λ trees. filter (λ g. same_name p g.person) (rows_seen u trees Grants)) (Text u ∷ Text p ∷ []) own_grants_text
 own_grants_read u p =
     reads_some RowOf KeyOf shape good books_schema Grants 3 (λ x. refl) own_grants_text lists_own_grants u (Text p) refl (is_named p)
-        (λ r. two_tests (column r 1) (column r 2) u p) (λ id v x. refl)
+    (λ r. two_tests (column r 1) (column r 2) u p) (λ id v x. refl)
     (λ g. same_name p g.person) (λ id v x. named_same x.person p)
 
 pub alarm_read : (u a : Name)
     → Reads 11 alarm_shape.cells (λ trees. filter (λ r. same_name a r.tag) (rows_seen u trees Alarms)) (Text u ∷ Text a ∷ []) alarm_at_text
 alarm_read u a =
     reads_some RowOf KeyOf shape good books_schema Alarms 11 (λ x. refl) alarm_at_text lists_alarm u (Text a) refl (is_named a)
-        (λ r. two_tests (column r 1) (column r 2) u a) (λ id v x. refl)
+    (λ r. two_tests (column r 1) (column r 2) u a) (λ id v x. refl)
     (λ r. same_name a r.tag) (λ id v x. named_same x.tag a)
 
 pub shelf_read : (u a : Name)
     → Reads 6 shelf_shape.cells (λ trees. filter (λ r. same_name a r.tag) (rows_seen u trees Shelves)) (Text u ∷ Text a ∷ []) shelf_at_text
 shelf_read u a =
     reads_some RowOf KeyOf shape good books_schema Shelves 6 (λ x. refl) shelf_at_text lists_shelf u (Text a) refl (is_named a)
-        (λ r. two_tests (column r 1) (column r 2) u a) (λ id v x. refl)
+    (λ r. two_tests (column r 1) (column r 2) u a) (λ id v x. refl)
     (λ r. same_name a r.tag) (λ id v x. named_same x.tag a)
 
 pub record_read : (u a : Name)
     → Reads 4 record_shape.cells (λ trees. filter (λ r. same_name a r.tag) (rows_seen u trees Records)) (Text u ∷ Text a ∷ []) record_at_text
 record_read u a =
     reads_some RowOf KeyOf shape good books_schema Records 4 (λ x. refl) record_at_text lists_record u (Text a) refl (is_named a)
-        (λ r. two_tests (column r 1) (column r 2) u a) (λ id v x. refl)
+    (λ r. two_tests (column r 1) (column r 2) u a) (λ id v x. refl)
     (λ r. same_name a r.tag) (λ id v x. named_same x.tag a)
 
 pub bands_at_read : (u : Name) (n : ℕ)
     → Reads 3 band_shape.cells (λ trees. filter (λ r. same_number n r.matrix_no) (rows_seen u trees Bands)) (Text u ∷ number n ∷ []) bands_at_text
 bands_at_read u n =
     reads_some RowOf KeyOf shape good books_schema Bands 3 (λ x. refl) bands_at_text lists_bands u (number n) refl (is_numbered n)
-        (λ r. number_tests (column r 1) (column r 2) u n) (λ id v x. refl)
+    (λ r. number_tests (column r 1) (column r 2) u n) (λ id v x. refl)
     (λ r. same_number n r.matrix_no) (λ id v x. numbered_same x.matrix_no n)
 
 pub cells_at_read : (u : Name) (n : ℕ)
     → Reads 4 cell_shape.cells (λ trees. filter (λ r. same_number n r.matrix_no) (rows_seen u trees Cells)) (Text u ∷ number n ∷ []) cells_at_text
 cells_at_read u n =
     reads_some RowOf KeyOf shape good books_schema Cells 4 (λ x. refl) cells_at_text lists_cells u (number n) refl (is_numbered n)
-        (λ r. number_tests (column r 1) (column r 2) u n) (λ id v x. refl)
+    (λ r. number_tests (column r 1) (column r 2) u n) (λ id v x. refl)
     (λ r. same_number n r.matrix_no) (λ id v x. numbered_same x.matrix_no n)
 
 pub change_read : (u : Name) (n : ℕ)
     → Reads 15 change_shape.cells (λ trees. filter (λ r. same_number n r.number) (rows_seen u trees Changes)) (Text u ∷ number n ∷ []) change_at_text
 change_read u n =
     reads_some RowOf KeyOf shape good books_schema Changes 15 (λ x. refl) change_at_text lists_change u (number n) refl (is_numbered n)
-        (λ r. number_tests (column r 1) (column r 2) u n) (λ id v x. refl)
+    (λ r. number_tests (column r 1) (column r 2) u n) (λ id v x. refl)
     (λ r. same_number n r.number) (λ id v x. numbered_same x.number n)
 
 -- ---- how many alarms and how many shelves a unit has
@@ -119,8 +119,8 @@ pub alarms_counted : (u : Name) (old new : State) → AreBooks old.now → (rows
     → length rows ≡ length (rows_seen u old.now.trees Alarms)
 alarms_counted u old new books rows h =
     let found =
-        finds_rows alarm_shape (good Alarms) books_schema (rows_text Alarms) by_unit _ (by_key alarm_shape) _ (lists_all Alarms).is
-        (lists_all Alarms).unlisted (lists_all Alarms).plain (Text u ∷ []) refl (is_of u) (λ r. one_test (column r 1) u)
+    finds_rows alarm_shape (good Alarms) books_schema (rows_text Alarms) by_unit _ (by_key alarm_shape) _ (lists_all Alarms).is
+    (lists_all Alarms).unlisted (lists_all Alarms).plain (Text u ∷ []) refl (is_of u) (λ r. one_test (column r 1) u)
     old new books.same_schema (books.tidy Alarms).apart rows h in
     ap length found ∙ length-map _ _ ∙ sym (length-map _ alarm_shape.read)
 
@@ -128,8 +128,8 @@ pub shelves_counted : (u : Name) (old new : State) → AreBooks old.now → (row
     → length rows ≡ length (rows_seen u old.now.trees Shelves)
 shelves_counted u old new books rows h =
     let found =
-        finds_rows shelf_shape (good Shelves) books_schema shelf_tags_text by_unit _ (by_key shelf_shape) _ shelf_tags.is shelf_tags.unlisted
-        shelf_tags.plain (Text u ∷ []) refl (is_of u) (λ r. one_test (column r 1) u)
+    finds_rows shelf_shape (good Shelves) books_schema shelf_tags_text by_unit _ (by_key shelf_shape) _ shelf_tags.is shelf_tags.unlisted
+    shelf_tags.plain (Text u ∷ []) refl (is_of u) (λ r. one_test (column r 1) u)
     old new books.same_schema (books.tidy Shelves).apart rows h in
     ap length found ∙ length-map _ _ ∙ sym (length-map _ shelf_shape.read)
 

@@ -22,8 +22,8 @@ told_back : {X K : Type 0} (s : Shape X K) → IsShape s → (n : ℕ) → ((x :
 told_back s is n whole rows xs read shown shows =
     let back = λ (r : Row). s.read (Null ∷ Text [] ∷ r) in
     told s.cells back (is.back Null []) _ read shows
-        ∙ ap (map back) (ap (map (columns n)) shown ∙ map-map (columns n) s.cells xs ∙ map_same (λ x. columns n (s.cells x)) s.cells whole xs)
-        ∙ sym (told s.cells back (is.back Null []) _ xs refl)
+    ∙ ap (map back) (ap (map (columns n)) shown ∙ map-map (columns n) s.cells xs ∙ map_same (λ x. columns n (s.cells x)) s.cells whole xs)
+    ∙ sym (told s.cells back (is.back Null []) _ xs refl)
 
 -- ---- what the statement of a text shows
 
@@ -33,7 +33,7 @@ pub shown_decoded : {schema : Schema} {AreIts : Database → Type 0} {X : Type 0
     → map (columns width) lines ≡ map cells read → read ≡ rows old.now.trees
 shown_decoded {schema} {AreIts} {X} {width} {cells} {rows} {params} {text} it old new has are lines shown read decoded =
     it.decoded old.now are lines (reads_as text params old new schema has (command_of (understood schema text)) refl it.plain it.unlisted lines shown)
-        read decoded
+    read decoded
 
 -- and so what is decoded after one question is what its text reads
 pub loads : {schema : Schema} {AreIts : Database → Type 0} {X E : Type 0} {width : ℕ} {cells : X → Row} {rows : Trees → List X} {params : Row}
@@ -65,7 +65,7 @@ module _ (X K : TableKind → Type 0) (s : (i : TableKind) → Shape (X i) (K i)
       let order = by_key (s i) in
       let key = 1 ∷ (s i).keys in
       one_answer tree tests project order key params ordered db.trees lines (are.tidy i).apart
-          (reads tree tests project order db.trees params lines (got.answer Null))
+      (reads tree tests project order db.trees params lines (got.answer Null))
       ∙ ap (λ (l : List Row). map (λ (r : Row). (shows tree tests project order params r).1) (sort_by (by_columns key) l))
       (filter_same (passes tree tests project order params) p same (db.trees tree))
       ∙ shown_kept (s i) (good i) _ (s i).cells shown p (db.trees tree) (are.tidy i).each

@@ -27,7 +27,7 @@ asks_nothing : (schema : Schema) (text : List ℕ) → IsPlain (understood schem
     → Survives before after (CommitsShowing text params before) → Survives before after (λ _. ⊥)
 asks_nothing schema text plain params before after shows =
     survives_weaker before after (CommitsShowing text params before) (λ _. ⊥)
-        (λ _ db commits. never_commits_anywhere schema text plain params before db commits) shows
+    (λ _ db commits. never_commits_anywhere schema text plain params before db commits) shows
 
 -- a query that is plain over the books only reads, whatever it reads
 pub reads_plain : {before after : State} (text : List ℕ) → IsPlain (understood books_schema text)
@@ -41,8 +41,11 @@ pub reads_plain_old : {before after : State} (text : List ℕ) → IsPlain (unde
     → (IsHonest after → (schema : Schema) → IsPlain (understood schema text) → after.now ≡ before.now)
     → (IsHonest after → IsHonest before) → (params : Row) → Survives before after (CommitsShowing text params before) → OnlyReads before after
 reads_plain_old {before} {after} text plain same honest params shows =
-    record { same = λ tell. same tell old_books_schema plain; honest = honest;
-        quiet = asks_nothing old_books_schema text plain params before after shows }
+    record {
+      same = λ tell. same tell old_books_schema plain;
+      honest = honest;
+      quiet = asks_nothing old_books_schema text plain params before after shows;
+    }
 
 -- the books stand as in an earlier state
 pub record Still (old s : State) : Type 0 where

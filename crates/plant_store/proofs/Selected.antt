@@ -106,17 +106,43 @@ module _ (s : State) (m : Content) (u : Name) (k : HasContent s m) where
       → ((rows : UnitRows) → rows.alarms ≡ rows_seen u s.now.trees Alarms → rows.changes ≡ rows_seen u s.now.trees Changes
       → (looks_at_events c.request ≡ true → rows.events ≡ all_events) → count ≡ counted_for rows c.request)
       → ◌≡◌ {A = UnitPart}
-      (record { rows = record { units = units; grants = grants; alarms = alarms; shelves = shelves; events = events; bands = bands; cells = cells;
-      records = records; changes = changes }; count = count }) (part_of_holder c (rows_in m u))
+      (record {
+        rows = record {
+          units = units;
+          grants = grants;
+          alarms = alarms;
+          shelves = shelves;
+          events = events;
+          bands = bands;
+          cells = cells;
+          records = records;
+          changes = changes;
+        };
+        count = count;
+      }) (part_of_holder c (rows_in m u))
   part_found c chosen is units us all ha grants gs tags ts beside shelved hs shelves ss alarms as_ looks he all_events ae events es records rs bands
       bs cells ls changes cs count ns =
       let rows = rows_in m u in
       let shelves_so : shelves ≡ filter (λ r. chosen.shelf r.tag) rows.shelves = ss ∙ rows_are shelf_tag chosen.shelf shelved hs _
-          ∙ ap (filter (λ r. chosen.shelf r.tag)) (k.seen u Shelves) in
+      ∙ ap (filter (λ r. chosen.shelf r.tag)) (k.seen u Shelves) in
       let whole : ◌≡◌ {A = UnitPart}
-          (record { rows = record { units = units; grants = grants; alarms = alarms; shelves = shelves; events = events; bands = bands; cells = cells;
-          records = records; changes = changes }; count = count }) (record { rows = rows_selected c.person chosen rows;
-          count = counted_for rows c.request }) = λ i. record {
+      (record {
+        rows = record {
+          units = units;
+          grants = grants;
+          alarms = alarms;
+          shelves = shelves;
+          events = events;
+          bands = bands;
+          cells = cells;
+          records = records;
+          changes = changes;
+        };
+        count = count;
+      }) (record {
+        rows = rows_selected c.person chosen rows;
+        count = counted_for rows c.request;
+      }) = λ i. record {
         rows = record {
           units = (us ∙ k.seen u Units) i;
           grants = (gs ∙ seen_grants c chosen all ha) i;
@@ -157,12 +183,14 @@ module _ (s : State) (m : Content) (u : Name) (k : HasContent s m) where
   stranger_found c units us any own os held part rows none =
       let whole : ◌≡◌ {A = UnitPart} part (part_of_stranger c (rows_in m u)) = λ i. record {
         rows = (rows
-            ∙ (λ j. record no_rows { units = (us ∙ k.seen u Units) j;
-            grants = (os ∙ ap (filter (λ (g : GrantRow). same_name c.person g.person)) (k.seen u Grants)) j })) i;
+            ∙ (λ j. record no_rows {
+              units = (us ∙ k.seen u Units) j;
+              grants = (os ∙ ap (filter (λ (g : GrantRow). same_name c.person g.person)) (k.seen u Grants)) j;
+            })) i;
         count = none i;
       } in
       ap Some (whole
-          ∙ sym (ap (λ b. if b then part_of_holder c (rows_in m u) else part_of_stranger c (rows_in m u)) (sym (own_tell c own os) ∙ held)))
+      ∙ sym (ap (λ b. if b then part_of_holder c (rows_in m u) else part_of_stranger c (rows_in m u)) (sym (own_tell c own os) ∙ held)))
       ∙ sym (ap (option_map (part_of c)) (kept_rows s m u k (ap has_any (sym us) ∙ any)))
 
   pub no_part : (c : Call) (units : List UnitRow) → units ≡ rows_seen u s.now.trees Units → has_any units ≡ false

@@ -33,7 +33,7 @@ took_then {u} {p} {q} {had} {mid} {has} {old} {between} {new} one two = record {
       let first = one.made before old_books early started books in
       let second = two.made honest (subst AreOldBooks (sym is) old_books) clean (one.stays.inside early started) first.books in
       applies_then u (p had.now.trees)
-          (q had.now.trees) old.now between.now new.now first (subst (λ (d : Database). Applies u (q d.trees) between.now new.now) is second);
+      (q had.now.trees) old.now between.now new.now first (subst (λ (d : Database). Applies u (q d.trees) between.now new.now) is second);
 }
 
 -- rows that were put as what they become

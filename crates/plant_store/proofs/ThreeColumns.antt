@@ -151,8 +151,12 @@ module _ (schema : Schema) (name : Name) (k : ℕ) (t : Table) (is_named : table
       are_shown : body.outputs lower showing (table_bound ∷ []) (w.s₁ ∷ w.s₂ ∷ w.s₃ ∷ []) (state_with max_budget nothing) ≡ Ok (all, after)
       unfolding body.outputs
       are_shown =
-          rw (is_shown n₁ c₁ w.s₁ w.w₁ max_budget refl nothing [], is_shown n₂ c₂ w.s₂ w.w₂ 99999 refl (carried n₁ c₁) (output n₁ c₁
-          ∷ []), is_shown n₃ c₃ w.s₃ w.w₃ 99998 refl (carried n₂ c₂) (output n₁ c₁ ∷ output n₂ c₂ ∷ []))
+          rw (
+            is_shown n₁ c₁ w.s₁ w.w₁ max_budget refl nothing [],
+            is_shown n₂ c₂ w.s₂ w.w₂ 99999 refl (carried n₁ c₁) (output n₁ c₁
+                ∷ []),
+            is_shown n₃ c₃ w.s₃ w.w₃ 99998 refl (carried n₂ c₂) (output n₁ c₁ ∷ output n₂ c₂ ∷ []),
+          )
 
       is_result : body.result lower (outermost schema) tables_level w.core (state_with max_budget nothing) ≡ Ok (all, after)
       unfolding body.result
@@ -172,8 +176,14 @@ module _ (schema : Schema) (name : Name) (k : ℕ) (t : Table) (is_named : table
 
       abbrev clauses : Clauses
       clauses =
-          record { body = record { level = shown_level; steps = Inner t.tree ∷ []; filter = [] }; is_grouped = false; keys = []; collations = [];
-          having = []; order = [] }
+          record {
+            body = record { level = shown_level; steps = Inner t.tree ∷ []; filter = [] };
+            is_grouped = false;
+            keys = [];
+            collations = [];
+            having = [];
+            order = [];
+          }
 
       are_parts : parts schema w.core [] (fresh 1 max_budget) ≡ Ok (clauses, after)
       unfolding parts Rattle.sqlite_resolve.specs.Order.keys Rattle.sqlite_resolve.specs.Order.sorts Rattle.sqlite_resolve.specs.Select.having

@@ -13,7 +13,7 @@ use Rattle.plant_books.specs.Contents.{Content, rows_in}
 use Rattle.plant_columns.specs.{Kept.{by_columns, is_of}, Shape.{IsRowIn, rows_in as rows_of}}
 use Rattle.plant_columns.specs.declared.tables.TableKind.{TableKind, TheVariants.{Alarms, Bands, Cells, Changes, Events, Grants, Records, Shelves}}
 use Rattle.plant_columns.specs.declared.tables.TableKind.TheVariants.{Units}
-use Rattle.plant_columns.specs.Tables.{AreSeen, RowOf, rows_at, shape}
+use Rattle.plant_columns.specs.Tables.{AreSeen, RowOf, rows_of_table, shape}
 use Rattle.plant_columns.proofs.public.{Bridge.{AreRising as Rise}, Kept.{all-sort, sort-filter, strict-sort}}
 use Rattle.plant_columns.proofs.public.{Keys.{by_columns_total}, ShapeLaws.{good}, Shapes.{named, rising}}
 use Rattle.plant_model.specs.{RowChanges.{changed_by, no_rows}, RowFacts.{pair_of}, declared.rows.Row.TheVariants.{Unit as UnitPut}}
@@ -64,22 +64,22 @@ puts_units (x ∷ y ∷ xs) up = absurd (cc up.0.0)
 
 -- of any other table
 puts_into : (i : TableKind) → i ≢ Units → (xs : List (RowOf i)) (rows : UnitRows)
-    → changed_by (map (λ r. Put (as_row i r)) xs) rows ≡ with_rows i (filled (shape i).order (shape i).key xs (rows_at i rows)) rows
+    → changed_by (map (λ r. Put (as_row i r)) xs) rows ≡ with_rows i (filled (shape i).order (shape i).key xs (rows_of_table i rows)) rows
 puts_into Units apart xs rows = absurd (apart refl)
 puts_into i apart [] rows = refl
-puts_into i apart (x ∷ xs) rows = puts_into i apart xs (with_rows i (put_row (shape i).order (shape i).key x (rows_at i rows)) rows)
+puts_into i apart (x ∷ xs) rows = puts_into i apart xs (with_rows i (put_row (shape i).order (shape i).key x (rows_of_table i rows)) rows)
 
 -- into one without rows
-puts_rising : (i : TableKind) → i ≢ Units → (xs : List (RowOf i)) → Rise (shape i).order (shape i).key xs → (rows : UnitRows) → rows_at i rows ≡ []
+puts_rising : (i : TableKind) → i ≢ Units → (xs : List (RowOf i)) → Rise (shape i).order (shape i).key xs → (rows : UnitRows) → rows_of_table i rows ≡ []
     → changed_by (map (λ r. Put (as_row i r)) xs) rows ≡ with_rows i xs rows
 puts_rising i apart xs up rows none =
     puts_into i apart xs rows
-        ∙ ap (λ l. with_rows i l rows)
-        (ap (filled (shape i).order (shape i).key xs) none ∙ filled_none (shape i).order (shape i).key (good i).total xs up)
+    ∙ ap (λ l. with_rows i l rows)
+    (ap (filled (shape i).order (shape i).key xs) none ∙ filled_none (shape i).order (shape i).key (good i).total xs up)
 
 -- the rows of each table rise
 abbrev AreRising : UnitRows → Type 0
-AreRising rows = (i : TableKind) → Rise (shape i).order (shape i).key (rows_at i rows)
+AreRising rows = (i : TableKind) → Rise (shape i).order (shape i).key (rows_of_table i rows)
 
 then : (xs ys : List RowEdit) (a b c : UnitRows) → changed_by xs a ≡ b → changed_by ys b ≡ c → changed_by (xs ++ ys) a ≡ c
 then xs ys a b c p q = changed_by-append xs ys a ∙ ap (changed_by ys) p ∙ q

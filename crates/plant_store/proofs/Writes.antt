@@ -14,7 +14,7 @@ use Rattle.plant_types.specs.{KeyedRows.{IsInOrder, put_row}, Names.{Name}, decl
 use Rattle.plant_columns.specs.{Codes.{role}, Shape.{rows_in, row_in, table_in}}
 use Rattle.plant_columns.specs.declared.tables.TableKind.{TableKind, TheVariants.{Units, Grants, Alarms, Shelves, Bands, Cells, Events, Records}}
 use Rattle.plant_columns.specs.declared.tables.TableKind.TheVariants.{Changes}
-use Rattle.plant_columns.specs.Tables.{AreBooks, AreSeen, KeyOf, RowOf, books_schema, office_table, own_key, rows_at, rows_seen, shape, unit_shape}
+use Rattle.plant_columns.specs.Tables.{AreBooks, AreSeen, KeyOf, RowOf, books_schema, office_table, own_key, rows_of_table, rows_seen, shape, unit_shape}
 use Rattle.sqlite.proofs.Callers.{runs_as}
 use Rattle.plant_columns.proofs.public.{Changes.{HasNoReferences}, Family.{Edits, edits, kept_at, same_table}, Inserted.{adds_row}}
 use Rattle.plant_columns.proofs.public.{ShapeLaws.{all_listed, good, listed}, Shapes.{put_changes, remove_changes, removes_row, rises}}
@@ -40,8 +40,8 @@ office_apart i e = omega arith
 
 pub edits_apply : (i : TableKind) (u : Name) (change : List (RowOf i) → List (RowOf i)) (cs : List RowEdit) (old new : Database)
     → Edits RowOf KeyOf shape books_schema i u change old new
-    → ((rows : UnitRows) → AreSeen u old rows → rows_at i (changed_by cs rows) ≡ change (rows_at i rows))
-    → ((rows : UnitRows) (j : TableKind) → j ≢ i → rows_at j (changed_by cs rows) ≡ rows_at j rows)
+    → ((rows : UnitRows) → AreSeen u old rows → rows_of_table i (changed_by cs rows) ≡ change (rows_of_table i rows))
+    → ((rows : UnitRows) (j : TableKind) → j ≢ i → rows_of_table j (changed_by cs rows) ≡ rows_of_table j rows)
     → (IsDatabase old → IsDatabase new) → Applies u cs old new
 edits_apply i u change cs old new it here elsewhere database = record {
   books = it.tables;
@@ -51,9 +51,9 @@ edits_apply i u change cs old new it here elsewhere database = record {
   database = database;
 }
   where
-    one : (rows : UnitRows) → AreSeen u old rows → (j : TableKind) → (j ≡ i) ⊎ (j ≢ i) → rows_seen u new.trees j ≡ rows_at j (changed_by cs rows)
+    one : (rows : UnitRows) → AreSeen u old rows → (j : TableKind) → (j ≡ i) ⊎ (j ≢ i) → rows_seen u new.trees j ≡ rows_of_table j (changed_by cs rows)
     one rows seen j (inl e) =
-        subst (λ k. rows_seen u new.trees k ≡ rows_at k (changed_by cs rows)) (sym e) (it.mine ∙ ap change (seen i) ∙ sym (here rows seen))
+        subst (λ k. rows_seen u new.trees k ≡ rows_of_table k (changed_by cs rows)) (sym e) (it.mine ∙ ap change (seen i) ∙ sym (here rows seen))
     one rows seen j (inr apart) = ap (rows_in (shape j) u) (it.other_tables j apart) ∙ seen j ∙ sym (elsewhere rows j apart)
 
     other : (v : Name) → v ≢ u → (j : TableKind) → (j ≡ i) ⊎ (j ≢ i) → rows_seen v new.trees j ≡ rows_seen v old.trees j
@@ -104,7 +104,7 @@ with_rows Records xs rows = record rows { records = xs }
 with_rows Changes xs rows = record rows { changes = xs }
 
 -- the rows of all other tables stay
-away : (i : TableKind) (xs : List (RowOf i)) (rows : UnitRows) (j : TableKind) → j ≢ i → rows_at j (with_rows i xs rows) ≡ rows_at j rows
+away : (i : TableKind) (xs : List (RowOf i)) (rows : UnitRows) (j : TableKind) → j ≢ i → rows_of_table j (with_rows i xs rows) ≡ rows_of_table j rows
 away Units xs rows Units h = absurd (h refl)
 away Grants xs rows Grants h = absurd (h refl)
 away Alarms xs rows Alarms h = absurd (h refl)
@@ -127,7 +127,7 @@ edited Units u x old new books it database =
     (λ rows. away Units (x ∷ []) rows) database
 edited i u x old new books it database =
     edits_apply i u (put_row (shape i).order (shape i).key x) (Put (as_row i x) ∷ []) old new it (λ rows seen. refl)
-        (λ rows. away i (put_row (shape i).order (shape i).key x (rows_at i rows)) rows) database
+    (λ rows. away i (put_row (shape i).order (shape i).key x (rows_of_table i rows)) rows) database
 
 -- the statement that puts a row as a new one puts it, if it succeeds
 abbrev pub PutsNew : TableKind → Type 1
@@ -141,8 +141,8 @@ put_applies i S V g before after u x cells said is books h =
     let old = state g before in
     let new = state g after in
     on_ok said
-        (λ it. edited i u x old.now new.now books (put_in_table i u x old new books it.0 it.1) (λ _. put_database i u x old new books it.0 it.1))
-        (rw is at h)
+    (λ it. edited i u x old.now new.now books (put_in_table i u x old new books it.0 it.1) (λ _. put_database i u x old new books it.0 it.1))
+    (rw is at h)
 
 -- ---- the removes: a row of the key stands for the one that goes
 
@@ -216,7 +216,7 @@ applies_event u xs e a b c p q = record {
   mine = λ rows seen.
       let before : UnitRows = record rows { events = with_events rows.events xs } in
       subst (λ (es : List Event). AreSeen u c (record rows { events = es })) (sym (with_one_more rows.events xs e))
-          (q.mine before (p.mine rows seen));
+      (q.mine before (p.mine rows seen));
   others = λ other apart i. q.others other apart i ∙ p.others other apart i;
   office = q.office ∙ p.office;
   database = λ h. q.database (p.database h);

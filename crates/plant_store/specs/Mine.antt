@@ -32,8 +32,8 @@ unit_line_cells l = Text l.unit ∷ role l.role_no ∷ open_number l.end_s ∷ n
 abbrev pub unit_line : Name → GrantRow → UnitRow → UnitLine
 unit_line u g r = record { unit = u; role_no = g.role_no; end_s = g.end_s; last_s = r.last_s }
 
-abbrev pub unit_lines : Content → Name → List UnitLine
-unit_lines m p = lines_of unit_line (λ rows. rows.units) m p
+abbrev pub own_unit_lines : Content → Name → List UnitLine
+own_unit_lines m p = lines_of unit_line (λ rows. rows.units) m p
 
 -- those of grants that have not ended
 abbrev pub standing_units : ℕ → List UnitLine → List UnitLine
@@ -73,8 +73,8 @@ shelf_line_cells l = Text l.unit ∷ role l.role_no ∷ open_number l.end_s ∷ 
 abbrev pub shelf_line : Name → GrantRow → ShelfRow → ShelfLine
 shelf_line u g s = record { unit = u; role_no = g.role_no; end_s = g.end_s; shelf = s }
 
-abbrev pub shelf_lines : Content → Name → List ShelfLine
-shelf_lines m p = lines_of shelf_line (λ rows. rows.shelves) m p
+abbrev pub own_shelf_lines : Content → Name → List ShelfLine
+own_shelf_lines m p = lines_of shelf_line (λ rows. rows.shelves) m p
 
 -- lines come by unit, role and tag
 abbrev pub line_cmp : ShelfLine → ShelfLine → Ordering

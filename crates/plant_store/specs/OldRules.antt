@@ -79,7 +79,7 @@ old_kind_refusals f base (Rationale a s) =
     ∷ (was_not_needed (priority_of f.matrix s.severity s.response), refused.NotAnAlarm) ∷ []
 old_kind_refusals f base (Matrix m) =
     old_base_changed base (matrix_revision_of f)
-        ∷ (list_any (λ r. not (is_some (row_of m r.severity))) f.rationales, refused.OutsideMatrix) ∷ []
+    ∷ (list_any (λ r. not (is_some (row_of m r.severity))) f.rationales, refused.OutsideMatrix) ∷ []
 old_kind_refusals f base (Limit a max) = old_base_changed base (limit_revision_of f a) ∷ []
 
 -- a decision is about a change that is there and not decided yet
@@ -110,7 +110,7 @@ old_own_refusals f p t (request.Register u a l m) =
 old_own_refusals f p t (request.Import u file) = old_file_refusals f t file
 old_own_refusals f p t (request.TimedShelve u a d w) =
     old_unknown f a ∷ (nat_lt (limit_of f a) d, refused.ShelvingTimeOutOfRange (limit_of f a))
-        ∷ (is_timed (shelf_now f a t), refused.ConditionAlreadyShelved) ∷ []
+    ∷ (is_timed (shelf_now f a t), refused.ConditionAlreadyShelved) ∷ []
 old_own_refusals f p t (request.OneShotShelve u a w) =
     old_unknown f a ∷ (is_one_shot (shelf_now f a t), refused.ConditionAlreadyShelved) ∷ []
 old_own_refusals f p t (request.Unshelve u a) =

@@ -34,8 +34,11 @@ old_unit_shape = record {
   order = nat_cmp;
   key = old_own_key;
   cells = λ r. number r.last_s ∷ number r.matrix_no ∷ number r.matrix_rev ∷ [];
-  read = λ r. record { last_s = number_in (column r 2); matrix_no = number_in (column r 3);
-      matrix_rev = number_in (column r 4) };
+  read = λ r. record {
+    last_s = number_in (column r 2);
+    matrix_no = number_in (column r 3);
+    matrix_rev = number_in (column r 4);
+  };
 }
 
 abbrev pub old_grant_shape : Shape OldGrantRow Pair

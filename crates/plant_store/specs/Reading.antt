@@ -28,7 +28,7 @@ IsHonestIn g conn = IsHonest (state g conn)
 abbrev pub SameIfPlain : {S : Type 0} → Ghosts S → Held S → Held S → List ℕ → Type 0
 SameIfPlain g before after sql =
     IsHonest (state g after) → (schema : Schema) → IsPlain (understood schema sql)
-        → (state g after).now ≡ (state g before).now
+    → (state g after).now ≡ (state g before).now
 
 -- a crash leaves what it left before, or what the query commits
 abbrev pub CrashesAsShown : {S : Type 0} → Ghosts S → Held S → Held S → List ℕ → List ValueRef → Type 0
@@ -40,7 +40,7 @@ abbrev pub Asks : {S A E : Type 0} → Ghosts S → Held S → Held S → List �
     → Type 0
 Asks g before after sql cells said lines =
     HasCleanDisk (state g after)
-        → IfOk said (λ rows. IsShown sql (bound cells) (state g before) (state g after) (lines rows))
+    → IfOk said (λ rows. IsShown sql (bound cells) (state g before) (state g after) (lines rows))
 
 -- on a clean disk the rows are those whose cells the query shows
 abbrev pub Decodes : {S X E : Type 0} → Ghosts S → Held S → Held S → List ℕ → List ValueRef → ℕ → (X → Line)
@@ -54,7 +54,7 @@ Decodes g before after sql cells width shown said =
 abbrev pub Loads : {S A E : Type 0} → Ghosts S → Held S → Held S → (Trees → A) → Result A E → Type 0
 Loads g before after what said =
     HasCleanDisk (state g after) → AreBooks (state g before).now
-        → IfOk said (λ found. found ≡ what (state g before).now.trees)
+    → IfOk said (λ found. found ≡ what (state g before).now.trees)
 
 -- on a clean disk the rows are the unit's rows of this tag
 abbrev pub LoadsTag : {S X E : Type 0} → Ghosts S → Held S → Held S → (Name → Trees → List X) → Name → (X → Name) → Name
@@ -72,7 +72,7 @@ LoadsNumber g before after seen unit number_of number said =
 abbrev pub LoadsOld : {S A E : Type 0} → Ghosts S → Held S → Held S → (Trees → A) → Result A E → Type 0
 LoadsOld g before after what said =
     HasCleanDisk (state g after) → AreOldBooks (state g before).now
-        → IfOk said (λ found. found ≡ what (state g before).now.trees)
+    → IfOk said (λ found. found ≡ what (state g before).now.trees)
 
 -- on a clean disk the lines have the codes of all units of schema 1
 abbrev pub LoadsOldCodes : {S E : Type 0} → Ghosts S → Held S → Held S → Result (List CodeLine) E → Type 0

@@ -19,7 +19,7 @@ abbrev pub Takes : {S N X V E : Type 0} → Ghosts S → Held S → Held S → G
     → (Name → Trees → List X) → (X → Row) → Result V E → Type 0
 Takes g from from_after h tx tx_after unit had becomes said =
     OfOldTables g from from_after
-        (λ trees. Writes h tx tx_after unit (map (λ r. Put (becomes r)) (had unit trees)) said)
+    (λ trees. Writes h tx tx_after unit (map (λ r. Put (becomes r)) (had unit trees)) said)
 
 -- the unit's rows of all tables are taken over
 abbrev pub TakesUnit : {S N V E : Type 0} → Ghosts S → Held S → Held S → Ghosts N → Transaction N → Transaction N → Name
@@ -41,4 +41,4 @@ TakesUnits g from from_after h tx tx_after lines said =
 abbrev pub AreTaken : State → State → Name → Trees → Type 0
 AreTaken from from_after admin db =
     IsHonest from_after → (m : Content) → m.admin ≡ admin → HaveOldRows m from.now
-        → (d : Database) × (d.trees ≡ db) × AreBooksOf m d
+    → (d : Database) × (d.trees ≡ db) × AreBooksOf m d

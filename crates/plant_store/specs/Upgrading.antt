@@ -8,7 +8,7 @@ use Rattle.plant_books.specs.Contents.{Content, rows_in}
 use Rattle.plant_columns.specs.Kept.{by_columns, kept}
 use Rattle.plant_columns.specs.declared.tables.TableKind.{TableKind, TheVariants.{Alarms, Bands, Cells, Changes, Events, Grants, Records, Shelves}}
 use Rattle.plant_columns.specs.declared.tables.TableKind.TheVariants.{Units}
-use Rattle.plant_columns.specs.Tables.{AreBooks, AreSeen, RowOf, all_tables, rows_at}
+use Rattle.plant_columns.specs.Tables.{AreBooks, AreSeen, RowOf, all_tables, rows_of_table}
 use Rattle.plant_model.specs.{RowChanges.{no_rows}, declared.rows.GrantRow.{GrantRow}}
 use Rattle.plant_model.specs.declared.rows.Row.TheVariants.{Alarm as AlarmPut, Band as BandPut, Cell as CellPut, Change as ChangePut, Event as EventPut, Grant as GrantPut, Record as RecordPut, Shelf as ShelfPut, Unit as UnitPut}
 use Rattle.plant_model.specs.declared.rows.{Row.{Row}, RowEdit.{RowEdit, TheVariants.{Put}}, UnitRow.{UnitRow}, UnitRows.{UnitRows}}
@@ -60,7 +60,7 @@ as_row Changes x = ChangePut x
 
 -- the puts of the rows of one table, and of all
 abbrev pub puts_of : UnitRows → TableKind → List RowEdit
-puts_of rows i = map (λ r. Put (as_row i r)) (rows_at i rows)
+puts_of rows i = map (λ r. Put (as_row i r)) (rows_of_table i rows)
 
 abbrev pub puts_all : UnitRows → List RowEdit
 puts_all rows = flat_map (puts_of rows) all_tables

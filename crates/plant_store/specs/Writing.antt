@@ -42,14 +42,14 @@ abbrev pub Writes : {S V E : Type 0} → Ghosts S → Transaction S → Transact
     → Type 0
 Writes g before after unit changes said =
     HasCleanDisk (state g after.conn.now) → IsTrue before.conn.now.in_transaction
-        → AreBooks (state g before.conn.now).now
+    → AreBooks (state g before.conn.now).now
     → OnOk said (Applies unit changes (state g before.conn.now).now (state g after.conn.now).now)
 
 -- after a success on a clean disk this change of the unit's rows is made if a row was written, and nothing else is
 abbrev pub Updates : {S E : Type 0} → Ghosts S → Transaction S → Transaction S → Name → RowEdit → Result ℕ E → Type 0
 Updates g before after unit change said =
     HasCleanDisk (state g after.conn.now) → IsTrue before.conn.now.in_transaction
-        → AreBooks (state g before.conn.now).now
+    → AreBooks (state g before.conn.now).now
     → IfOk said
     (λ count. Applies unit (changes_written count change) (state g before.conn.now).now (state g after.conn.now).now)
 

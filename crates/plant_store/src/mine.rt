@@ -3,7 +3,7 @@
 ghost use Rattle.std.specs.Prelude.{◌≡◌, ◌++◌, ◌∷◌, [], IfOk, OnOk};
 ghost use Rattle.plant_books.specs.Contents.{codes_held, mine_units as units_held};
 ghost use Rattle.plant_store.specs.Mine.{AreCodes, JoinsLine, holding_cells, runs_of, standing_units, started};
-ghost use Rattle.plant_store.specs.Mine.{unit_line_cells, unit_lines as unit_lines_in};
+ghost use Rattle.plant_store.specs.Mine.{unit_line_cells, own_unit_lines};
 ghost use Rattle.plant_store.specs.Reading.{HasNoTransaction, IsOnlyRead, ReadsContent};
 
 use crate::read::read_rows;
@@ -11,7 +11,7 @@ use plant_books::MineUnit;
 use plant_columns::decode::{Shown, coded, moment, open_moment, text};
 use plant_columns::encode::single;
 use plant_model::is_before;
-use plant_types::{Duplicate, List, Moment, Person, Role, UnitCode};
+use plant_types::{List, Moment, Person, Role, TryCopy, UnitCode};
 use sqlite::{Alter, Connection, Error, ErrorCode, Row};
 use std::alloc::Global;
 use std::collections::BTreeSet;
@@ -46,11 +46,11 @@ pub fn push<T: Drop>(table: &mut List<T>, row: T) -> Result<(), Error>
 }
 
 /// The same value again.
-pub fn copy_of<T: Duplicate>(alloc: Global, value: &T) -> Result<T, Error>
+pub fn copy_of<T: TryCopy>(alloc: Global, value: &T) -> Result<T, Error>
     ensures { IfOk result (λ copy. copy ≡ value.now) }
 {
     value
-        .duplicate(alloc)
+        .copy(alloc)
         .map_err(|_| Error::SqliteFailure(ErrorCode::OutOfMemory))
 }
 
@@ -128,7 +128,7 @@ fn unit_lines<S: Alter>(
     requires { HasNoTransaction conn.old }
     ensures mode { HasNoTransaction conn.new }
     ensures found { ReadsContent S.Store conn.old conn.new result
-        (λ m. unit_lines_in m person.now) }
+        (λ m. own_unit_lines m person.now) }
     ensures reads { IsOnlyRead S.Store conn.old conn.new }
 {
     read_rows(

@@ -10,11 +10,11 @@ ghost use Rattle.plant_store.specs.Parts.{AreAskedBy, LoadsApproved, LoadsCount,
 ghost use Rattle.plant_store.specs.{Reading.{HasNoTransaction, Loads, IsOnlyRead, ReadsContent}, Wanted.{alarms_left, rows_with}};
 ghost use Rattle.plant_columns.specs.{Tables.{rows_seen}, declared.tables.TableKind.TheVariants.{Units}};
 
-use crate::numbers::{matrix_rows, some_changes};
 use crate::read::{
     all_rows, count_of, count_of_alarms, count_of_shelves, last_change_number, own_grants,
     row_of_tag, rows_of_number,
 };
+use crate::scope_rows::{matrix_rows, some_changes};
 use crate::stored::Tagged;
 use crate::unit::has_row;
 use plant_alarm::Event;

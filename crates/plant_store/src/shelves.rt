@@ -4,7 +4,7 @@ ghost use Rattle.std.specs.List.{dedup};
 ghost use Rattle.std.specs.Prelude.{◌≡◌, map};
 ghost use Rattle.plant_books.specs.Contents.{mine_shelves as shelves_held};
 ghost use Rattle.plant_store.specs.Mine.{line_cmp, repeats, shelf_line_cells};
-ghost use Rattle.plant_store.specs.Mine.{shelf_lines as shelf_lines_in, standing_shelves, with_return};
+ghost use Rattle.plant_store.specs.Mine.{own_shelf_lines, standing_shelves, with_return};
 ghost use Rattle.plant_store.specs.Reading.{HasNoTransaction, IsOnlyRead, ReadsContent};
 
 use crate::mine::push;
@@ -70,7 +70,7 @@ fn shelf_lines<S: Alter>(
     requires { HasNoTransaction conn.old }
     ensures mode { HasNoTransaction conn.new }
     ensures found { ReadsContent S.Store conn.old conn.new result
-        (λ m. shelf_lines_in m person.now) }
+        (λ m. own_shelf_lines m person.now) }
     ensures reads { IsOnlyRead S.Store conn.old conn.new }
 {
     let found: List<ShelfLine> = read_rows(

@@ -58,9 +58,9 @@ spelled_by_parts (a ∷ b ∷ c ∷ d ∷ e ∷ f ∷ g ∷ h ∷ i ∷ j ∷ k 
     let minute = of_two o p mno.2 pqr.0 in
     let second = of_two r s pqr.2 (left _ _ pqr.3) in
     put year.0
-        (put year.1
-        (put year.2
-        (put year.3 (put (eqb-true e 45 def.1) (put month.0 (put month.1 (put (eqb-true h 45 ghi.1) (put day.0 (put day.1 (put (eqb-true k 84 jkl.1)
+    (put year.1
+    (put year.2
+    (put year.3 (put (eqb-true e 45 def.1) (put month.0 (put month.1 (put (eqb-true h 45 ghi.1) (put day.0 (put day.1 (put (eqb-true k 84 jkl.1)
     (put hour.0
     (put hour.1
     (put (eqb-true n 58 mno.1)
@@ -76,8 +76,10 @@ record IsDay (y m d : ℕ) : Type 0 where
 day_of : (y m d : ℕ) → is_date y m d ≡ true → IsDay y m d
 day_of y m d e =
     let is = date_is y m d e in
-    record { low = is.low;
-        civil = ((omega (arith, ints, is.low), omega (arith, ints, is.high)), (is.first_month, is.last_month), (is.first_day, is.last_day)) }
+    record {
+      low = is.low;
+      civil = ((omega (arith, ints, is.low), omega (arith, ints, is.high)), (is.first_month, is.last_month), (is.first_day, is.last_day));
+    }
 
 -- days with one number are the same day
 no_earlier_year : (y m d z n e : ℕ) → IsDay y m d → IsDay z n e → day_count (pos y) m d ≡ day_count (pos z) n e → z ≤ y
@@ -143,7 +145,7 @@ same_spelling a b p q same =
     let day' = day_of b.year b.month b.day (left _ _ q) in
     let clock = same_clock _ a.hour a.minute a.second _ b.hour b.minute b.second (time_is _ _ _ (right _ _ p)) (time_is _ _ _ (right _ _ q)) same in
     let date =
-        same_date a.year a.month a.day b.year b.month b.day day day' (since_same a.year a.month a.day b.year b.month b.day day day' clock.days) in
+    same_date a.year a.month a.day b.year b.month b.day day day' (since_same a.year a.month a.day b.year b.month b.day day day' clock.days) in
     rw (date.year, date.month, date.day, clock.hour, clock.minute, clock.second) refl
 
 -- what is read was of the form, a day and a time

@@ -46,7 +46,7 @@ module _ (es : List Event) (e : Event) where
       let same : r ≡ x = cc in
       let tag : x.tag ≡ e.tag = ap alarm_tag (sym same) ∙ same_names r.tag e.tag (tied (name_cmp r.tag e.tag) true t refl) in
       let here : summary r.latching (of_alarm r.tag es ++ e ∷ []) ≡ summary_of (es ++ e ∷ []) x = sym (own es e r t)
-          ∙ ap (summary_of (es ++ e ∷ [])) same in
+      ∙ ap (summary_of (es ++ e ∷ [])) same in
       let rest : summaries rows es ≡ summaries rows (es ++ e ∷ []) = sym (all_after rows (subst (λ (a : Name). After a rows) tag order.0)) in
       λ i. here i ∷ rest i
   set_own (x ∷ rows) (suc p) r order h is t =
@@ -61,7 +61,7 @@ module _ (es : List Event) (e : Event) where
   none_own (x ∷ rows) zero order h away =
       let other : same_name x.tag e.tag ≡ false = away x refl in
       let below : name_cmp e.tag x.tag ≡ Less =
-          back name_total x.tag e.tag (greater (name_cmp x.tag e.tag) (h.1 0 x (omega arith) (omega arith)) other) in
+      back name_total x.tag e.tag (greater (name_cmp x.tag e.tag) (h.1 0 x (omega arith) (omega arith)) other) in
       λ i. sym (others es e x other) i ∷ sym (all_after rows (after_more name_cmp alarm_tag name_total e.tag x.tag rows below order.0)) i
   none_own (x ∷ rows) (suc p) order h away =
       let here : summary_of es x ≡ summary_of (es ++ e ∷ []) x = sym (others es e x (before_it x (h.0 0 x (omega arith) (omega arith)))) in

@@ -32,7 +32,7 @@ few_other : (h : List Call) (p : Name) (t : ℕ) (q : Request) → imported q �
     → length (events (made p t q ∷ h)) ≤ max_events
 few_other h p t q none few =
     subst (λ (rows : List Event). length (filter_map (λ n. or_else (find (has_number n) rows) (event_numbered h n)) (in_order nat_cmp (numbers_of rows
-        ++ numbers_of_events h))) ≤ max_events) (sym none) few
+    ++ numbers_of_events h))) ≤ max_events) (sym none) few
 
 few_next : (h : List Call) (p : Name) (t : ℕ) (q : Request) → IsLegal h → IsEntry h (made p t q) → length (events h) ≤ max_events
     → length (events (made p t q ∷ h)) ≤ max_events

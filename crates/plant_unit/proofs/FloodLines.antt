@@ -22,7 +22,7 @@ line_more begin until i runs r lines new line moment ends lt is so pushed told =
     let end : EndsBy begin until r = subst (λ (x : Run). EndsBy begin until x) (sym is) (ends i r lt) in
     let here : line ≡ flood_line begin r = told (moment_below _ until (omega (arith, end.0, end.1)) moment) (moment_below _ until end.1 moment) in
     pushed ∙ (λ j. so j ++ here j ∷ []) ∙ sym (map-append (flood_line begin) (take i runs) (r ∷ []))
-        ∙ ap (λ l. map (flood_line begin) l) (ap (λ x. take i runs ++ x ∷ []) is ∙ sym (take_more runs i r lt))
+    ∙ ap (λ l. map (flood_line begin) l) (ap (λ x. take i runs ++ x ∷ []) is ∙ sym (take_more runs i r lt))
 
 -- all lines
 pub lines_whole : {E : Type 0} (es : List Event) (begin until : ℕ) (counts : List ℕ) (runs : List Run) (r : Result (List FloodLine) E)
@@ -37,5 +37,8 @@ lines_whole {E = E} es begin until counts runs r moment ec er told =
 
     ends : All (EndsBy begin until) runs
     ends = subst (λ (l : List Run). All (EndsBy begin until) l) (sym whole)
-        (λ k d lt. ((run_at es begin until k d lt).0, ends_within begin until (get_or (floods (period_counts es begin until)) k d)
-        (run_at es begin until k d lt)))
+        (λ k d lt. (
+          (run_at es begin until k d lt).0,
+          ends_within begin until (get_or (floods (period_counts es begin until)) k d)
+              (run_at es begin until k d lt),
+        ))

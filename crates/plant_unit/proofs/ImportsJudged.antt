@@ -28,21 +28,21 @@ all_refusals f c =
     let own : List (Bool × Refused) = own_refusals f c.person c.moment c.request in
     let behind : List (Bool × Refused) = (nat_lt c.moment f.unit.last_s, MomentBehind f.unit.last_s) ∷ [] in
     ap (λ (l : List (Bool × Refused)). first_refusal ((not (holds_some f c.moment c.person), NotGranted) ∷ l))
-        (sym (append_assoc (lacks_role f c.moment c.person (role_needed c.request)) behind own))
+    (sym (append_assoc (lacks_role f c.moment c.person (role_needed c.request)) behind own))
     ∙ first_of (holder_refusals f c) own
 
 pub refused_judged : (f : Facts) (c : Call) (r : Refused) → first_refusal (holder_refusals f c) ≡ Some r → IsJudged f c (IsRefused r)
 refused_judged f c r is =
     let verdict : verdict_of f c ≡ Err r =
-        ap (λ o. refused_or o (reply f c.moment c.request))
-        (all_refusals f c ∙ ap (λ o. or_else o (first_refusal (own_refusals f c.person c.moment c.request))) is) in
+    ap (λ o. refused_or o (reply f c.moment c.request))
+    (all_refusals f c ∙ ap (λ o. or_else o (first_refusal (own_refusals f c.person c.moment c.request))) is) in
     record { answer = sym verdict; changes = sym (ap (λ v. if changes_history v c then changes_for f c else []) verdict) }
 
 pub own_judged : (f : Facts) (c : Call) (v : Verdict) → first_refusal (holder_refusals f c) ≡ None → IsJudgedOwn f c v → IsJudged f c v
 own_judged f c v none j =
     let verdict : refused_or (first_refusal (own_refusals f c.person c.moment c.request)) (reply f c.moment c.request) ≡ verdict_of f c =
-        sym (ap (λ o. refused_or o (reply f c.moment c.request)) (all_refusals f c
-        ∙ ap (λ o. or_else o (first_refusal (own_refusals f c.person c.moment c.request))) none)) in
+    sym (ap (λ o. refused_or o (reply f c.moment c.request)) (all_refusals f c
+    ∙ ap (λ o. or_else o (first_refusal (own_refusals f c.person c.moment c.request))) none)) in
     record { answer = j.answer ∙ verdict; changes = j.changes ∙ ap (λ v. if changes_history v c then changes_for f c else []) verdict }
 
 -- what a file adds
@@ -131,7 +131,7 @@ pub counted_at : (f : Facts) (rows kept : List Event) (k n : ℕ) (b : Bool) →
 counted_at f rows kept k n b rises ek el en eb =
     let rising : IsRising kept = subst (λ (l : List Event). IsRising l) (sym ek) (needed_rises f.events rows rises) in
     let count : n ≡ length (new_numbers f.events rows) = en rising ∙ ap (λ l. length (new_numbers l rows)) ek
-        ∙ ap length (needed_numbers f.events rows rises) in
+    ∙ ap length (needed_numbers f.events rows rises) in
     eb ∙ (λ i. nat_lt max_events (el i + count i))
 
 pub merged_at : (f : Facts) (t : ℕ) (rows kept : List Event) (tags : List Name) (k n : ℕ) (b : Bool) (m x : Result Merged BadFile) → IsRising f.events
@@ -141,7 +141,7 @@ pub merged_at : (f : Facts) (t : ℕ) (rows kept : List Event) (tags : List Name
 merged_at f t rows kept tags k n b m x rises ek el en eb room et em ex =
     let rising : IsRising kept = subst (λ (l : List Event). IsRising l) (sym ek) (needed_rises f.events rows rises) in
     let free : nat_lt max_events (length f.events + length (new_numbers f.events rows)) ≡ false = sym (counted_at f rows kept k n b rises ek el en eb)
-        ∙ room in
+    ∙ room in
     merge_added f t rows x free (sym ex ∙ em rising ∙ (λ i. merge (ek i) rows (et i) t) ∙ needed_merge f.events rows (tags_of f) t rises)
 
 -- one who is not refused for want of a role holds one

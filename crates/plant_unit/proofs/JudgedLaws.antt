@@ -43,14 +43,14 @@ part_judged h legal c v j = by (holds_by (rows_of h).grants c.moment c.person) r
   by : (b : Bool) → holds_by rows.grants c.moment c.person ≡ b → IsJudged (facts h) c v
   by true some =
       let changes : changes_for (facts_among (part_of c rows) (events h)) c ≡ changes_for (facts h) c =
-          part_changes rows c.person c.moment c.request some ∙ ap (λ f. changes_for f c) (facts-rows h legal) in
+      part_changes rows c.person c.moment c.request some ∙ ap (λ f. changes_for f c) (facts-rows h legal) in
       record {
         answer = j.answer ∙ verdicts;
         changes = j.changes ∙ (λ i. if changes_history (verdicts i) c then changes i else []);
       }
   by false none =
       let refused : verdict h c ≡ Err NotGranted = sym (ap (λ f. verdict_of f c) (facts-rows h legal))
-          ∙ stranger_verdict rows c.person c.moment c.request none in
+      ∙ stranger_verdict rows c.person c.moment c.request none in
       let unchanged : changes_history (verdict h c) c ≡ false = false_from_ne_true _ (refused_changes (verdict h c) c NotGranted refused) in
       record {
         answer = j.answer ∙ verdicts;
@@ -94,7 +94,7 @@ unfolding holds_some
 part_seen h part c o some left =
     let known : IsPartOf (Some part) h c = subst (λ x. IsPartOf x h c) some left in
     subst (λ (x : UnitPart). holds_by x.rows.grants c.moment c.person ≡ true → AreEventsFor x c.request (events h)) (sym known.0)
-        (part_events h known.1 c)
+    (part_events h known.1 c)
 
 -- a call that is no import is judged alike whatever events are beside its part, unless it lists floods
 judged_at : (part : UnitPart) (es : List Event) (p : Name) (t : ℕ) (q : Request) (v : Verdict) → is_import q ≡ false → AreEventsFor part q es
@@ -134,6 +134,10 @@ opened_rows p t _ e = cc
 pub opened_verdict : (admin taken : Bool) (c : Call) (cs : List RowEdit) → admin ≡ true → taken ≡ false → is_opening c.request ≡ true
     → cs ≡ changes_for (facts []) c → IsOpening admin taken c (IsAccepted Done cs)
 opened_verdict true false c cs a t e is =
-    record { answer = refl; changes = λ _. ap (λ cs. changed_by cs no_rows) is ∙ opened_rows c.person c.moment c.request e; none = λ no. cc;
-    puts = λ _. ap puts_unit is }
+    record {
+      answer = refl;
+      changes = λ _. ap (λ cs. changed_by cs no_rows) is ∙ opened_rows c.person c.moment c.request e;
+      none = λ no. cc;
+      puts = λ _. ap puts_unit is;
+    }
 opened_verdict _ _ c cs a t e is = cc

@@ -9,7 +9,7 @@ use Rattle.plant_model.specs.{Events.{events}, Histories.{same_number}, Legality
 use Rattle.plant_model.specs.Kinds.{AllEvents, AllRecords, Approval, File, OneChange, OneRecord, Scope, scope_of, scope_of_proposal}
 use Rattle.plant_model.specs.Parts.{Selection, counted_for, every, is_source, none, of_approved, of_topic, part_of, part_of_holder, part_of_stranger, rows_selected, selected, selection}
 use Rattle.plant_model.specs.RowFacts.{alarm_tag, cells_at, change_found, change_number, change_read, has_cells, holds_by, matrix_read, record_found, record_tag, shelf_tag}
-use Rattle.plant_model.specs.Rows.{alarm_row, alarm_rows, cell_rows, change_entry, change_rows, changes_of, max_of_kind, record_entry, record_rows, records_of, revision_of_limit, rows_of, shelf_rows, sheet_of_kind, tag_of_kind, topic}
+use Rattle.plant_model.specs.Rows.{alarm_row, alarm_rows, cell_rows, change_entry, change_rows, changes_of, max_of_kind, record_entry, record_rows, records_of, revision_of_limit, rows_of, shelf_rows, sheet_of_kind, tag_of_kind, topic_of}
 use Rattle.plant_model.specs.{Shelves.{shelf}, declared.call.{Call.{Call}, Request.{Request, TheVariants.{Floods, Import, Propose, Register}}}}
 use Rattle.plant_model.specs.declared.rows.{AlarmRow.{AlarmRow}, CellRow.{CellRow}, ChangeEntry.{ChangeEntry}}
 use Rattle.plant_model.specs.declared.rows.ChangeTopic.{ChangeTopic, TheVariants.{Matrix as MatrixTopic}}
@@ -96,7 +96,7 @@ rows_all : (h : List Call) (P : RecordEntry → Type 0) → ((a : Name) (x : ℕ
 rows_all h P holds [] = All-nil P
 rows_all h P holds (a ∷ tags) =
     elim (sheet h a) as (λ o. sheet h a ≡ o
-        → All P (map record_entry (cons_option (option_map (record_with h a) o) (filter_map (record_of h) tags)))) [
+    → All P (map record_entry (cons_option (option_map (record_with h a) o) (filter_map (record_of h) tags)))) [
       | None ↦ λ _. rows_all h P holds tags
       | Some x ↦ λ is. All-cons P (record_entry (record_with h a x)) _ (holds a x is) (rows_all h P holds tags)
     ] refl
@@ -106,7 +106,7 @@ module _ (h : List Call) (n : ℕ) (m : Grid) (is : kind_of_change h n ≡ Some 
   not_source : (tags : Name → Bool) (a : Name) (x : ℕ × Sheet) → sheet h a ≡ Some x → (tags a && same_number n x.0) ≡ false
   not_source tags a x e = false_from_ne_true _ (λ here.
       let clash : Some (Matrix m) ≡ Some (Rationale a x.1) = sym is ∙ ap (kind_of_change h) (same_number_of n x.0 (and_parts (tags a) _ here).1)
-          ∙ sheet_source h a x.0 x.1 e in
+      ∙ sheet_source h a x.0 x.1 e in
       let no : Matrix m ≡ Rationale a x.1 = cc in
       cc)
 
@@ -176,18 +176,18 @@ module _ (h : List Call) (legal : IsLegal h) (p : Name) (t : ℕ) (q : Request) 
   matrix_whole : (is_left_out part (matrix h).0 || is_matrix_at part (matrix h).0) ≡ true
   matrix_whole =
       elim (s.matrix (matrix h).0) as (λ b. s.matrix (matrix h).0 ≡ b → (is_left_out part (matrix h).0 || is_matrix_at part (matrix h).0) ≡ true) [
-    | true ↦ λ holds. or_right _ _ (matrix_is (matrix h).0 (matrix h).1 (in_force_numbered h legal) holds)
-    | false ↦ λ out. or_left _ _ (left_out (matrix h).0 out)
-  ] refl
+        | true ↦ λ holds. or_right _ _ (matrix_is (matrix h).0 (matrix h).1 (in_force_numbered h legal) holds)
+        | false ↦ λ out. or_left _ _ (left_out (matrix h).0 out)
+      ] refl
 
   -- a change of the part is one of the history
   change_left : (n : ℕ) → change_found part n ≡ cond (s.change n) (option_map change_entry (change h n)) None
   change_left n = row_at-left nat_cmp change_number number_total same_numbers s.change n (change_rows h)
       ∙ ap (λ o. cond (s.change n) o None) (change_entry_in h n)
 
-  kind_whole : (n : ℕ) (d : Draft) → draft h n ≡ Some d → s.change n ≡ true → has_kind part (change_entry (change_with h n d)) (topic d.kind) ≡ true
+  kind_whole : (n : ℕ) (d : Draft) → draft h n ≡ Some d → s.change n ≡ true → has_kind part (change_entry (change_with h n d)) (topic_of d.kind) ≡ true
   kind_whole n d known there = by d.kind refl where
-    by : (k : ChangeKind) → d.kind ≡ k → has_kind part (change_entry (change_with h n d)) (topic k) ≡ true
+    by : (k : ChangeKind) → d.kind ≡ k → has_kind part (change_entry (change_with h n d)) (topic_of k) ≡ true
     by (Rationale a sheet) e = ap (λ k. is_some (tag_of_kind k) && has_sheet_of k) e
     by (Matrix m) e =
         let is : kind_of_change h n ≡ Some (Matrix m) = ap (option_map (λ (d : Draft). d.kind)) known ∙ ap (λ k. Some k) e in
@@ -235,7 +235,7 @@ module _ (h : List Call) (legal : IsLegal h) (p : Name) (t : ℕ) (q : Request) 
   records_whole =
       let whole : RecordEntry → Type 0 = λ r. has_its_sheet part r ≡ true in
       list_all-from_AllPass (has_its_sheet part) _
-          (All-filter (λ r. s.rationale r.tag) whole (record_rows h) (rows_all h whole source_whole (in_order name_cmp (tags_of_records h))))
+      (All-filter (λ r. s.rationale r.tag) whole (record_rows h) (rows_all h whole source_whole (in_order name_cmp (tags_of_records h))))
 
   -- there is a next number of each kind
   counted : counted_for (rows_of h) q ≤ max_events
@@ -317,8 +317,8 @@ unfolding summary
 summaries_told h [] = refl
 summaries_told h (a ∷ tags) =
     elim (latching h a) as
-        (λ o. map summary_in (filter (λ (r : AlarmRow). true) (cons_option (option_map (alarm_of h a) o) (filter_map (alarm_row h) tags)))
-        ≡ map (summary_of (events h)) (filter (λ (r : AlarmRow). true) (cons_option (option_map (alarm_of h a) o) (filter_map (alarm_row h) tags)))) [
+    (λ o. map summary_in (filter (λ (r : AlarmRow). true) (cons_option (option_map (alarm_of h a) o) (filter_map (alarm_row h) tags)))
+    ≡ map (summary_of (events h)) (filter (λ (r : AlarmRow). true) (cons_option (option_map (alarm_of h a) o) (filter_map (alarm_row h) tags)))) [
       | None ↦ summaries_told h tags
       | Some l ↦ ap (λ ss. summary_of (events h) (alarm_of h a l) ∷ ss) (summaries_told h tags)
     ]

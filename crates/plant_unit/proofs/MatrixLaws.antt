@@ -10,8 +10,8 @@ use Rattle.plant_unit.specs.MatrixRows.{band_row_of, row_of_cells}
 pub bands_listed : (n : ℕ) (m : Grid) → bands_of n m ≡ map (λ r. Put (BandPut r)) (map (band_row_of n) (enumerate_from 1 m.limits))
 bands_listed n m =
     ap (map (λ r. Put (BandPut r)))
-        (filter_map-map (λ k. band_at k m) (λ b. (n, b)) (range_with_len 1 (length m.limits))
-        ∙ listed (λ b l. record { matrix_no = n; band_no = b; limit_s = l }) m.limits [] m.limits 1 refl refl)
+    (filter_map-map (λ k. band_at k m) (λ b. (n, b)) (range_with_len 1 (length m.limits))
+    ∙ listed (λ b l. record { matrix_no = n; band_no = b; limit_s = l }) m.limits [] m.limits 1 refl refl)
 
 rows_listed : (n : ℕ) (m : Grid) (pre rows : List (List Cell)) (s : ℕ) → s ≡ length pre + 1 → m.cells ≡ pre ++ rows
     → filter_map (λ k. cell_of k m) (flat_map (cells_of_row n) (enumerate_from s rows)) ≡ flat_map (row_of_cells n) (enumerate_from s rows)
@@ -22,11 +22,15 @@ rows_listed n m pre (row ∷ rows) s at is =
     let rest = rows_listed n m (pre ++ row ∷ []) rows (s + 1) more (is ∙ sym (append_assoc pre (row ∷ []) rows)) in
     let first : filter_map (λ k. cell_of k m) (cells_of_row n (s, row)) ≡ row_of_cells n (s, row) =
     filter_map-map (λ k. cell_of k m) (λ b. (n, s, b)) (range_with_len 1 (length row))
-    ∙ (λ i. filter_map (λ b. option_map (λ c. record { matrix_no = n; severity = s; band_no = b;
-    cell_no = c }) (option_and_then (λ r. at_place r b) (here i))) (range_with_len 1 (length row)))
+    ∙ (λ i. filter_map (λ b. option_map (λ c. record {
+      matrix_no = n;
+      severity = s;
+      band_no = b;
+      cell_no = c;
+    }) (option_and_then (λ r. at_place r b) (here i))) (range_with_len 1 (length row)))
     ∙ listed (λ b c. record { matrix_no = n; severity = s; band_no = b; cell_no = c }) row [] row 1 refl refl in
     filter_map-append (λ k. cell_of k m) (cells_of_row n (s, row)) (flat_map (cells_of_row n) (enumerate_from (s + 1) rows))
-        ∙ (λ i. first i ++ rest i)
+    ∙ (λ i. first i ++ rest i)
 
 pub cells_listed : (n : ℕ) (m : Grid) → cells_of n m ≡ map (λ r. Put (CellPut r)) (flat_map (row_of_cells n) (enumerate_from 1 m.cells))
 cells_listed n m = ap (map (λ r. Put (CellPut r))) (rows_listed n m [] m.cells 1 refl refl)

@@ -29,7 +29,7 @@ pub added_on : (alarms : List AlarmRow) (es events : List Event) (i : ℕ) (e : 
     → new ≡ summaries alarms ((es ++ take i events) ++ e ∷ []) → new ≡ summaries alarms (es ++ take (i + 1) events)
 added_on alarms es events i e new lt is so =
     so ∙ ap (summaries alarms)
-        (append_assoc es (take i events) (e ∷ []) ∙ ap (λ l. es ++ l) (sym (take_more events i e lt ∙ ap (λ x. take i events ++ x ∷ []) (sym is))))
+    (append_assoc es (take i events) (e ∷ []) ∙ ap (λ l. es ++ l) (sym (take_more events i e lt ∙ ap (λ x. take i events ++ x ∷ []) (sym is))))
 
 -- where no row is late, the kept events of an alarm with its new ones behind them are all its events
 pub go_on : (alarms : List AlarmRow) (es rows fresh : List Event) → AreAdded es rows fresh → has_late es rows ≡ false
@@ -38,7 +38,7 @@ go_on [] es rows fresh added late = refl
 go_on (r ∷ alarms) es rows fresh added late =
     let own : of_alarm r.tag (es ++ with_events [] fresh) ≡ of_alarm r.tag (with_events es fresh) =
     filter-append (λ x. same_name r.tag x.tag) es (with_events [] fresh)
-        ∙ ap (λ l. of_alarm r.tag es ++ of_alarm r.tag (with_events [] l)) added.fresh_are
+    ∙ ap (λ l. of_alarm r.tag es ++ of_alarm r.tag (with_events [] l)) added.fresh_are
     ∙ sym (fresh_after r.tag added.tags added.now 2 es rows added.rise added.no_fault late)
     ∙ ap (λ l. of_alarm r.tag (with_events es l)) (sym added.fresh_are) in
     λ i. summary r.latching (own i) ∷ go_on alarms es rows fresh added late i

@@ -39,7 +39,7 @@ pub bare_sheet : (m : Grid) (severity response : ℕ) → m.cells ≡ [] → Err
 bare_sheet m severity response bare =
     let needless : Bool = is_not_needed (priority_of m severity response) in
     ap (λ (row : Option (List Cell)). decided_or (first_refusal ((not (is_some row), OutsideMatrix) ∷ (needless, NotAnAlarm)
-        ∷ [])) (priority_by m severity response)) (sym (no_row m severity bare))
+    ∷ [])) (priority_by m severity response)) (sym (no_row m severity bare))
 
 -- an approval is refused as a rejection is, and then for the change itself
 pub as_rejected : (o : Option ChangeRow) (same : ChangeRow → Bool) (rest : ChangeRow → List (Bool × Refused)) (r : Refused)

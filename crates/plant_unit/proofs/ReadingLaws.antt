@@ -37,7 +37,7 @@ module _ {V : Type 0} (items : V → List Cell) (row_of : ℕ → List Cell) whe
       → map items old ≡ filter has_cells (map row_of (range_with_len 1 (k + 1)))
   row_left old row k none is so =
       let test : has_cells (row_of (k + 1)) ≡ false = ap has_cells (sym is)
-          ∙ ap has_cells (nil_from_length (items row) (eqb-true (length (items row)) 0 none)) in
+      ∙ ap has_cells (nil_from_length (items row) (eqb-true (length (items row)) 0 none)) in
       so ∙ sym (append-nil _)
       ∙ ap (λ b. filter has_cells (map row_of (range_with_len 1 k)) ++ cond b (row_of (k + 1) ∷ []) []) (sym test) ∙ sym (next_row k)
 
@@ -82,7 +82,7 @@ pub in_force_none : (part : UnitPart) (u : UnitRow) → AreKept part → unit_re
 in_force_none part u kept is none =
     let n : ℕ = (unit_read part.rows).matrix_no in
     no_cells (is_left_out part.rows n) (is_matrix_at part.rows n)
-        (matrix_read part.rows n) refl (none ∙ ap (λ (x : UnitRow). matrix_found part.rows x.matrix_no) (sym is)) kept.matrix_whole
+    (matrix_read part.rows n) refl (none ∙ ap (λ (x : UnitRow). matrix_found part.rows x.matrix_no) (sym is)) kept.matrix_whole
 
 pub no_row : (m : Grid) (severity : ℕ) → m.cells ≡ [] → row_of m severity ≡ None
 no_row m severity e =
@@ -96,7 +96,7 @@ pub any_told : {X Y : Type 0} (g : Y → Bool) (f : X → Option Y) (xs : List X
 any_told g f [] = refl
 any_told g f (x ∷ xs) =
     elim (f x) as (λ o. (unwrap_or (option_map g o) false || list_any (λ y. unwrap_or (option_map g (f y)) false) xs)
-        ≡ list_any g (cons_option o (filter_map f xs))) [ None ↦ any_told g f xs | Some y ↦ ap (λ b. g y || b) (any_told g f xs) ]
+    ≡ list_any g (cons_option o (filter_map f xs))) [ None ↦ any_told g f xs | Some y ↦ ap (λ b. g y || b) (any_told g f xs) ]
 
 pub outside_told : (m : Grid) (rows : UnitRows) (records : List RecordEntry)
     → list_any (is_outside m rows) records ≡ list_any (λ r. not (has_row m r.severity)) (filter_map (record_read rows) records)
@@ -115,11 +115,11 @@ pub rationale_read : {E : Type 0} (part : UnitPart) (a : Name) (r : RecordEntry)
     → IfOk x (λ found. found ≡ option_map (record_from r) (sheet_found c)) → IfOk x (λ found. found ≡ (facts_in part).rationale a)
 rationale_read part a r c x kept row source told =
     let its : has_its_sheet part.rows r ≡ true =
-        found_passes (λ y. same_name a y.tag) (has_its_sheet part.rows) part.rows.records r kept.records_whole (sym row) in
+    found_passes (λ y. same_name a y.tag) (has_its_sheet part.rows) part.rows.records r kept.records_whole (sym row) in
     let whole : has_sheet c ≡ true = ap (λ (o : Option ChangeEntry). unwrap_or (option_map has_sheet o) true) source ∙ its in
     let read : Some (record_from r (sheet_read c)) ≡ (facts_in part).rationale a =
     ap (λ (o : Option ChangeEntry). option_map (λ y. record_from r (sheet_read y)) o) source
-        ∙ ap (λ (o : Option RecordEntry). option_and_then (record_read part.rows) o) row in
+    ∙ ap (λ (o : Option RecordEntry). option_and_then (record_read part.rows) o) row in
     rw (← read) (subst (λ b. IfOk x (λ found. found ≡ option_map (record_from r) (when b (sheet_read c)))) whole told)
 
 pub each_passes : {X : Type 0} (q : X → Bool) (xs : List X) (i : ℕ) (x : X) → list_all q xs ≡ true → i < length xs → x ≡ get_or xs i x → q x ≡ true

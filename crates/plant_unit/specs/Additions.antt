@@ -26,8 +26,8 @@ abbrev pub addition : Facts → ℕ → List Event → Result Merged Refused
 addition f t rows = decided_or (first_refusal (file_refusals f t (Ok rows))) (rows_added f.events rows)
 
 -- the events are not too many to be counted in 32 bits
-abbrev pub AreFew : List Event → Type 0
-AreFew es = length es ≤ 4294967295
+abbrev pub AreCountable : List Event → Type 0
+AreCountable es = length es ≤ 4294967295
 
 -- the part of an import: of these events it has those that the file's rows need, and how many there are; the states of its alarms
 -- are computed from them
@@ -73,7 +73,7 @@ pub record AreAdded (es rows added : List Event) : Type 0 where
 abbrev pub GivesImport : {E : Type 0} → UnitPart → ℕ → List Event → List Event → Result (List RowEdit) E → Type 0
 GivesImport part t rows added said =
     IsInOrder name_cmp alarm_tag part.rows.alarms → (u : Name) (es : List Event) → AreEventsOf part rows es
-        → AreAdded es rows added
+    → AreAdded es rows added
     → Gives said (Put (UnitPut (unit_after (facts_among part es) t (Import u (Ok rows))))
     ∷ import_changes (facts_among part es) rows)
 

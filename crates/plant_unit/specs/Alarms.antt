@@ -5,7 +5,7 @@ use Rattle.plant_alarm.specs.{States.{summary}, declared.{event.Event.{Event}, s
 use Rattle.plant_import.specs.{Merging.{IsRising}, Needed.{needed}, Numbers.{with_events}}
 use Rattle.plant_model.specs.{RowChanges.{state_put}, RowFacts.{alarm_tag}, declared.rows.{AlarmRow.{AlarmRow}, RowEdit.{RowEdit}}}
 use Rattle.plant_types.specs.{KeyedRows.{IsInOrder}, Names.{Name, name_cmp}, Results.{Gives}}
-use Rattle.plant_unit.specs.{Additions.{AreAdded}, Summaries.{AreNamed, HaveSummaries, is_named, summaries, summary_of}}
+use Rattle.plant_unit.specs.{Additions.{AreAdded}, Summaries.{AreNamed, HaveSummaries, has_event_of, summaries, summary_of}}
 
 -- the summary at a place, of some events, becomes that of these events and one more
 abbrev pub AddsAt : ℕ → Event → Bool → List Summary → List Summary → Type 0
@@ -30,11 +30,11 @@ GivesOn alarms fresh said = IsInOrder name_cmp alarm_tag alarms → (es : List E
 -- the change of the alarm's row, of some events, if the new ones name it
 abbrev pub GivesNamed : {E : Type 0} → BTreeSet Name → AlarmRow → Summary → Result (Option RowEdit) E → Type 0
 GivesNamed named alarm s said = (es fresh : List Event) → AreNamed named fresh → s ≡ summary_of es alarm
-    → IfOk said (λ change. option_to_list change ≡ (if is_named fresh alarm then state_put es alarm ∷ [] else []))
+    → IfOk said (λ change. option_to_list change ≡ (if has_event_of fresh alarm then state_put es alarm ∷ [] else []))
 
 -- the rows of the alarms that the new events name, with their states
 abbrev pub states_put : List Event → List Event → List AlarmRow → List RowEdit
-states_put es fresh alarms = map (state_put es) (filter (is_named fresh) alarms)
+states_put es fresh alarms = map (state_put es) (filter (has_event_of fresh) alarms)
 
 -- the same changes are put at the end
 abbrev pub PushesNamed : {A E : Type 0} → BTreeSet Name → List AlarmRow → List Summary → List RowEdit → List RowEdit

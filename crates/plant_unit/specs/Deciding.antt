@@ -23,8 +23,12 @@ kind_columns k =
 -- the row of a change with this number that is proposed by a call
 abbrev pub proposed_entry : ℕ → Call → Proposal → ChangeEntry
 proposed_entry number c x =
-    change_entry (change_as number None (record { proposer = c.person; proposed = c.moment; kind = x.kind;
-    base = x.base }))
+    change_entry (change_as number None (record {
+      proposer = c.person;
+      proposed = c.moment;
+      kind = x.kind;
+      base = x.base;
+    }))
 
 -- puts the row of a change that the caller decides
 abbrev pub decided_put : ChangeState → Call → ChangeEntry → RowEdit

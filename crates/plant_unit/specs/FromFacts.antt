@@ -8,7 +8,7 @@ use Rattle.plant_alarm.specs.declared.event.Event.{Event}
 use Rattle.plant_import.specs.declared.bad_file.BadFile.{BadFile}
 use Rattle.plant_ration.specs.declared.change.{ChangeKind.{ChangeKind}, Proposal.{Proposal}}
 use Rattle.plant_types.specs.{Names.{Name}, Results.{Gives}}
-use Rattle.plant_unit.specs.{Additions.{AreEventsFor, AreKept}, Judged.{IsApproved, IsJudgedOwn, decision, one_change, own_answer}}
+use Rattle.plant_unit.specs.{Additions.{AreEventsFor, AreKept}, Judged.{IsApproved, IsJudgedOwn, own_decision, one_change, own_answer}}
 
 -- from a part of a legal history: if it succeeds, it gives this of the part's facts
 abbrev pub GivesFrom : {A E : Type 0} → UnitPart → Result A E → (Facts → A) → Type 0
@@ -44,7 +44,7 @@ GivesOne said decided = IfOk said (λ d. one_change d ≡ decided)
 
 -- what is decided about a request that a person makes at a moment
 abbrev pub DecidesAs : {E : Type 0} → UnitPart → Name → ℕ → Request → Result (Result RowEdit Refused) E → Type 0
-DecidesAs part p t r said = GivesOne said (decision (facts_in part) p t r)
+DecidesAs part p t r said = GivesOne said (own_decision (facts_in part) p t r)
 
 -- what is decided about a request on any unit, whoever makes it and when
 abbrev pub DecidesAlways : {E : Type 0} → UnitPart → (Name → Request) → Result (Result RowEdit Refused) E → Type 0

@@ -21,8 +21,8 @@ is_import r = is_some (says r).file
 
 -- what is decided about a request of one who may make it: its first refusal, else the changes that it makes beside that of the
 -- unit's row
-abbrev pub decision : Facts → Name → ℕ → Request → Result (List RowEdit) Refused
-decision f p t r = decided_or (first_refusal (own_refusals f p t r)) (own_changes f p t r)
+abbrev pub own_decision : Facts → Name → ℕ → Request → Result (List RowEdit) Refused
+own_decision f p t r = decided_or (first_refusal (own_refusals f p t r)) (own_changes f p t r)
 
 -- the same where it makes one change
 abbrev pub one_change : Result RowEdit Refused → Result (List RowEdit) Refused
@@ -64,7 +64,7 @@ abbrev pub record_decision : Facts → ℕ → Name → Sheet → Result Cell Re
 record_decision f base a s =
     decided_or (first_refusal (kind_refusals f base (Rationale a s))) (priority_by f.matrix s.severity s.response)
 
--- a verdict that makes the change of a decision and that of the unit's row, and one that only answers
+-- a verdict that makes the change of a own_decision and that of the unit's row, and one that only answers
 abbrev pub done_as : UnitRow → Result RowEdit Refused → Verdict
 done_as row (Err refused) = IsRefused refused
 done_as row (Ok change) = IsAccepted Done (Put (UnitPut row) ∷ change ∷ [])

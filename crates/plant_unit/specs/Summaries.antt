@@ -19,8 +19,8 @@ with_summary r s =
     record r { state_no = s.state; suppressed = s.suppressed; active_s = s.active_since; return_s = s.last_return }
 
 -- one of the events is the alarm's
-abbrev pub is_named : List Event → AlarmRow → Bool
-is_named es r = list_any (λ e. same_name r.tag e.tag) es
+abbrev pub has_event_of : List Event → AlarmRow → Bool
+has_event_of es r = list_any (λ e. same_name r.tag e.tag) es
 
 -- what a row's columns say
 abbrev pub summary_in : AlarmRow → Summary

@@ -10,7 +10,7 @@ ghost use Rattle.plant_unit.specs.Summaries as states;
 use plant_alarm::{Event, Summary};
 use plant_import::{events_after, has_late, rise};
 use plant_model::{AlarmRow, Row, RowEdit, place_of};
-use plant_types::{Duplicate, Fault, List, Tag};
+use plant_types::{Fault, List, Tag, TryCopy};
 use std::alloc::Global;
 use std::collections::BTreeSet;
 
@@ -143,7 +143,7 @@ fn with_summary(alloc: Global, alarm: &AlarmRow, summary: &Summary) -> Result<Al
     ensures value { IfOk result (λ row. row ≡ states.with_summary alarm.now summary.now) }
     ensures err { OnlyMemory result }
 {
-    let mut row = alarm.duplicate(alloc)?;
+    let mut row = alarm.copy(alloc)?;
     row.state_no = summary.state;
     row.suppressed = summary.suppressed;
     row.active_s = summary.active_since;

@@ -22,11 +22,11 @@ use plant_model::{
     UnitPart, UnitRow, Verdict, alarm_of,
 };
 use plant_ration::{Cell, ChangeKind, ChangeState, Matrix, Proposal, Sheet};
-use plant_types::{Duplicate, Fault, List, Moment, Person, Seconds, Tag, Words};
+use plant_types::{Fault, List, Moment, Person, Seconds, Tag, TryCopy, Words};
 use std::alloc::Global;
 
 fn topic(kind: &ChangeKind) -> ChangeTopic
-    ensures { result ≡ rows.topic kind.now }
+    ensures { result ≡ rows.topic_of kind.now }
 {
     match kind {
         ChangeKind::Rationale(..) => ChangeTopic::Record,
@@ -150,7 +150,7 @@ fn decision_put(
     ensures value { Gives result (decided_put state call.now entry.now) }
     ensures err { OnlyMemory result }
 {
-    let mut row = entry.duplicate(alloc)?;
+    let mut row = entry.copy(alloc)?;
     row.state_no = state;
     row.decider = Some(call.person.copy(alloc)?);
     row.decided_s = Some(call.moment);

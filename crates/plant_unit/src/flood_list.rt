@@ -2,7 +2,7 @@
 
 ghost use Rattle.std.specs.Prelude.{◌≡◌, ◌+◌, ◌*◌, All, IsTrue, map, ℕ};
 ghost use Rattle.plant_types.specs.{Moment.{is_moment}, Results.{Gives, OnlyMemory}};
-ghost use Rattle.plant_unit.specs.{Additions.{AreFew}, Floods.{EndsBy, IsLineOf}};
+ghost use Rattle.plant_unit.specs.{Additions.{AreCountable}, Floods.{EndsBy, IsLineOf}};
 ghost use Rattle.plant_model.specs.Events as flood;
 
 use plant_alarm::Event;
@@ -60,7 +60,7 @@ pub fn flood_lines(
     begin: Moment,
     until: Moment,
 ) -> Result<List<FloodLine>, Fault>
-    ensures value { AreFew events.now → Gives result (flood.flood_lines events.now begin until) }
+    ensures value { AreCountable events.now → Gives result (flood.flood_lines events.now begin until) }
     ensures err { OnlyMemory result }
 {
     let counts = period_counts(alloc, events, begin, until)?;

@@ -13,7 +13,7 @@ use plant_model::{
     row_of,
 };
 use plant_ration::{Cell, ChangeKind, Sheet};
-use plant_types::{Duplicate, Fault, Tag};
+use plant_types::{Fault, Tag, TryCopy};
 use std::alloc::Global;
 
 /// The row of an alarm's record. It looks at all of them, whatever their order.
@@ -179,7 +179,7 @@ pub fn change_from(
         proposer: entry.proposer.copy(alloc)?,
         proposed: entry.proposed_s,
         state: entry.state_no,
-        decider: entry.decider.duplicate(alloc)?,
+        decider: entry.decider.copy(alloc)?,
         decided: entry.decided_s,
     }))
 }

@@ -4,7 +4,7 @@ ghost use Rattle.std.specs.Prelude.{◌≡◌, ℕ};
 ghost use Rattle.plant_types.specs.{Names.{Name}, Results.{Gives, OnlyMemory}};
 ghost use Rattle.plant_model.specs.{Facts.{returned}, Replies.{shelf_lines}, RowFacts.{facts_in}};
 ghost use Rattle.plant_model.specs.declared.call.Request.TheVariants.{Alarms as AlarmsCall, ChangeOf as ChangeCall, Floods as FloodsCall, RecordOf as RecordCall, Shelves as ShelvesCall, Standing as StandingCall, Status as StatusCall};
-ghost use Rattle.plant_unit.specs.{Additions.{AreFew, AreKept}, FromFacts.{Answers, AnswersAlways, AnswersAnyone, GivesFrom}};
+ghost use Rattle.plant_unit.specs.{Additions.{AreCountable, AreKept}, FromFacts.{Answers, AnswersAlways, AnswersAnyone, GivesFrom}};
 ghost use Rattle.plant_unit.specs.Shelving.{is_shelved, line_at};
 ghost use Rattle.plant_model.specs.Replies as replies;
 
@@ -238,7 +238,7 @@ pub fn floods(
     begin: Moment,
     until: Moment,
 ) -> Result<Result<Reply, Refused>, Fault>
-    ensures value { AreFew part.now.rows.events
+    ensures value { AreCountable part.now.rows.events
         → (t : ℕ) (p : Name) → Answers part.now p t (FloodsCall unit.now begin until) result }
     ensures err { OnlyMemory result }
 {

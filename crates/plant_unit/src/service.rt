@@ -8,7 +8,7 @@ ghost use Rattle.plant_unit.specs.FromFacts.{Decides, DecidesAlways};
 
 use plant_model::{AlarmRow, Call, Full, Refused, Row, RowEdit, UnitPart, alarm_of};
 use plant_types::limits::MAX_ALARMS;
-use plant_types::{Duplicate, Fault, Seconds, Tag, Words};
+use plant_types::{Fault, Seconds, Tag, TryCopy, Words};
 use std::alloc::Global;
 
 /// The alarm's row, out of service.
@@ -21,7 +21,7 @@ fn row_out_of_service(
     ensures value { Gives result (taken_out call.now.person call.now.moment words.now alarm.now) }
     ensures err { OnlyMemory result }
 {
-    let mut row = alarm.duplicate(alloc)?;
+    let mut row = alarm.copy(alloc)?;
     row.out_s = Some(call.moment);
     row.out_by = Some(call.person.copy(alloc)?);
     row.out_words = Some(words.copy(alloc)?);
@@ -33,7 +33,7 @@ fn row_in_service(alloc: Global, alarm: &AlarmRow) -> Result<AlarmRow, Fault>
     ensures value { IfOk result (λ row. row ≡ placed_in alarm.now) }
     ensures err { OnlyMemory result }
 {
-    let mut row = alarm.duplicate(alloc)?;
+    let mut row = alarm.copy(alloc)?;
     row.out_s = None;
     row.out_by = None;
     row.out_words = None;

@@ -2,10 +2,10 @@
 use Rattle.std.{specs.Io.KnownBytes.{Appends}, proofs.{KnownBytes.{Appends-nil, Appends-trans}, lemmas.{Grind.{flat_map-append}, List.{map-append, Elements.{filter_map-append}}}}}
 use Rattle.std.proofs.Common.{◌≡◌, ℕ, ◌+◌, List, [], ◌∷◌, ◌++◌, take, drop, map, Option, refl, sym, ap, subst, ◌∙◌, append_assoc, append-nil, Result, Ok, Err, IfErr}
 use Rattle.plant_model.specs.declared.{call.Call.{Call}, reply.Answer.{Answer}}
-use Rattle.plant_answer.specs.Answers.{text_of}
+use Rattle.plant_answer.specs.Answers.{answer_bytes}
 use Rattle.plant_call.specs.{Cut.{WaitsBelow}, Front.{Item, waits, whole, broken, StandsAtFront, Parsed}, declared.causes.Cause.{Cause}}
 use Rattle.plant_wire.specs.Causes.{cause_text}
-use Rattle.plant_wire.specs.Marks.{Mark, said, item_of, mark_text, out_of, call_in, calls_of, answer_in, answers_of, Last, nothing, begun, breaking, last_text, last_marks, IsSaid, IsFaultless}
+use Rattle.plant_wire.specs.Marks.{Mark, said, marked_item, mark_text, out_of, call_in, calls_of, marked_answer, answers_of, Last, nothing, begun, breaking, last_text, last_marks, IsSaid, IsFaultless}
 use Rattle.plant_wire.specs.{Step.{AnswersBroken, AnswersFront, AnswersOne, AnswersPart, IsAnswer, IsPut, IsStopped, IsUnfinished, ServesBroken, StopsFor}, declared.step.Stop.{Stop}}
 use Rattle.plant_wire.{specs.declared.step.Stop.TheVariants.{WriteFailed, Fault}, proofs.public.Growing.{drop-add}}
 use Rattle.plant_wire.proofs.public.Running.{Joins}
@@ -36,16 +36,16 @@ Parsed-trans : (a b r : List ℕ) (xs ys : List Item) → Parsed a xs b → Pars
 Parsed-trans a b r [] ys is later = subst (λ (t : List ℕ). Parsed t ys r) (sym is) later
 Parsed-trans a b r (x ∷ xs) ys (n, front, rest) later = (n, front, Parsed-trans (drop n a) b r xs ys rest later)
 
-parsed_more : (a b r : List ℕ) (ms ns : List Mark) → Parsed a (map item_of ms) b → Parsed b (map item_of ns) r → Parsed a (map item_of (ms ++ ns)) r
+parsed_more : (a b r : List ℕ) (ms ns : List Mark) → Parsed a (map marked_item ms) b → Parsed b (map marked_item ns) r → Parsed a (map marked_item (ms ++ ns)) r
 parsed_more a b r ms ns first later =
-    subst (λ (x : List Item). Parsed a x r) (sym (map-append item_of ms ns)) (Parsed-trans a b r (map item_of ms) (map item_of ns) first later)
+    subst (λ (x : List Item). Parsed a x r) (sym (map-append marked_item ms ns)) (Parsed-trans a b r (map marked_item ms) (map marked_item ns) first later)
 
 module _ {first second both : List Call → List Answer → Type 0} (joins : Joins first second both) where
   ran_more : (ms ns : List Mark) → first (calls_of ms) (answers_of ms) → second (calls_of ns) (answers_of ns)
       → both (calls_of (ms ++ ns)) (answers_of (ms ++ ns))
   ran_more ms ns a b =
       subst (λ (x : List Call). both x (answers_of (ms ++ ns))) (sym (filter_map-append call_in ms ns))
-      (subst (λ (y : List Answer). both (calls_of ms ++ calls_of ns) y) (sym (filter_map-append answer_in ms ns))
+      (subst (λ (y : List Answer). both (calls_of ms ++ calls_of ns) y) (sym (filter_map-append marked_answer ms ns))
       (joins.join (calls_of ms) (calls_of ns) (answers_of ms) (answers_of ns) a b))
 
   pub serves_more : (bytes mid rest : List ℕ) (u v w : Option (List ℕ)) → AnswersFront bytes u v first mid → AnswersFront mid v w second rest
@@ -111,9 +111,19 @@ module _ {ran : List Call → List Answer → Type 0} where
       record { marks = []; rest = bytes; cause = it.cause; parses = refl; front = it.stands; writes = it.writes; served = it.served }
 
   pub serves_stopped : (bytes : List ℕ) (o o' : Option (List ℕ)) (stop : Stop) → AnswersPart bytes o o' ran stop → IsStopped bytes o o' ran stop
-  serves_stopped bytes o o' stop it =
-      (record { marks = []; rest = bytes; last = it.last; part = it.part; parses = refl; stands = it.stands; writes = it.writes;
-      served = it.served }, it.why)
+  serves_stopped bytes o o' stop it = (
+    record {
+      marks = [];
+      rest = bytes;
+      last = it.last;
+      part = it.part;
+      parses = refl;
+      stands = it.stands;
+      writes = it.writes;
+      served = it.served;
+    },
+    it.why,
+  )
 
   -- nothing of an answer was written
   pub part_none : (bytes : List ℕ) (o : Option (List ℕ)) → ran [] [] → AnswersPart bytes o o ran Fault
@@ -123,7 +133,7 @@ module _ {ran : List Call → List Answer → Type 0} where
   stopped_none bytes o none = serves_stopped bytes o o Fault (part_none bytes o none)
 
   -- a part of the answer to one request
-  pub part_one : (bytes : List ℕ) (o o' : Option (List ℕ)) (m : Mark) (n part : ℕ) (stop : Stop) → StandsAtFront bytes (whole (item_of m) n)
+  pub part_one : (bytes : List ℕ) (o o' : Option (List ℕ)) (m : Mark) (n part : ℕ) (stop : Stop) → StandsAtFront bytes (whole (marked_item m) n)
       → Appends o o' (take part (mark_text m)) → ran (calls_of (m ∷ [])) (answers_of (m ∷ [])) → StopsFor (begun m) stop
       → AnswersPart bytes o o' ran stop
   part_one bytes o o' m n part stop front writes ran_it why =
@@ -156,8 +166,8 @@ module _ {first second both : List Call → List Answer → Type 0} (joins : Joi
       → AnswersFront bytes u v first (drop at bytes) → AnswersOne mid v w second n → AnswersFront bytes u w both (drop (at + n) bytes)
   one_from bytes at n mid u v w is a b =
       let more =
-          serves_more joins bytes (drop at bytes)
-          (drop n mid) u v w a (subst (λ (x : List ℕ). AnswersFront x v w second (drop n mid)) is (serves_one mid v w n b)) in
+      serves_more joins bytes (drop at bytes)
+      (drop n mid) u v w a (subst (λ (x : List ℕ). AnswersFront x v w second (drop n mid)) is (serves_one mid v w n b)) in
       subst (λ (x : List ℕ). AnswersFront bytes u w both x) (ap (drop n) is ∙ sym (drop-add at n bytes)) more
 
   pub broken_from : (bytes : List ℕ) (at : ℕ) (mid : List ℕ) (u v w : Option (List ℕ)) → mid ≡ drop at bytes
@@ -169,7 +179,7 @@ module _ {first second both : List Call → List Answer → Type 0} (joins : Joi
       → AnswersFront bytes u v first (drop at bytes) → AnswersPart mid v w second stop → IsStopped bytes u w both stop
   part_from bytes at mid u v w stop is a b =
       serves_then_part joins bytes (drop at bytes) u v w stop a
-          (subst (λ (x : List ℕ). IsStopped x v w second stop) is (serves_stopped mid v w stop b))
+      (subst (λ (x : List ℕ). IsStopped x v w second stop) is (serves_stopped mid v w stop b))
 
   pub waits_from : (bytes : List ℕ) (at more : ℕ) (mid : List ℕ) (u v w : Option (List ℕ)) → mid ≡ drop at bytes
       → AnswersFront bytes u v first (drop at bytes) → IsUnfinished mid v w second more
@@ -183,7 +193,7 @@ module _ {first second both : List Call → List Answer → Type 0} (joins : Joi
 
 -- the answer to a call was put
 pub answer_put : (o o' : Option (List ℕ)) (ran : List Call → List Answer → Type 0) (call : Call) (answer : Answer) (r : Result (Unit {0}) Stop)
-    → IsPut o o' (text_of answer) r → IfErr r (λ stop. StopsFor (begun (said call answer)) stop) → ran (call ∷ []) (answer ∷ [])
+    → IsPut o o' (answer_bytes answer) r → IfErr r (λ stop. StopsFor (begun (said call answer)) stop) → ran (call ∷ []) (answer ∷ [])
     → IsAnswer o o' ran call r
 answer_put o o' ran call answer (Ok u) put why ran_it = (answer, put, ran_it)
 answer_put o o' ran call answer (Err stop) put why ran_it = (answer, put.0, put.1, ran_it, why)

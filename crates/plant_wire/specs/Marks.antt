@@ -1,7 +1,7 @@
 -- What is written for a list of requests.
 use Rattle.std.specs.Prelude.{ℕ, List, None, Option, Some, [], filter_map, flat_map, ◌∷◌}
 use Rattle.plant_model.specs.declared.{call.Call.{Call}, reply.Answer.{Answer}}
-use Rattle.plant_answer.specs.Answers.{text_of}
+use Rattle.plant_answer.specs.Answers.{answer_bytes}
 use Rattle.plant_call.specs.{Front.{Item, asked, bad}, declared.causes.Cause.{Cause}}
 use Rattle.plant_wire.specs.Causes.{cause_text}
 use Rattle.plant_model.specs.declared.reply.Answer.TheVariants as answer
@@ -12,13 +12,13 @@ pub data Mark : Type 0 where
   malformed : Cause → Mark
 
 -- the request
-abbrev pub item_of : Mark → Item
-item_of (said call answer) = asked call
-item_of (malformed cause) = bad cause
+abbrev pub marked_item : Mark → Item
+marked_item (said call answer) = asked call
+marked_item (malformed cause) = bad cause
 
 -- the whole text of its answer
 abbrev pub mark_text : Mark → List ℕ
-mark_text (said call answer) = text_of answer
+mark_text (said call answer) = answer_bytes answer
 mark_text (malformed cause) = cause_text cause
 
 -- the texts of the answers to these requests
@@ -35,13 +35,13 @@ abbrev pub calls_of : List Mark → List Call
 calls_of ms = filter_map call_in ms
 
 -- the answer to a call
-abbrev pub answer_in : Mark → Option Answer
-answer_in (said call answer) = Some answer
-answer_in (malformed cause) = None
+abbrev pub marked_answer : Mark → Option Answer
+marked_answer (said call answer) = Some answer
+marked_answer (malformed cause) = None
 
 -- the answers to the calls among these requests
 abbrev pub answers_of : List Mark → List Answer
-answers_of ms = filter_map answer_in ms
+answers_of ms = filter_map marked_answer ms
 
 -- what was begun when a session stopped: nothing, an answer, or that to the cause which breaks the stream
 pub data Last : Type 0 where

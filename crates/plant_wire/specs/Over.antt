@@ -15,7 +15,7 @@ RanOn b before after = Ran (books_state b before) (books_state b after) (b.store
 abbrev pub ReadsOn : {I : Type 0} → inlet.Ghosts I → I → I → List ℕ → List ℕ → Read → Type 0
 ReadsOn i from to before after read =
     IsRead (i.remaining from) (i.remaining to) (i.ended from) (i.ended to) (i.failures from) (i.failures to)
-        (i.reads from) (i.reads to) before after read
+    (i.reads from) (i.reads to) before after read
 
 -- a session from a reader to a writer
 abbrev pub IsSessionOn : {I O : Type 0} → inlet.Ghosts I → outlet.Ghosts O → I → I → O → O

@@ -16,10 +16,10 @@ IsRead unread unread_after ended ended_after failed failed_after reads reads_aft
     × (reads_after ≡ reads + 1) × (ended_after ≡ ended)
 IsRead unread unread_after ended ended_after failed failed_after reads reads_after old new read.Finished =
     Consumes unread unread_after [] × (new ≡ old) × (failed_after ≡ failed) × IsTrue ended_after × IsAtEnd unread_after
-        × (reads_after ≡ reads + 1)
+    × (reads_after ≡ reads + 1)
 IsRead unread unread_after ended ended_after failed failed_after reads reads_after old new read.Failed =
     Consumes unread unread_after [] × (new ≡ old) × (failed_after ≡ 1) × (reads ≤ reads_after)
-        × (reads_after ≤ reads + 1) × (ended_after ≡ ended)
+    × (reads_after ≤ reads + 1) × (ended_after ≡ ended)
 IsRead unread unread_after ended ended_after failed failed_after reads reads_after old new read.Fault =
     (bytes : List ℕ) × Consumes unread unread_after bytes × (failed_after ≡ failed) × (reads_after ≡ reads + 1)
 

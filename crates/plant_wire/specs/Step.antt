@@ -2,10 +2,10 @@
 -- after; `ran` says what the office did.
 use Rattle.std.specs.{Io.KnownBytes.{Appends}, Prelude.{◌≡◌, ◌<◌, ◌≤◌, ℕ, List, [], ◌∷◌, ◌++◌, length, take, drop, map, Option, Result, Ok, Err}}
 use Rattle.plant_model.specs.declared.{call.Call.{Call}, reply.Answer.{Answer}}
-use Rattle.plant_answer.specs.Answers.{text_of}
+use Rattle.plant_answer.specs.Answers.{answer_bytes}
 use Rattle.plant_call.specs.{Cut.{WaitsBelow}, Front.{waits, whole, broken, StandsAtFront, Parsed}, declared.causes.Cause.{Cause}}
 use Rattle.plant_wire.specs.Causes.{cause_text}
-use Rattle.plant_wire.specs.Marks.{Mark, said, item_of, mark_text, out_of, calls_of, answers_of, Last, nothing, begun, breaking, last_text, last_marks, IsFaultless}
+use Rattle.plant_wire.specs.Marks.{Mark, said, marked_item, mark_text, out_of, calls_of, answers_of, Last, nothing, begun, breaking, last_text, last_marks, IsFaultless}
 use Rattle.plant_wire.specs.declared.step.{Rest.{Rest}, Step.{Step, TheVariants.{Waits, Took, Broken}}, Stop.{Stop, TheVariants.{WriteFailed, Fault}}}
 use Rattle.plant_wire.specs.declared.step.Rest.TheVariants as left
 
@@ -29,16 +29,16 @@ StopsFor last Fault = IsFaultless last
 abbrev pub IsAnswer : Option (List ℕ) → Option (List ℕ) → (List Call → List Answer → Type 0) → Call
     → Result (Unit {0}) Stop → Type 0
 IsAnswer written written_after ran call (Ok u) =
-    (answer : Answer) × Appends written written_after (text_of answer) × ran (call ∷ []) (answer ∷ [])
+    (answer : Answer) × Appends written written_after (answer_bytes answer) × ran (call ∷ []) (answer ∷ [])
 IsAnswer written written_after ran call (Err stop) =
-    (answer : Answer) × (part : ℕ) × Appends written written_after (take part (text_of answer))
+    (answer : Answer) × (part : ℕ) × Appends written written_after (take part (answer_bytes answer))
     × ran (call ∷ []) (answer ∷ []) × StopsFor (begun (said call answer)) stop
 
 -- the requests at the front of the bytes were answered, each once and in order, and this is left
 pub record AnswersFront (bytes : List ℕ) (written written_after : Option (List ℕ))
     (ran : List Call → List Answer → Type 0) (rest : List ℕ) : Type 0 where
   pub marks : List Mark
-  pub parses : Parsed bytes (map item_of marks) rest
+  pub parses : Parsed bytes (map marked_item marks) rest
   pub writes : Appends written written_after (out_of marks)
   pub served : ran (calls_of marks) (answers_of marks)
 
@@ -48,7 +48,7 @@ pub record ServesBroken (bytes : List ℕ) (written written_after : Option (List
   pub marks : List Mark
   pub rest : List ℕ
   pub cause : Cause
-  pub parses : Parsed bytes (map item_of marks) rest
+  pub parses : Parsed bytes (map marked_item marks) rest
   pub front : StandsAtFront rest (broken cause)
   pub writes : Appends written written_after (out_of marks ++ cause_text cause)
   pub served : ran (calls_of marks) (answers_of marks)
@@ -56,7 +56,7 @@ pub record ServesBroken (bytes : List ℕ) (written written_after : Option (List
 -- what was begun stands at the front of the rest
 abbrev pub StandsLast : List ℕ → Last → Type 0
 StandsLast rest nothing = Unit {0}
-StandsLast rest (begun m) = (n : ℕ) × StandsAtFront rest (whole (item_of m) n)
+StandsLast rest (begun m) = (n : ℕ) × StandsAtFront rest (whole (marked_item m) n)
 StandsLast rest (breaking cause) = StandsAtFront rest (broken cause)
 
 -- the requests at the front were answered, and of the next answer only a part was written
@@ -66,7 +66,7 @@ pub record ServesPart (bytes : List ℕ) (written written_after : Option (List �
   pub rest : List ℕ
   pub last : Last
   pub part : ℕ
-  pub parses : Parsed bytes (map item_of marks) rest
+  pub parses : Parsed bytes (map marked_item marks) rest
   pub stands : StandsLast rest last
   pub writes : Appends written written_after (out_of marks ++ take part (last_text last))
   pub served : ran (calls_of (marks ++ last_marks last)) (answers_of (marks ++ last_marks last))
@@ -88,7 +88,7 @@ pub record IsUnfinished (bytes : List ℕ) (written written_after : Option (List
 pub record AnswersOne (bytes : List ℕ) (written written_after : Option (List ℕ))
     (ran : List Call → List Answer → Type 0) (n : ℕ) : Type 0 where
   pub mark : Mark
-  pub stands : StandsAtFront bytes (whole (item_of mark) n)
+  pub stands : StandsAtFront bytes (whole (marked_item mark) n)
   pub writes : Appends written written_after (mark_text mark)
   pub served : ran (calls_of (mark ∷ [])) (answers_of (mark ∷ []))
 

@@ -1,12 +1,12 @@
 ghost use Rattle.std.specs.Prelude.{◌≡◌};
-ghost use Rattle.plant_answer.specs.Answers.{text_of};
+ghost use Rattle.plant_answer.specs.Answers.{answer_bytes};
 ghost use Rattle.plant_model.specs.declared.reply.Answer.TheVariants as answers;
 
 use plant_types::Fault;
 
 /// The bytes of the answer to a call that got a fault.
 pub(crate) fn fault_text(fault: &Fault) -> &'static [u8]
-    ensures { result.now ≡ text_of (answers.Fault fault.now) }
+    ensures { result.now ≡ answer_bytes (answers.Fault fault.now) }
 {
     match fault {
         Fault::Memory =>

@@ -1,6 +1,6 @@
 ghost use Rattle.std.specs.Prelude.{◌≡◌, IfErr, List, ℕ};
 ghost use Rattle.plant_books.specs.Books.{WasHonest};
-ghost use Rattle.plant_answer.specs.Answers.{text_of};
+ghost use Rattle.plant_answer.specs.Answers.{answer_bytes};
 ghost use Rattle.plant_call.specs.Cut.{IsCutOf, WaitsBelow};
 ghost use Rattle.plant_wire.specs.{Marks.{begun, said}, Over.{RanOn}, Step.{IsAnswer, IsPut, IsRest, IsStep, Stalls, StopsFor}};
 ghost use Rattle.plant_model.specs.declared.call.Call.{Call};
@@ -67,7 +67,7 @@ fn put_cause<O: Outlet>(outlet: &mut O, cause: Cause) -> Result<(), Stop>
 /// Writes the answer to a call that got a fault, without memory too.
 fn put_fault<O: Outlet>(outlet: &mut O, fault: &Fault) -> Result<(), Stop>
     ensures does { IsPut (O.written outlet.old) (O.written outlet.new)
-        (text_of (answers.Fault fault.now)) result }
+        (answer_bytes (answers.Fault fault.now)) result }
     ensures stalls { Stalls (O.failures outlet.old) (O.failures outlet.new) result }
     ensures only { IfErr result (λ stop. stop ≡ Stop.WriteFailed) }
 {
@@ -75,7 +75,7 @@ fn put_fault<O: Outlet>(outlet: &mut O, fault: &Fault) -> Result<(), Stop>
 }
 
 fn put_answer<O: Outlet>(alloc: Global, outlet: &mut O, answer: &Answer) -> Result<(), Stop>
-    ensures does { IsPut (O.written outlet.old) (O.written outlet.new) (text_of answer.now) result }
+    ensures does { IsPut (O.written outlet.old) (O.written outlet.new) (answer_bytes answer.now) result }
     ensures stalls { Stalls (O.failures outlet.old) (O.failures outlet.new) result }
 {
     match render(alloc, answer) {
@@ -86,7 +86,7 @@ fn put_answer<O: Outlet>(alloc: Global, outlet: &mut O, answer: &Answer) -> Resu
 
 /// Writes an answer, one that is a fault without memory too.
 fn put_said<O: Outlet>(alloc: Global, outlet: &mut O, answer: &Answer) -> Result<(), Stop>
-    ensures does { IsPut (O.written outlet.old) (O.written outlet.new) (text_of answer.now) result }
+    ensures does { IsPut (O.written outlet.old) (O.written outlet.new) (answer_bytes answer.now) result }
     ensures stalls { Stalls (O.failures outlet.old) (O.failures outlet.new) result }
     ensures why { (call : Call) → IfErr result (StopsFor (begun (said call answer.now))) }
 {

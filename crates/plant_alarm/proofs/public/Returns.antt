@@ -4,7 +4,7 @@ use Rattle.std.proofs.{lemmas.List.Sorted.{IsNonDecreasingBy-take}, Math.{ListN.
 use Rattle.std.proofs.Common.{◌≡◌, ℕ, suc, ◌≤◌, ◌<◌, refl, sym, ap, ◌∙◌, List, [], ◌∷◌, ◌++◌, length, get_or, Option, Bool, true, cond, arith, subst, nat_lt, nat_le}
 use Rattle.plant_alarm.specs.declared.event.Event.{Event}
 use Rattle.plant_alarm.specs.{declared.shelf.Shelf.{Shelf}, Shelves.{shelf_while, start_of, is_after, returns_after, shelf_of, shelf_state}}
-use Rattle.plant_alarm.specs.States.{passing, is_return, returns, last_moment, last_return, IsInTime}
+use Rattle.plant_alarm.specs.States.{passing, is_return, returns, moment_of_last, last_return, IsInTime}
 use Rattle.plant_alarm.proofs.public.Push.{by_last, list_any-push, passing-push, last_moment-push}
 
 abbrev is_late : ℕ → Event → Bool
@@ -36,16 +36,16 @@ front_within : (es : List Event) (e : Event) → IsInTime (es ++ e ∷ []) → l
 front_within es e h =
     within e.moment es (λ k d lt.
     let last : (get_or (es ++ e ∷ []) k d).moment ≤ (get_or (es ++ e ∷ []) (length es) d).moment =
-        h k (length es) d (omega arith) (omega (arith, length-append es (e ∷ []))) in
+    h k (length es) d (omega arith) (omega (arith, length-append es (e ∷ []))) in
     subst (λ (x : Event). x.moment ≤ e.moment) (get_or-append es (e ∷ []) d k lt)
-        (subst (λ (y : Event). (get_or (es ++ e ∷ []) k d).moment ≤ y.moment) (get_or-append_seam es e [] d) last))
+    (subst (λ (y : Event). (get_or (es ++ e ∷ []) k d).moment ≤ y.moment) (get_or-append_seam es e [] d) last))
 
 abbrev Agrees : List Event → Type 0
 Agrees es = IsInTime es → (s : ℕ) → returns_after s es ≡ is_after s (last_return es)
 
 one_more : (es xs : List Event) (e : Event) (s : ℕ) (r : Bool) → list_all (is_within e.moment) xs ≡ true
-    → list_any (is_late s) xs ≡ is_after s (last_moment xs)
-    → list_any (is_late s) (xs ++ cond r (e ∷ []) []) ≡ is_after s (last_moment (xs ++ cond r (e ∷ []) []))
+    → list_any (is_late s) xs ≡ is_after s (moment_of_last xs)
+    → list_any (is_late s) (xs ++ cond r (e ∷ []) []) ≡ is_after s (moment_of_last (xs ++ cond r (e ∷ []) []))
 one_more es xs e s r in_bound agrees =
     grind (arith, nat_tests, list_any-push (is_late s) xs e, last_moment-push xs e, below_bound s e.moment xs, append-nil xs)
 
@@ -54,7 +54,7 @@ agrees_more es e agrees h s =
     let in_bound = passing_within e.moment is_return [] es (front_within es e h) in
     ap (list_any (is_late s)) (passing-push is_return [] es e)
     ∙ one_more es (returns es) e s (is_return es e) in_bound (agrees (front_in_time es e h) s)
-    ∙ ap (λ l. is_after s (last_moment l)) (sym (passing-push is_return [] es e))
+    ∙ ap (λ l. is_after s (moment_of_last l)) (sym (passing-push is_return [] es e))
 
 all_agree : (es : List Event) → Agrees es
 all_agree es = by_last Agrees (λ h s. refl) agrees_more es

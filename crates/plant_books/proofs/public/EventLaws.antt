@@ -77,7 +77,7 @@ pub changed_without : (cs : List RowEdit) (rows : UnitRows) → puts_event cs �
 changed_without [] rows none = refl
 changed_without (c ∷ cs) rows none =
     elim (is_event_put c) as (λ b. is_event_put c ≡ b → (b || puts_event cs) ≡ false
-        → changed_by (c ∷ cs) (without_events rows) ≡ without_events (changed_by (c ∷ cs) rows)) [
+    → changed_by (c ∷ cs) (without_events rows) ≡ without_events (changed_by (c ∷ cs) rows)) [
       | true ↦ λ is no. absurd (let wrong : true ≡ false = no in cc)
       | false ↦ λ is no. ap (changed_by cs) (put_no_event c rows is) ∙ changed_without cs (changed c rows) no
     ] refl none

@@ -20,9 +20,11 @@ module _ {X : Type 0} (q : X → Bool) where
   later_all x xs h = ((λ k d low high. absurd (omega (arith, high))), (λ k d low high. h.1 (suc k) d (omega arith) (omega (arith, high))))
 
   later_one : (x : X) (xs : List X) (p : ℕ) → Parted (x ∷ xs) (suc p) → Parted xs p
-  later_one x xs p h =
-      ((λ k d low high. h.0 (suc k) d (omega arith) (omega (arith, high))), (λ k d low high. h.1 (suc k) d (omega (arith, low))
-      (omega (arith, high))))
+  later_one x xs p h = (
+    (λ k d low high. h.0 (suc k) d (omega arith) (omega (arith, high))),
+    (λ k d low high. h.1 (suc k) d (omega (arith, low))
+        (omega (arith, high))),
+  )
 
   passes : (x : X) (xs : List X) (b : Bool) → q x ≡ b → cond b (x ∷ filter q xs) (filter q xs) ≡ filter q (x ∷ xs)
   passes x xs b is = ap (λ c. cond c (x ∷ filter q xs) (filter q xs)) (sym is)
@@ -58,7 +60,7 @@ filter-filter : {X : Type 0} (p q : X → Bool) (xs : List X) → filter q (filt
 filter-filter p q [] = refl
 filter-filter p q (x ∷ xs) =
     elim (p x) as (λ b. filter q (cond b (x ∷ filter p xs) (filter p xs))
-        ≡ cond (b && q x) (x ∷ filter (λ x. p x && q x) xs) (filter (λ x. p x && q x) xs)) [
+    ≡ cond (b && q x) (x ∷ filter (λ x. p x && q x) xs) (filter (λ x. p x && q x) xs)) [
       | true ↦ ap (λ ys. cond (q x) (x ∷ ys) ys) (filter-filter p q xs)
       | false ↦ filter-filter p q xs
     ]
@@ -79,9 +81,11 @@ module _ {X : Type 0} (number : X → ℕ) where
 
   pub climb : (xs : List X) → IsNonDecreasingBy number xs → Climb xs
   climb [] h = tt
-  climb (x ∷ xs) h =
-      (from_all (number x) xs (λ k d lt. h 0 (suc k) d (omega arith) (omega (arith, lt))), climb xs
-      (λ i j d le lt. h (suc i) (suc j) d (omega (arith, le)) (omega (arith, lt))))
+  climb (x ∷ xs) h = (
+    from_all (number x) xs (λ k d lt. h 0 (suc k) d (omega arith) (omega (arith, lt))),
+    climb xs
+        (λ i j d le lt. h (suc i) (suc j) d (omega (arith, le)) (omega (arith, lt))),
+  )
 
   rest_rises : (k : ℕ) (xs : List X) → IsNonDecreasingBy number xs → IsNonDecreasingBy number (drop k xs)
   rest_rises zero xs h = h
@@ -139,16 +143,16 @@ module _ {X : Type 0} (number : X → ℕ) where
       by (inl same) rest =
           let none : those_among ks xs ≡ [] = none_from ks n xs low (subst (λ m. From m xs) same h.0) in
           ap (λ b. cond b (x ∷ more) more)
-              (among_more ks n (number x) ∙ ap (λ b. among ks (number x) || (b || false)) (tied_numbers (number x) n same)
-              ∙ or_right (among ks (number x)) true refl)
+          (among_more ks n (number x) ∙ ap (λ b. among ks (number x) || (b || false)) (tied_numbers (number x) n same)
+          ∙ or_right (among ks (number x)) true refl)
           ∙ ap (λ l. x ∷ l) (rest ∙ ap (λ l. l ++ those_of n xs) none)
           ∙ sym (ap (λ b. cond b (x ∷ those_among ks xs) (those_among ks xs)
           ++ those_of n (x ∷ xs)) (none_among ks n (number x) low (omega (arith, same)))
           ∙ (λ i. none i ++ cond (tied_numbers (number x) n same i) (x ∷ those_of n xs) (those_of n xs)))
       by (inr (inl lt)) rest =
           ap (λ b. cond b (x ∷ more) more)
-              (among_more ks n (number x) ∙ ap (λ b. among ks (number x) || (b || false)) (other_above (number x) n lt)
-              ∙ or_none (among ks (number x)))
+          (among_more ks n (number x) ∙ ap (λ b. among ks (number x) || (b || false)) (other_above (number x) n lt)
+          ∙ or_none (among ks (number x)))
           ∙ elim (among ks (number x)) as (λ b. cond b (x ∷ more) more ≡ cond b (x ∷ those_among ks xs) (those_among ks xs) ++ those_of n xs) [
             | true ↦ ap (λ l. x ∷ l) rest
             | false ↦ rest
@@ -156,7 +160,7 @@ module _ {X : Type 0} (number : X → ℕ) where
           ∙ ap (λ b. those_among ks (x ∷ xs) ++ cond b (x ∷ those_of n xs) (those_of n xs)) (sym (other_above (number x) n lt))
       by (inr (inr gt)) rest =
           ap (λ b. cond b (x ∷ more) more)
-              (among_more ks n (number x) ∙ ap (λ b. among ks (number x) || (b || false)) (other (number x) n gt) ∙ or_none (among ks (number x)))
+          (among_more ks n (number x) ∙ ap (λ b. among ks (number x) || (b || false)) (other (number x) n gt) ∙ or_none (among ks (number x)))
           ∙ elim (among ks (number x)) as (λ b. cond b (x ∷ more) more ≡ cond b (x ∷ those_among ks xs) (those_among ks xs) ++ those_of n xs) [
             | true ↦ ap (λ l. x ∷ l) rest
             | false ↦ rest

@@ -23,7 +23,7 @@ module _ {X : Type 0} (R : X → X → Ordering) (total : IsTotalOrder R) where
   below_more x y [] e h = tt
   below_more x y (z ∷ rows) e h =
       both (is_lt (R x z)) (below_all R x (pairs rows))
-          (subst (λ (o : Ordering). T (is_lt o)) (sym (total.trans x y z e (less (R y z) (first _ _ h)))) tt)
+      (subst (λ (o : Ordering). T (is_lt o)) (sym (total.trans x y z e (less (R y z) (first _ _ h)))) tt)
       (below_more x y rows e (second _ _ h))
 
   pub neighbours_rise : (rows : List X) → ((k : ℕ) (d : X) → k + 1 < length rows → is_lt (R (get_or rows k d) (get_or rows (k + 1) d)) ≡ true)
@@ -32,9 +32,9 @@ module _ {X : Type 0} (R : X → X → Ordering) (total : IsTotalOrder R) where
   neighbours_rise (x ∷ []) h = tt
   neighbours_rise (x ∷ y ∷ rows) h =
       let rest =
-          neighbours_rise (y ∷ rows)
-          (λ k d within. subst (λ n. is_lt (R (get_or (y ∷ rows) k d) (get_or (x ∷ y ∷ rows) n d)) ≡ true) (let e : suc k + 1
-          ≡ suc (k + 1) = omega arith in e) (h (suc k) d (omega (arith, within)))) in
+      neighbours_rise (y ∷ rows)
+      (λ k d within. subst (λ n. is_lt (R (get_or (y ∷ rows) k d) (get_or (x ∷ y ∷ rows) n d)) ≡ true) (let e : suc k + 1
+      ≡ suc (k + 1) = omega arith in e) (h (suc k) d (omega (arith, within)))) in
       let now : R x y ≡ Less = lesser (R x y) (h 0 x (omega arith)) in
       both (below_all R x (pairs (y ∷ rows))) (is_sorted R (pairs (y ∷ rows)))
       (both (is_lt (R x y)) (below_all R x (pairs rows)) (subst (λ (o : Ordering). T (is_lt o)) (sym now) tt)
@@ -75,28 +75,75 @@ none_in_order = record { alarms = tt; shelves = tt; events = tt; bands = tt; cel
 
 put_in_order : (r : Row) (rows : UnitRows) → AreInOrder rows → AreInOrder (put r rows)
 put_in_order (AlarmPut r) rows h =
-    record { alarms = IsInOrder-put_row name_cmp alarm_tag name_total same_names r rows.alarms h.alarms; shelves = h.shelves; events = h.events;
-    bands = h.bands; cells = h.cells; records = h.records; changes = h.changes }
+    record {
+      alarms = IsInOrder-put_row name_cmp alarm_tag name_total same_names r rows.alarms h.alarms;
+      shelves = h.shelves;
+      events = h.events;
+      bands = h.bands;
+      cells = h.cells;
+      records = h.records;
+      changes = h.changes;
+    }
 put_in_order (ShelfPut r) rows h =
-    record { alarms = h.alarms; shelves = IsInOrder-put_row name_cmp shelf_tag name_total same_names r rows.shelves h.shelves; events = h.events;
-    bands = h.bands; cells = h.cells; records = h.records; changes = h.changes }
+    record {
+      alarms = h.alarms;
+      shelves = IsInOrder-put_row name_cmp shelf_tag name_total same_names r rows.shelves h.shelves;
+      events = h.events;
+      bands = h.bands;
+      cells = h.cells;
+      records = h.records;
+      changes = h.changes;
+    }
 put_in_order (EventPut r) rows h =
-    record { alarms = h.alarms; shelves = h.shelves;
-    events = IsInOrder-put_row nat_cmp event_number nat_cmp_total nat_cmp-IsAntisymmetric r rows.events h.events; bands = h.bands; cells = h.cells;
-    records = h.records; changes = h.changes }
+    record {
+      alarms = h.alarms;
+      shelves = h.shelves;
+      events = IsInOrder-put_row nat_cmp event_number nat_cmp_total nat_cmp-IsAntisymmetric r rows.events h.events;
+      bands = h.bands;
+      cells = h.cells;
+      records = h.records;
+      changes = h.changes;
+    }
 put_in_order (BandPut r) rows h =
-    record { alarms = h.alarms; shelves = h.shelves; events = h.events;
-    bands = IsInOrder-put_row band_cmp band_key band_total same_bands r rows.bands h.bands; cells = h.cells; records = h.records;
-    changes = h.changes }
+    record {
+      alarms = h.alarms;
+      shelves = h.shelves;
+      events = h.events;
+      bands = IsInOrder-put_row band_cmp band_key band_total same_bands r rows.bands h.bands;
+      cells = h.cells;
+      records = h.records;
+      changes = h.changes;
+    }
 put_in_order (CellPut r) rows h =
-    record { alarms = h.alarms; shelves = h.shelves; events = h.events; bands = h.bands;
-    cells = IsInOrder-put_row cell_cmp cell_key cell_total same_cells r rows.cells h.cells; records = h.records; changes = h.changes }
+    record {
+      alarms = h.alarms;
+      shelves = h.shelves;
+      events = h.events;
+      bands = h.bands;
+      cells = IsInOrder-put_row cell_cmp cell_key cell_total same_cells r rows.cells h.cells;
+      records = h.records;
+      changes = h.changes;
+    }
 put_in_order (RecordPut r) rows h =
-    record { alarms = h.alarms; shelves = h.shelves; events = h.events; bands = h.bands; cells = h.cells;
-    records = IsInOrder-put_row name_cmp record_tag name_total same_names r rows.records h.records; changes = h.changes }
+    record {
+      alarms = h.alarms;
+      shelves = h.shelves;
+      events = h.events;
+      bands = h.bands;
+      cells = h.cells;
+      records = IsInOrder-put_row name_cmp record_tag name_total same_names r rows.records h.records;
+      changes = h.changes;
+    }
 put_in_order (ChangePut r) rows h =
-    record { alarms = h.alarms; shelves = h.shelves; events = h.events; bands = h.bands; cells = h.cells; records = h.records;
-    changes = IsInOrder-put_row nat_cmp change_number nat_cmp_total nat_cmp-IsAntisymmetric r rows.changes h.changes }
+    record {
+      alarms = h.alarms;
+      shelves = h.shelves;
+      events = h.events;
+      bands = h.bands;
+      cells = h.cells;
+      records = h.records;
+      changes = IsInOrder-put_row nat_cmp change_number nat_cmp_total nat_cmp-IsAntisymmetric r rows.changes h.changes;
+    }
 put_in_order _ rows h =
     record { alarms = h.alarms; shelves = h.shelves; events = h.events; bands = h.bands; cells = h.cells; records = h.records; changes = h.changes }
 
@@ -104,8 +151,15 @@ removed_in_order : (k : Key) (rows : UnitRows) → AreInOrder rows → AreInOrde
 removed_in_order (GrantKey p r) rows h =
     record { alarms = h.alarms; shelves = h.shelves; events = h.events; bands = h.bands; cells = h.cells; records = h.records; changes = h.changes }
 removed_in_order (ShelfKey a) rows h =
-    record { alarms = h.alarms; shelves = IsInOrder-remove_row name_cmp shelf_tag name_total same_names a rows.shelves h.shelves; events = h.events;
-    bands = h.bands; cells = h.cells; records = h.records; changes = h.changes }
+    record {
+      alarms = h.alarms;
+      shelves = IsInOrder-remove_row name_cmp shelf_tag name_total same_names a rows.shelves h.shelves;
+      events = h.events;
+      bands = h.bands;
+      cells = h.cells;
+      records = h.records;
+      changes = h.changes;
+    }
 
 events_in_order : (more es : List Event) → EventsRise es → EventsRise (with_events es more)
 events_in_order [] es h = h
@@ -115,8 +169,15 @@ events_in_order (e ∷ more) es h =
 pub one_in_order : (c : RowEdit) (rows : UnitRows) → AreInOrder rows → AreInOrder (changed c rows)
 one_in_order (Put r) rows h = put_in_order r rows h
 one_in_order (PutEvents es) rows h =
-    record { alarms = h.alarms; shelves = h.shelves; events = events_in_order es rows.events h.events; bands = h.bands; cells = h.cells;
-    records = h.records; changes = h.changes }
+    record {
+      alarms = h.alarms;
+      shelves = h.shelves;
+      events = events_in_order es rows.events h.events;
+      bands = h.bands;
+      cells = h.cells;
+      records = h.records;
+      changes = h.changes;
+    }
 one_in_order (Remove k) rows h = removed_in_order k rows h
 
 pub changed_in_order : (cs : List RowEdit) (rows : UnitRows) → AreInOrder rows → AreInOrder (changed_by cs rows)

@@ -42,7 +42,7 @@ held_shelves there t p (u ∷ us) = by (there u) refl (held_shelves there t p us
     by None e same = same
     by (Some rows) e same =
         elim (list_any (is_held_by t p) rows.grants) as (λ b. seen (cons_option (when b u) rest) ≡ cond b (map (mine_row u rows) rows.shelves) []
-            ++ mine) [
+        ++ mine) [
           | true ↦ λ i. shelves_there u (e i) ++ same i
           | false ↦ same
         ]

@@ -34,11 +34,11 @@ module _ {K X : Type 0} (R : K → K → Ordering) (key : X → K) where
             ≡ by_order o (x ∷ e ∷ es) (x ∷ es) (e ∷ put_row R key x es)
         go Less h more =
             let above : AllByRecursion (λ y. R (key x) (key y) ≡ Less) es =
-                all_weaker _ (λ y. R (key x) (key y) ≡ Less) (λ y. total.trans (key x) (key e) (key y) h) es up.0 in
+            all_weaker _ (λ y. R (key x) (key y) ≡ Less) (λ y. total.trans (key x) (key e) (key y) h) es up.0 in
             ap (λ l. insert_sorted (λ a b. R (key a) (key b)) x (e ∷ l)) (none_tied x es above) ∙ at_front x (e ∷ es) (h, above)
         go Equal h more =
             let above : AllByRecursion (λ y. R (key x) (key y) ≡ Less) es =
-                all_weaker _ (λ y. R (key x) (key y) ≡ Less) (λ y k. alike_left (key x) (key e) (key y) h ∙ k) es up.0 in
+            all_weaker _ (λ y. R (key x) (key y) ≡ Less) (λ y k. alike_left (key x) (key e) (key y) h ∙ k) es up.0 in
             ap (insert_sorted (λ a b. R (key a) (key b)) x) (none_tied x es above) ∙ at_front x es above
         go Greater h more = rw h (ap (λ l. e ∷ l) more)
 

@@ -60,11 +60,16 @@ deletes schema free text params old new at table q has listed is plain count h =
     let w = runs_as text params old new schema has command is plain count h in
     let sql = statement_of text (understood schema text) in
     let does =
-        subst (λ s. Does old.step_limit (mode_of old) params (record old.now { schema = s }) sql None command (Ok (w.tally, new.now))) has
-        w.changed in
+    subst (λ s. Does old.step_limit (mode_of old) params (record old.now { schema = s }) sql None command (Ok (w.tally, new.now))) has
+    w.changed in
     let on = subst
-        (λ o. AtPlace (λ t. OnRows (record { limit = old.step_limit; keys = (mode_of old).keys; schema = schema; table = t;
-        params = params }) (mode_of old) None command db) o (Ok (w.tally, new.now))) listed does in
+    (λ o. AtPlace (λ t. OnRows (record {
+      limit = old.step_limit;
+      keys = (mode_of old).keys;
+      schema = schema;
+      table = t;
+      params = params;
+    }) (mode_of old) None command db) o (Ok (w.tally, new.now))) listed does in
     let done = went on in
     let now = ap (λ (p : Tally × Database). p.1) (same_value (went (went done.2).2).2) in
     let got = went done.1 in
@@ -120,13 +125,13 @@ pub indexes : (text : List ℕ) (before after : Schema) (place : ℕ) (table : T
     → (count : ℕ) → Executes text [] old new (Ok count) → HasIndexed before after old.now new.now
 indexes text before after place table made old new has listed is whole plain defined is_after count h =
     let w = subst (λ t. Writes old new None (CreateIndex place) t [] count) whole
-        (runs_as text [] old new before has (CreateIndex place) is plain count h) in
+    (runs_as text [] old new before has (CreateIndex place) is plain count h) in
     let does =
-        subst (λ s. Does old.step_limit (mode_of old) [] (record old.now { schema = s }) text None (CreateIndex place) (Ok (w.tally, new.now))) has
-        w.changed in
+    subst (λ s. Does old.step_limit (mode_of old) [] (record old.now { schema = s }) text None (CreateIndex place) (Ok (w.tally, new.now))) has
+    w.changed in
     let on = subst
-        (λ o. AtPlace (λ t. Defines (mode_of old) (MakesIndex text (record { schema = before; trees = old.now.trees }) t)) o (Ok (w.tally, new.now)))
-        listed does in
+    (λ o. AtPlace (λ t. Defines (mode_of old) (MakesIndex text (record { schema = before; trees = old.now.trees }) t)) o (Ok (w.tally, new.now)))
+    listed does in
     let all = went on in
     let it = all.1 in
     let both : Ok it.index ≡ Ok made = sym it.defined ∙ defined in

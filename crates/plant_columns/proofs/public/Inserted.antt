@@ -40,23 +40,31 @@ module _ (schema : Schema) (free : HasNoReferences schema) (name : List ℕ) (tr
       let w = runs_as text params old new schema has command is plain count h in
       let sql = statement_of text (understood schema text) in
       let does =
-          subst (λ s. Does old.step_limit (mode_of old) params (record old.now { schema = s }) sql None command (Ok (w.tally, new.now))) has
-          w.changed in
+      subst (λ s. Does old.step_limit (mode_of old) params (record old.now { schema = s }) sql None command (Ok (w.tally, new.now))) has
+      w.changed in
       let on = subst
-          (λ o. AtPlace (λ t. OnRows (record { limit = old.step_limit; keys = (mode_of old).keys; schema = schema; table = t;
-          params = params }) (mode_of old) None command db) o (Ok (w.tally, new.now))) listed does in
+      (λ o. AtPlace (λ t. OnRows (record {
+        limit = old.step_limit;
+        keys = (mode_of old).keys;
+        schema = schema;
+        table = t;
+        params = params;
+      }) (mode_of old) None command db) o (Ok (w.tally, new.now))) listed does in
       let done = went on in
       let now = ap (λ (p : Tally × Database). p.1) (same_value (went (went done.2).2).2) in
       let source_rows = went done.1 in
       let counter = went source_rows.2 in
       let went_in = went (subst (λ rows. Then (Edited schema (mode_of old).keys db (edit_of db table [] Chosen 0 rows)) (λ mid.
       Then (Counts task mid counter.0 (fold higher (count_of counter.0) (edit_of db table [] Chosen 0 rows).news))
-          (λ next. Gives (record { trees = next; rows = (edit_of db table [] Chosen 0 rows).news;
-          last = last_id (edit_of db table [] Chosen 0 rows).news }))) (Ok done.0)) (source_rows.1.1 ∙ values) counter.2) in
+      (λ next. Gives (record {
+        trees = next;
+        rows = (edit_of db table [] Chosen 0 rows).news;
+        last = last_id (edit_of db table [] Chosen 0 rows).news;
+      }))) (Ok done.0)) (source_rows.1.1 ∙ values) counter.2) in
       let step = lone_step schema free (mode_of old).keys db went_in.0 (edit_of db table [] Chosen 0 (source ∷ [])) went_in.1 in
       let counted = went went_in.2 in
       let same : new.now.trees ≡ went_in.0 = ap (λ (d : Database). d.trees) now ∙ ap (λ (it : Written). it.trees) (same_value counted.2)
-          ∙ same_value counted.1 in
+      ∙ same_value counted.1 in
       record {
         rows = ap (λ (t : Trees). t tree) same ∙ step.rows;
         fits = subst (Fits schema) (sym same) step.fits;
@@ -85,14 +93,14 @@ none_agrees schema table trees fits listed row r has_row has_r apart met =
     let one = some_has (shares None table row r) schema.indexes met in
     let kept : passes Unique schema trees table row ≡ true =
     all_has (λ row. passes Unique schema trees table row ≡ true)
-        (trees table.tree) row (all_has (λ t. AllByRecursion (λ row. passes Unique schema trees t row
-        ≡ true) (trees t.tree)) schema.tables table (fits.rules Unique not_unique) listed) has_row in
+    (trees table.tree) row (all_has (λ t. AllByRecursion (λ row. passes Unique schema trees t row
+    ≡ true) (trees t.tree)) schema.tables table (fits.rules Unique not_unique) listed) has_row in
     let lone = test_has (λ i. not (guards i table && clashes i.order i.columns (trees table.tree) row)) schema.indexes one.0 kept one.1 in
     let i = one.0 in
     let split = sharing (guards one.0 table) (agree one.0.order one.0.columns r one.0.columns row) one.2 in
     let clash =
-        some_from (λ other. agree one.0.order one.0.columns other one.0.columns row && differ (rowid other) (rowid row))
-        (trees table.tree) r has_r (and_from _ _ split.1 apart) in
+    some_from (λ other. agree one.0.order one.0.columns other one.0.columns row && differ (rowid other) (rowid row))
+    (trees table.tree) r has_r (and_from _ _ split.1 apart) in
     true≢false (sym lone ∙ ap not (and_from (guards one.0 table) _ split.0 clash))
 
 differs : (m n : ℤ) → value_cmp (Int m) (Int n) ≡ Less → differ (Int m) (Int n) ≡ true
@@ -113,27 +121,29 @@ module _ {X K : Type 0} (s : Shape X K) (good : IsShape s) (schema : Schema) (li
       let int_at : (r : Row) → Has rows r → rowid r ≡ Int (id_in (rowid r)) = λ r h. int_is (rowid r) (all_has _ rows r are.ints h) in
       let casts : (v : Value) → cast Integer v ≡ v → cast_row (table_in s) (row_in s v u x) ≡ row_in s v u x = λ v h. ap₂ ◌∷◌ h (good.fits u x) in
       let whole : new.trees s.tree ≡ rows ++ row ∷ [] = it.rows ∙ ap (λ r. put_row (with_rowid Chosen rows r) rows) (casts Null cast_null)
-          ∙ put_last row rows below in
+      ∙ put_last row rows below in
       let has_row : Has (new.trees s.tree) row = subst (λ l. Has l row) (sym whole) (has_right rows (row ∷ []) row (inl refl)) in
       let free : (r : Row) → Has rows r → is_eq (by_columns key row r) ≡ false = λ r h. false_from_ne_true _ (λ tie.
       let less = all_has _ rows r below h in
       let unequal : equal Binary (rowid r) (Int id) ≡ false = equal_is (rowid r) (Int id) refl ∙ ap is_eq less in
       let met = listed.alone (Text u ∷ s.cells x) r (Int id) unequal ∙ agree_is key r row (good.keyed (Int id) u x) ∙ tie in
       none_agrees schema (table_in s) new.trees it.fits (has_got schema.tables s.place (table_in s) listed.at) row r has_row
-          (subst (λ l. Has l r) (sym whole) (has_left rows (row ∷ []) r h))
+      (subst (λ l. Has l r) (sym whole) (has_left rows (row ∷ []) r h))
       (subst (λ v. differ v (Int id)
       ≡ true) (sym (int_at r h)) (differs (id_in (rowid r)) id (subst (λ v. value_cmp v (Int id) ≡ Less) (int_at r h) less))) (or_last (agree plain (0
       ∷ []) r (0 ∷ []) row) _ (ap (λ b. b && true) unequal) met)) in
       let same : taken_out (by_columns key) row rows ≡ rows =
-          filter_all _ rows (all_from (λ r. not (is_eq (by_columns key row r)) ≡ true) rows (λ r h. ap not (free r h))) in
+      filter_all _ rows (all_from (λ r. not (is_eq (by_columns key row r)) ≡ true) rows (λ r h. ap not (free r h))) in
       let stays : rows ++ row ∷ [] ≡ taken_out (by_columns key) row rows ++ row ∷ [] = ap (λ l. l ++ row ∷ []) (sym same) in
       let last : put_row row rows ≡ rows ++ row ∷ [] = put_last row rows below in
       record {
         id = id;
         rows = whole ∙ stays;
         are = subst AreRows (sym whole)
-            (record { rise = subst IsTable last (IsTable-put_row row rows are.rise);
-            ints = all-append (λ r. is_int (rowid r) ≡ true) rows (row ∷ []) are.ints (refl, tt) });
+            (record {
+              rise = subst IsTable last (IsTable-put_row row rows are.rise);
+              ints = all-append (λ r. is_int (rowid r) ≡ true) rows (row ∷ []) are.ints (refl, tt);
+            });
         others = it.others;
         same_schema = it.same_schema;
       }
@@ -145,4 +155,4 @@ module _ {X K : Type 0} (s : Shape X K) (good : IsShape s) (schema : Schema) (li
       → Executes text (Text u ∷ s.cells x) old new (Ok count) → PutsRow schema s u x old.now new.now
   adds_row free text terms width is plain_text u x values old new has are count h =
       adds u x old.now new.now are (inserts schema free s.name s.tree s.columns (1 ∷ s.keys) text (Text u
-          ∷ s.cells x) old new s.place terms width (row_in s Null u x) has listed.at is plain_text values count h)
+      ∷ s.cells x) old new s.place terms width (row_in s Null u x) has listed.at is plain_text values count h)

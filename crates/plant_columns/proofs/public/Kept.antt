@@ -14,9 +14,9 @@ filter_and p q [] = refl
 filter_and p q (x ∷ xs) =
     elim (p x) as (λ b. cond (b && q x) (x ∷ filter (λ x. p x && q x) xs) (filter (λ x. p x && q x) xs)
     ≡ filter q (cond b (x ∷ filter p xs) (filter p xs))) [
-  | true ↦ ap (λ l. cond (q x) (x ∷ l) l) (filter_and p q xs)
-  | false ↦ filter_and p q xs
-]
+      | true ↦ ap (λ l. cond (q x) (x ∷ l) l) (filter_and p q xs)
+      | false ↦ filter_and p q xs
+    ]
 
 module _ {X : Type 0} (cmp : X → X → Ordering) (total : IsTotalOrder cmp) where
   abbrev pub AtMost : X → X → Type 0
@@ -34,14 +34,14 @@ module _ {X : Type 0} (cmp : X → X → Ordering) (total : IsTotalOrder cmp) wh
   under : (a b : X) → is_gt (cmp a b) ≡ false → is_eq (cmp a b) ≡ false → is_gt (cmp b a) ≡ true
   under a b h k =
       rw (total.antisymm b a)
-          (elim (cmp a b) as (λ o. is_gt o ≡ false → is_eq o ≡ false
-          → is_gt (ordering_reverse o) ≡ true) [ Less ↦ λ e f. refl | Equal ↦ λ e f. sym f | Greater ↦ λ e f. sym e ] h k)
+      (elim (cmp a b) as (λ o. is_gt o ≡ false → is_eq o ≡ false
+      → is_gt (ordering_reverse o) ≡ true) [ Less ↦ λ e f. refl | Equal ↦ λ e f. sym f | Greater ↦ λ e f. sym e ] h k)
 
   pub all-insert : (P : X → Type 0) (new : X) (xs : List X) → P new → AllByRecursion P xs → AllByRecursion P (insert_sorted cmp new xs)
   all-insert P new [] h all = (h, tt)
   all-insert P new (x ∷ xs) h all =
       elim (is_gt (cmp new x)) as (λ b. AllByRecursion P (cond b (x ∷ insert_sorted cmp new xs) (new ∷ x
-          ∷ xs))) [ true ↦ (all.0, all-insert P new xs h all.1) | false ↦ (h, all) ]
+      ∷ xs))) [ true ↦ (all.0, all-insert P new xs h all.1) | false ↦ (h, all) ]
 
   rises-insert : (new : X) (xs : List X) → IsAscending AtMost xs → IsAscending AtMost (insert_sorted cmp new xs)
   rises-insert new [] up = (tt, tt)
@@ -147,7 +147,7 @@ module _ {X : Type 0} (cmp : X → X → Ordering) (total : IsTotalOrder cmp) wh
   pub kept-put : (p : X → Bool) (x : X) (xs : List X) → p x ≡ true → kept cmp p (taken_out cmp x xs ++ x ∷ []) ≡ put_in cmp x (kept cmp p xs)
   kept-put p x xs h =
       let tail : filter p (taken_out cmp x xs ++ x ∷ []) ≡ filter p (taken_out cmp x xs) ++ x ∷ [] = filter-append p (taken_out cmp x xs) (x ∷ [])
-          ∙ ap (λ b. filter p (taken_out cmp x xs) ++ cond b (x ∷ []) []) h in
+      ∙ ap (λ b. filter p (taken_out cmp x xs) ++ cond b (x ∷ []) []) h in
       ap (sort_by cmp) tail
       ∙ sort_push x (filter p (taken_out cmp x xs)) (all-filter _ p _ (apart_from x xs))
       ∙ ap (insert_sorted cmp x)
@@ -157,8 +157,8 @@ module _ {X : Type 0} (cmp : X → X → Ordering) (total : IsTotalOrder cmp) wh
       → kept cmp p (taken_out cmp x xs ++ x ∷ []) ≡ kept cmp p xs
   kept-put_other p x xs h apart =
       ap (sort_by cmp)
-          (filter-append p (taken_out cmp x xs) (x ∷ []) ∙ ap (λ b. filter p (taken_out cmp x xs) ++ cond b (x ∷ []) []) h
-          ∙ Rattle.std.proofs.Common.append-nil _ ∙ none_out p x apart xs)
+      (filter-append p (taken_out cmp x xs) (x ∷ []) ∙ ap (λ b. filter p (taken_out cmp x xs) ++ cond b (x ∷ []) []) h
+      ∙ Rattle.std.proofs.Common.append-nil _ ∙ none_out p x apart xs)
 
   pub kept-out : (p : X → Bool) (x : X) (xs : List X) → kept cmp p (taken_out cmp x xs) ≡ taken_out cmp x (kept cmp p xs)
   kept-out p x xs = ap (sort_by cmp) (filter_swap p (λ y. not (is_eq (cmp x y))) xs) ∙ sort-filter (λ y. not (is_eq (cmp x y))) (filter p xs)

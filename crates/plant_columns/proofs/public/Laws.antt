@@ -52,9 +52,9 @@ module _ (tree : ℕ) (tests project : List Term) (order : List (Term × Key)) w
       → IsAnswer (plain_query (inner tree end) tests project order) (overlay trees []) params rows → Reads trees params rows
   reads trees params rows a =
       let staged = a.grouped ∙ ap (flat_map (λ r. cond (passes params r) ((params ∷ r ∷ []) ∷ []) [])) (overlay_none trees tree)
-          ∙ matched params (trees tree) in
+      ∙ matched params (trees tree) in
       let kept = a.distinct ∙ ap (map (output (plain_query (inner tree end) tests project order))) staged
-          ∙ map-map (output (plain_query (inner tree end) tests project order)) (λ r. params ∷ r ∷ []) (filter (passes params) (trees tree)) in
+      ∙ map-map (output (plain_query (inner tree end) tests project order)) (λ r. params ∷ r ∷ []) (filter (passes params) (trees tree)) in
       record { ordered = a.ordered; same = subst (λ k. IsPermutation k a.ordered) kept a.same; sorted = a.sorted; rows_are = a.shown }
 
 -- ---- writing
@@ -89,7 +89,7 @@ found_by tree tests trees params found it =
           (r.0, k.0, k.1, o.2 ∙ ap (λ (o : Output). o.1) r.2);
       complete = λ r h e.
           let o = has_permuted it.ordered _ (show r) (IsPermutation-sym _ _ it.same)
-              (mapped_has show (filter p (trees tree)) r (has_kept p (trees tree) r h e)) in
+          (mapped_has show (filter p (trees tree)) r (has_kept p (trees tree) r h e)) in
           subst (λ l. Has l (rowid r ∷ [])) (sym it.rows_are) (mapped_has (λ (o : Output). o.1) it.ordered (show r) o);
     }
 
@@ -106,9 +106,9 @@ module _ (schema : Rattle.sqlite.specs.Schema.Schema) (name : List ℕ) (tree : 
   removes tests params old new are it =
       let p = passes tree tests (Rattle.sqlite.specs.Term.col 1 0 ∷ []) [] params in
       let rows = it.rows
-          ∙ without_found p (old.trees tree) it.found are
-          (found_by tree tests old.trees params it.found (reads tree tests (Rattle.sqlite.specs.Term.col 1 0
-          ∷ []) [] old.trees params it.found it.answer)) in
+      ∙ without_found p (old.trees tree) it.found are
+      (found_by tree tests old.trees params it.found (reads tree tests (Rattle.sqlite.specs.Term.col 1 0
+      ∷ []) [] old.trees params it.found it.answer)) in
       (rows, subst AreRows (sym rows) (are_left (λ r. not (p r)) (old.trees tree) are))
 
 -- ---- the one answer in the order of the key
@@ -126,10 +126,10 @@ module _ (tree : ℕ) (tests project : List Term) (order : List (Term × Key)) (
       let some = filter (passes tree tests project order params) (trees tree) in
       let free : IsAscending (λ a b. is_eq (output_cmp q (show a) (show b)) ≡ false) some =
       subst (λ (c : Row → Row → Ordering). IsAscending (λ a b. is_eq (c a b) ≡ false) some) (sym agrees)
-          (ascending-filter _ (passes tree tests project order params) (trees tree) apart) in
+      (ascending-filter _ (passes tree tests project order params) (trees tree) apart) in
       let sorted : it.ordered ≡ sort_by (output_cmp q) (map show some) =
       sorted_is-sort_by (output_cmp q) (output_cmp_total q)
-          (map show some) it.ordered (ascending-map (λ a b. is_eq (output_cmp q a b) ≡ false) show some free) it.same it.sorted in
+      (map show some) it.ordered (ascending-map (λ a b. is_eq (output_cmp q a b) ≡ false) show some free) it.same it.sorted in
       let all : it.ordered ≡ map show (sort_by (by_columns key) some) =
       sorted ∙ sort_by-map (output_cmp q) show some ∙ ap (λ (c : Row → Row → Ordering). map show (sort_by c some)) agrees in
       it.rows_are ∙ ap (map (λ (o : Output). o.1)) all ∙ map-map (λ (o : Output). o.1) show (sort_by (by_columns key) some)

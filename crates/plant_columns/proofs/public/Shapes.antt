@@ -80,7 +80,7 @@ module _ {X K : Type 0} (s : Shape X K) (good : IsShape s) where
         let it = deletes schema free text params old new s.place (table_in s) _ has listed.at is plain_text count h in
         let done = removes schema s.name s.tree s.columns (1 ∷ s.keys) tests params old.now new.now are it in
         let taken =
-            filter_same (λ r. not (passes s.tree tests (col 1 0 ∷ []) [] params r)) (λ r. not (is_eq (by_columns (1 ∷ s.keys) (row_in s Null u x) r)))
+        filter_same (λ r. not (passes s.tree tests (col 1 0 ∷ []) [] params r)) (λ r. not (is_eq (by_columns (1 ∷ s.keys) (row_in s Null u x) r)))
         (λ r. ap not (same r ∙ agree_is (1 ∷ s.keys) r (row_in s Null u x) (good.keyed Null u x))) (old.now.trees s.tree) in
         record { rows = done.0 ∙ taken; are = done.1; others = it.others; same_schema = it.same_schema }
 
@@ -123,9 +123,9 @@ module _ {X K : Type 0} (s : Shape X K) (good : IsShape s) where
       rw (ap p all.0 ∙ same (rowid r) (bytes (column r 1)) (s.read r))
       (elim (q (s.read r)) as (λ b. map s.read (cond b (r ∷ filter p rows) (filter p rows))
       ≡ cond b (s.read r ∷ filter q (map s.read rows)) (filter q (map s.read rows))) [
-    | true ↦ ap (λ l. s.read r ∷ l) (filter_read p q same rows all.1)
-    | false ↦ filter_read p q same rows all.1
-  ])
+        | true ↦ ap (λ l. s.read r ∷ l) (filter_read p q same rows all.1)
+        | false ↦ filter_read p q same rows all.1
+      ])
 
   pub some_kept : (p : Row → Bool) (q : X → Bool) → ((id : Value) (u : List ℕ) (x : X) → p (row_in s id u x) ≡ q x)
       → (unit : List ℕ) (rows : List Row) → AllByRecursion (IsRowIn s) rows

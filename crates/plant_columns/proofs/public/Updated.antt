@@ -43,11 +43,16 @@ updates schema free text params old new at table q has listed is plain count h =
     let w = runs_as text params old new schema has command is plain count h in
     let sql = statement_of text (understood schema text) in
     let does =
-        subst (λ s. Does old.step_limit (mode_of old) params (record old.now { schema = s }) sql None command (Ok (w.tally, new.now))) has
-        w.changed in
+    subst (λ s. Does old.step_limit (mode_of old) params (record old.now { schema = s }) sql None command (Ok (w.tally, new.now))) has
+    w.changed in
     let on = subst
-        (λ o. AtPlace (λ t. OnRows (record { limit = old.step_limit; keys = (mode_of old).keys; schema = schema; table = t;
-        params = params }) (mode_of old) None command db) o (Ok (w.tally, new.now))) listed does in
+    (λ o. AtPlace (λ t. OnRows (record {
+      limit = old.step_limit;
+      keys = (mode_of old).keys;
+      schema = schema;
+      table = t;
+      params = params;
+    }) (mode_of old) None command db) o (Ok (w.tally, new.now))) listed does in
     let done = went on in
     let now = ap (λ (p : Tally × Database). p.1) (same_value (went (went done.2).2).2) in
     let got = went done.1 in
@@ -100,13 +105,13 @@ module _ (cmp : Row → Row → Ordering) (total : IsTotalOrder cmp) (p : Row �
   lone (y ∷ ys) apart r (inl e) tie =
       let first : is_eq (cmp x y) ≡ true = subst (λ z. is_eq (cmp x z) ≡ true) e tie in
       let none : filter (λ y. is_eq (cmp x y)) ys ≡ [] =
-          filter_none _ ys (all_weaker _ (λ z. is_eq (cmp x z) ≡ false) (λ z far. ap is_eq (alike_left cmp (λ r. r) total x y z (tied _ _ first refl))
-          ∙ far) ys apart.0) in
+      filter_none _ ys (all_weaker _ (λ z. is_eq (cmp x z) ≡ false) (λ z far. ap is_eq (alike_left cmp (λ r. r) total x y z (tied _ _ first refl))
+      ∙ far) ys apart.0) in
       rw (first, none) (ap (λ z. z ∷ []) (sym e))
   lone (y ∷ ys) apart r (inr h) tie =
       let far : is_eq (cmp y r) ≡ false = all_has _ ys r apart.0 h in
       let second : is_eq (cmp x y) ≡ false =
-          false_from_ne_true _ (λ k. true≢false (sym tie ∙ ap is_eq (alike_left cmp (λ r. r) total x y r (tied _ _ k refl)) ∙ far)) in
+      false_from_ne_true _ (λ k. true≢false (sym tie ∙ ap is_eq (alike_left cmp (λ r. r) total x y r (tied _ _ k refl)) ∙ far)) in
       rw second (lone ys apart.1 r h tie)
 
 pub no_ties-placed : (cmp : Row → Row → Ordering) (total : IsTotalOrder cmp) (x : Row) (zs : List Row)
@@ -142,7 +147,7 @@ module _ {X K : Type 0} (s : Shape X K) (good : IsShape s) (schema : Schema) (fr
       → (count : ℕ) → Executes text params old new (Ok count) → SetsRow schema s u x old.now new.now
   sets_row text tests project is plain_text params u x old new has are apart r same there tie shown count h =
       let it = updates schema free text params old new s.place (table_in s)
-          (plain_query (inner s.tree end) tests project []) has listed.at is plain_text count h in
+      (plain_query (inner s.tree end) tests project []) has listed.at is plain_text count h in
       let key = 1 ∷ s.keys in
       let cmp = by_columns key in
       let rows = old.now.trees s.tree in
@@ -151,31 +156,31 @@ module _ {X K : Type 0} (s : Shape X K) (good : IsShape s) (schema : Schema) (fr
       let one : filter p rows ≡ r ∷ [] = lone cmp (by_columns_total key) p (row_in s (rowid r) u x) rows apart r there tie in
       let read = reads s.tree tests project [] old.now.trees params it.found it.answer in
       let ordered : read.ordered ≡ show r ∷ [] =
-          one_permutation (show r) read.ordered
-          (subst (λ l. IsPermutation (map show l) read.ordered) (filter_same (passes s.tree tests project [] params) p same rows ∙ one) read.same) in
+      one_permutation (show r) read.ordered
+      (subst (λ l. IsPermutation (map show l) read.ordered) (filter_same (passes s.tree tests project [] params) p same rows ∙ one) read.same) in
       let found : it.found ≡ (rowid r ∷ row_in s (rowid r) u x) ∷ [] = read.rows_are ∙ ap (map (λ (o : Output). o.1)) ordered
-          ∙ ap (λ (y : Row). y ∷ []) shown in
+      ∙ ap (λ (y : Row). y ∷ []) shown in
       let ids : ids_of it.found ≡ ids_of ((rowid r ∷ []) ∷ []) = ap ids_of found in
       let met : AreFound p rows ((rowid r ∷ []) ∷ []) = record {
         sound = λ y e. (r, there, tie, from_one y (rowid r ∷ []) e);
         complete = λ y e k. inl (ap (λ (z : Row). rowid z ∷ []) (from_one y r (subst (λ l. Has l y) one (has_kept p rows y e k))));
       } in
       let left : without_all rows (ids_of it.found) ≡ filter (λ y. not (p y)) rows = ap (without_all rows) ids
-          ∙ without_found p rows ((rowid r ∷ []) ∷ []) are met in
+      ∙ without_found p rows ((rowid r ∷ []) ∷ []) are met in
       let casts : cast_row (table_in s) (row_in s (rowid r) u x) ≡ row_in s (rowid r) u x =
-          ap₂ ◌∷◌ (subst (λ v. cast Integer v ≡ v) (sym (int_is (rowid r) (all_has _ rows r are.ints there))) (cast_int (id_in (rowid r))))
-          (good.fits u x) in
+      ap₂ ◌∷◌ (subst (λ v. cast Integer v ≡ v) (sym (int_is (rowid r) (all_has _ rows r are.ints there))) (cast_int (id_in (rowid r))))
+      (good.fits u x) in
       let news : map (λ (s' : Row). cast_row (table_in s) (Rattle.std.proofs.Common.drop 1 s')) it.found ≡ row_in s (rowid r) u x ∷ [] =
-          ap (map (λ (s' : Row). cast_row (table_in s) (Rattle.std.proofs.Common.drop 1 s'))) found ∙ ap (λ (y : Row). y ∷ []) casts in
+      ap (map (λ (s' : Row). cast_row (table_in s) (Rattle.std.proofs.Common.drop 1 s'))) found ∙ ap (λ (y : Row). y ∷ []) casts in
       let whole : new.now.trees s.tree ≡ put_row (row_in s (rowid r) u x) (filter (λ y. not (p y)) rows) = it.rows ∙ ap₂ put_all left news in
       let kept_are : AreRows (filter (λ y. not (p y)) rows) =
-          record { rise = ascending-filter _ (λ y. not (p y)) rows are.rise; ints = all-filter _ (λ y. not (p y)) rows are.ints } in
+      record { rise = ascending-filter _ (λ y. not (p y)) rows are.rise; ints = all-filter _ (λ y. not (p y)) rows are.ints } in
       record {
         id = rowid r;
         far = all_from _ (filter (λ y. not (p y)) rows) (λ y e.
             let k = has_filtered (λ y. not (p y)) rows y e in
             false_from_ne_true _ (λ q. true≢false (sym tie ∙ ap p (sym (tied_same rows y r are.rise k.0 there (tied _ _ q refl)))
-                ∙ not-true (p y) k.1)));
+            ∙ not-true (p y) k.1)));
         rows = whole;
         are = subst AreRows (sym whole) (record {
           rise = IsTable-put_row (row_in s (rowid r) u x) _ kept_are.rise;
@@ -200,12 +205,12 @@ module _ {X K : Type 0} (s : Shape X K) (schema : Schema) (free : HasNoReference
       → count ≡ length (filter (passes s.tree tests project [] params) (old.now.trees s.tree))
   counts text tests project is plain_text params old new has count h =
       let it = updates schema free text params old new s.place (table_in s)
-          (plain_query (inner s.tree end) tests project []) has listed.at is plain_text count h in
+      (plain_query (inner s.tree end) tests project []) has listed.at is plain_text count h in
       let read = reads s.tree tests project [] old.now.trees params it.found it.answer in
       let some = filter (passes s.tree tests project [] params) (old.now.trees s.tree) in
       it.counted ∙ ap length read.rows_are ∙ length-map read.ordered (λ (o : Output). o.1)
-          ∙ length_permutation (map (shows s.tree tests project [] params) some) read.ordered read.same
-          ∙ length-map some (shows s.tree tests project [] params)
+      ∙ length_permutation (map (shows s.tree tests project [] params) some) read.ordered read.same
+      ∙ length-map some (shows s.tree tests project [] params)
 
   pub leaves : (text : List ℕ) (tests project : List Term)
       → command_of (understood schema text) ≡ Update s.place (record { lets = []; body = plain_query (inner s.tree end) tests project [] })
@@ -214,11 +219,11 @@ module _ {X K : Type 0} (s : Shape X K) (schema : Schema) (free : HasNoReference
       → IsTidy (IsRowIn s) (1 ∷ s.keys) (old.now.trees s.tree) → (u : List ℕ) → ChangesRows schema s u (λ rows. rows) old.now new.now
   leaves text tests project is plain_text params old new has h tidy u =
       let it = updates schema free text params old new s.place (table_in s)
-          (plain_query (inner s.tree end) tests project []) has listed.at is plain_text 0 h in
+      (plain_query (inner s.tree end) tests project []) has listed.at is plain_text 0 h in
       let none : it.found ≡ [] = nil_from_length it.found (sym it.counted) in
       let same = it.rows
-          ∙ ap (λ (found : List Row). put_all (without_all (old.now.trees s.tree) (ids_of found))
-          (map (λ (s' : Row). cast_row (table_in s) (Rattle.std.proofs.Common.drop 1 s')) found)) none in
+      ∙ ap (λ (found : List Row). put_all (without_all (old.now.trees s.tree) (ids_of found))
+      (map (λ (s' : Row). cast_row (table_in s) (Rattle.std.proofs.Common.drop 1 s')) found)) none in
       record {
         tidy = subst (IsTidy (IsRowIn s) (1 ∷ s.keys)) (sym same) tidy;
         mine = ap (rows_in s u) same;
@@ -242,8 +247,8 @@ module _ {X K : Type 0} (s : Shape X K) (good : IsShape s) (schema : Schema) (fr
       → Executes text params old new (Ok count) → SetsRow schema s u x old.now new.now
   sets_some text tests project is plain_text params u x same shown old new has tidy count some h =
       go (filter (passes s.tree tests project [] params) (old.now.trees s.tree))
-          (λ r k. has_filtered (passes s.tree tests project [] params) (old.now.trees s.tree) r k)
-          (counts s schema free listed text tests project is plain_text params old new has count h)
+      (λ r k. has_filtered (passes s.tree tests project [] params) (old.now.trees s.tree) r k)
+      (counts s schema free listed text tests project is plain_text params old new has count h)
     where
       go : (l : List Row) → ((r : Row) → Has l r → Has (old.now.trees s.tree) r × (passes s.tree tests project [] params r ≡ true)) → count ≡ length l
           → SetsRow schema s u x old.now new.now
@@ -253,11 +258,11 @@ module _ {X K : Type 0} (s : Shape X K) (good : IsShape s) (schema : Schema) (fr
           let whole : r ≡ row_in s (rowid r) (bytes (column r 1)) (s.read r) = all_has (IsRowIn s) (old.now.trees s.tree) r tidy.each it.0 in
           let tie : is_eq (by_columns (1 ∷ s.keys) (row_in s (rowid r) u x) r) ≡ true = sym (same (rowid r) r) ∙ it.1 in
           let tied : is_eq (by_columns (1 ∷ s.keys) (row_in s (rowid r) u x) (row_in s (rowid r) (bytes (column r 1)) (s.read r))) ≡ true =
-              sym (ap (λ (y : Row). is_eq (by_columns (1 ∷ s.keys) (row_in s (rowid r) u x) y)) whole) ∙ tie in
+          sym (ap (λ (y : Row). is_eq (by_columns (1 ∷ s.keys) (row_in s (rowid r) u x) y)) whole) ∙ tie in
           let there : (shows s.tree tests project [] params r).1 ≡ rowid r ∷ row_in s (rowid r) u x =
-              ap (λ (y : Row). (shows s.tree tests project [] params y).1) whole ∙ shown (rowid r) (bytes (column r 1)) (s.read r) tied in
+          ap (λ (y : Row). (shows s.tree tests project [] params y).1) whole ∙ shown (rowid r) (bytes (column r 1)) (s.read r) tied in
           sets_row s good schema free listed text tests project is plain_text params u x old new has tidy.are tidy.apart r (same (rowid r)) it.0 tie
-              there count h
+          there count h
 
 -- ---- what that leaves of the rows of each unit: as if the row had been put anew
 

@@ -42,10 +42,10 @@ parted before (c ∷ counts) k n ek en =
     let p : Period = period before c in
     let long : length (before ++ c ∷ []) ≡ length before + 1 = omega (arith, length-append before (c ∷ [])) in
     let rest : Parted (k + 1) n (slice_split is_out (periods_after (before ++ c ∷ []) counts)) =
-        parted (before ++ c ∷ []) counts (k + 1) n (omega (arith, ek, long)) (omega (arith, en)) in
+    parted (before ++ c ∷ []) counts (k + 1) n (omega (arith, ek, long)) (omega (arith, en)) in
     elim (is_out p) as (λ b. Parted k n (cond b ([]
-        ∷ slice_split is_out (periods_after (before ++ c
-        ∷ []) counts)) (onto_first p (slice_split is_out (periods_after (before ++ c ∷ []) counts))))) [
+    ∷ slice_split is_out (periods_after (before ++ c
+    ∷ []) counts)) (onto_first p (slice_split is_out (periods_after (before ++ c ∷ []) counts))))) [
       | true ↦ apart k n _ rest
       | false ↦ onto k n p _ (sym ek) (omega (arith, en)) rest
     ]
@@ -76,7 +76,7 @@ pub run_at : (es : List Event) (begin until : ℕ) (i : ℕ) (d : Run) → i < l
     → IsWithin ((until - begin) / 600) (get_or (floods (period_counts es begin until)) i d)
 run_at es begin until i d lt =
     subst (λ (n : ℕ). IsWithin n (get_or (floods (period_counts es begin until)) i d)) (counted es begin until)
-        (All-from_recursion _ _ (floods_within (period_counts es begin until)) i d lt)
+    (All-from_recursion _ _ (floods_within (period_counts es begin until)) i d lt)
 
 pub ends_within : (begin until : ℕ) (r : Run) → IsWithin ((until - begin) / 600) r → begin + 600 * r.last + 600 ≤ until
 ends_within begin until r h = omega (arith, h.0, h.1)

@@ -64,13 +64,13 @@ fresh_firsts tags now line kept [] none = refl
 fresh_firsts tags now line kept (e ∷ rows) none =
     let parts = no_first line (merge_fault tags now kept e) _ none in
     λ i. (if not (same_by_number e kept (row_fits tags now kept e parts.0).0 i) then e ∷ [] else []) ++ fresh_firsts tags now (line + 1)
-        (kept ++ e ∷ []) rows parts.1 i
+    (kept ++ e ∷ []) rows parts.1 i
 
 pub any_fresh : (tags : List Name) (now line : ℕ) (kept rows : List Event) → first_fault tags now line kept rows ≡ None → (n : ℕ)
     → list_any (has_number n) (fresh kept rows) ≡ (not (list_any (has_number n) kept) && list_any (has_number n) rows)
 any_fresh tags now line kept rows none n =
     ap (list_any (has_number n)) (fresh_firsts tags now line kept rows none)
-        ∙ any_first same_numbers_tie (has_number n) (λ x t y. ap (λ m. has_number m y) (sym (same_it n x.seq t))) kept rows
+    ∙ any_first same_numbers_tie (has_number n) (λ x t y. ap (λ m. has_number m y) (sym (same_it n x.seq t))) kept rows
 
 -- the numbers of events
 any_numbers : (n : ℕ) (es : List Event) → list_any (ties n) (numbers_of es) ≡ list_any (has_number n) es
@@ -88,8 +88,8 @@ counted : (kept rows es : List Event) → IsDistinct ties (numbers_of es)
     → length es ≡ length (new_numbers kept rows)
 counted kept rows es distinct are =
     sym (length-map es event_number)
-        ∙ length-from_keys numbers_tie (numbers_of es)
-        (numbers_of (filter (is_other kept) rows)) distinct (λ n. any_numbers n es ∙ are n ∙ sym (any_left n kept rows))
+    ∙ length-from_keys numbers_tie (numbers_of es)
+    (numbers_of (filter (is_other kept) rows)) distinct (λ n. any_numbers n es ∙ are n ∙ sym (any_left n kept rows))
 
 distinct_numbers : (es : List Event) → IsDistinct same_number es → IsDistinct ties (numbers_of es)
 unfolding IsDistinct
@@ -102,7 +102,7 @@ pub fresh_count : (tags : List Name) (now line : ℕ) (kept rows : List Event) �
     → length (fresh kept rows) ≡ length (new_numbers kept rows)
 fresh_count tags now line kept rows none =
     let distinct : IsDistinct same_number (fresh kept rows) =
-        subst (IsDistinct same_number) (sym (fresh_firsts tags now line kept rows none)) (distinct_firsts same_numbers_tie kept rows) in
+    subst (IsDistinct same_number) (sym (fresh_firsts tags now line kept rows none)) (distinct_firsts same_numbers_tie kept rows) in
     counted kept rows (fresh kept rows) (distinct_numbers (fresh kept rows) distinct) (any_fresh tags now line kept rows none)
 
 -- rows in rising number that no kept event has are as many, also where the rows came in another order
@@ -110,8 +110,8 @@ pub counted_rising : (kept rows : List Event) → IsInOrder nat_cmp event_number
     → length (filter (is_other kept) rows) ≡ length (new_numbers kept rows)
 counted_rising kept rows order =
     counted kept rows (filter (is_other kept) rows)
-        (rising_distinct _ (keys_rise event_number (is_other kept) rows (rises_of event_number rows order)))
-        (λ n. sym (any_numbers n _) ∙ any_left n kept rows)
+    (rising_distinct _ (keys_rise event_number (is_other kept) rows (rises_of event_number rows order)))
+    (λ n. sym (any_numbers n _) ∙ any_left n kept rows)
 
 -- events put twice
 abbrev said : List Event → ℕ → Option Event
@@ -141,7 +141,7 @@ said_in_order : (q : ℕ) (rs : List Event) → Rises event_number rs → said r
 said_in_order q [] h = refl
 said_in_order q (r ∷ rs) h =
     let none : ties q r.seq ≡ true
-        → row_at nat_cmp event_number q rs ≡ None = λ t. none_at q rs (subst (λ n. AllAbove event_number n rs) (sym (same_it q r.seq t)) h.0) in
+    → row_at nat_cmp event_number q rs ≡ None = λ t. none_at q rs (subst (λ n. AllAbove event_number n rs) (sym (same_it q r.seq t)) h.0) in
     grind (arith, said_in_order q rs h.1, none)
 
 -- first put among one another, and then among the kept events
@@ -149,9 +149,14 @@ pub put_twice : (kept more : List Event) → IsInOrder nat_cmp event_number kept
 put_twice kept more order =
     let rising : IsInOrder nat_cmp event_number (with_events [] more) = order_puts more [] tt in
     same_rows nat_cmp event_number nat_cmp_total same_numbers _ _ (order_puts (with_events [] more) kept order) (order_puts more kept order)
-    (λ q. grind
-    (arith, at_puts q (with_events [] more) kept, said_in_order q (with_events [] more) (rises_of event_number _ rising), at_puts q more [], at_puts q
-    more kept))
+    (λ q. grind (
+      arith,
+      at_puts q (with_events [] more) kept,
+      said_in_order q (with_events [] more) (rises_of event_number _ rising),
+      at_puts q more [],
+      at_puts q
+          more kept,
+    ))
 
 -- the numbers of rows in rising number are those of the rows
 pub any_puts : (n : ℕ) (rs es : List Event) → list_any (has_number n) (with_events es rs) ≡ (list_any (has_number n) es || list_any (has_number n) rs)
@@ -163,6 +168,6 @@ same_count kept rows =
     let put = with_events [] rows in
     let rising : IsInOrder nat_cmp event_number put = order_puts rows [] tt in
     sym (counted_rising kept put rising)
-        ∙ counted kept rows (filter (is_other kept) put)
-        (rising_distinct _ (keys_rise event_number (is_other kept) put (rises_of event_number put rising)))
+    ∙ counted kept rows (filter (is_other kept) put)
+    (rising_distinct _ (keys_rise event_number (is_other kept) put (rises_of event_number put rising)))
     (λ n. sym (any_numbers n _) ∙ any_left n kept put ∙ ap (λ b. not (list_any (has_number n) kept) && b) (any_puts n rows []))

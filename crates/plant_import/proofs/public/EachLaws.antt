@@ -46,9 +46,11 @@ Pairs R (x ∷ xs) = Each (R x) xs × Pairs R xs
 
 pub pairs_of : {X : Type 0} (R : X → X → Type 0) (xs : List X) → AllPairs R xs → Pairs R xs
 pairs_of R [] h = tt
-pairs_of R (x ∷ xs) h =
-    (each_of (R x) xs (λ k d lt. h 0 (suc k) d (omega arith) (omega arith)), pairs_of R xs
-    (λ i j d lt le. h (suc i) (suc j) d (omega arith) (omega arith)))
+pairs_of R (x ∷ xs) h = (
+  each_of (R x) xs (λ k d lt. h 0 (suc k) d (omega arith) (omega arith)),
+  pairs_of R xs
+      (λ i j d lt le. h (suc i) (suc j) d (omega arith) (omega arith)),
+)
 
 pub all_pairs : {X : Type 0} (R : X → X → Type 0) (xs : List X) → Pairs R xs → AllPairs R xs
 all_pairs R [] h = λ i j d lt le. absurd (omega arith)
@@ -148,13 +150,13 @@ pub split_by : {X : Type 0} (p : X → Bool) (xs : List X) → Pairs (λ x y. p 
 split_by p [] h = refl
 split_by p (x ∷ xs) h =
     let fail : p x ≡ false
-        → Each (λ y. p y ≡ false) xs =
-        λ f. each_weaker (λ y. p y ≡ true → p x ≡ true) (λ y. p y ≡ false)
-        (λ y back. false_from_ne_true (p y) (λ t. absurd (cc (sym (back t) ∙ f)))) xs h.0 in
+    → Each (λ y. p y ≡ false) xs =
+    λ f. each_weaker (λ y. p y ≡ true → p x ≡ true) (λ y. p y ≡ false)
+    (λ y back. false_from_ne_true (p y) (λ t. absurd (cc (sym (back t) ∙ f)))) xs h.0 in
     let none : p x ≡ false → filter p xs ≡ [] = λ f. filter_none p xs (fail f) in
     let rest : p x ≡ false
-        → filter (λ y. not (p y)) xs ≡ xs =
-        λ f. filter_all (λ y. not (p y)) xs (each_weaker (λ y. p y ≡ false) (λ y. not (p y) ≡ true) (λ y e. ap not e) xs (fail f)) in
+    → filter (λ y. not (p y)) xs ≡ xs =
+    λ f. filter_all (λ y. not (p y)) xs (each_weaker (λ y. p y ≡ false) (λ y. not (p y) ≡ true) (λ y e. ap not e) xs (fail f)) in
     grind (arith, split_by p xs h.1, none, rest)
 
 pub filter_front : {X : Type 0} (p : X → Bool) (xs : List X) → Pairs (λ x y. p y ≡ true → p x ≡ true) xs

@@ -111,8 +111,8 @@ new_rows_are : (kept : List Event) (files : List Brought) → new_rows kept file
 new_rows_are kept [] = refl
 new_rows_are kept (b ∷ files) =
     ap (λ n. length (fresh kept b.1) + n)
-        (new_rows_are (kept ++ fresh kept b.1) files
-        ∙ ap (λ l. length l) (fresh_alike (kept ++ fresh kept b.1) (kept ++ b.1) (rows_brought files) (kept_fresh kept b.1)))
+    (new_rows_are (kept ++ fresh kept b.1) files
+    ∙ ap (λ l. length l) (fresh_alike (kept ++ fresh kept b.1) (kept ++ b.1) (rows_brought files) (kept_fresh kept b.1)))
     ∙ sym (length-append (fresh kept b.1) (fresh (kept ++ b.1) (rows_brought files)))
     ∙ ap (λ l. length l) (sym (passing-append is_new kept b.1 (rows_brought files)))
 
@@ -137,7 +137,7 @@ fit_of es fit a b h k =
 fit_from : (es : List Event) → ((a b : Event) → member a es ≡ true → member b es ≡ true → Agrees a b) → is_fit es ≡ true
 fit_from es each =
     all_from (fits_in es) es (λ a h i. not (none_from (clashes a) es (λ b k. (each a b h k).0) i)
-        && not (none_from (out_of_order a) es (λ b k. (each a b h k).1) i))
+    && not (none_from (out_of_order a) es (λ b k. (each a b h k).1) i))
 
 pub fit_within : (xs ys : List Event) → is_fit xs ≡ true → Within ys xs → is_fit ys ≡ true
 fit_within xs ys fit within = fit_from ys (λ a b h k. fit_of xs fit a b (within a h) (within b k))
@@ -158,10 +158,10 @@ no_fault tags now line all others (e ∷ rows) known ahead fit o w =
     let a = and_parts (not (nat_lt now e.moment)) (list_all (λ e. not (nat_lt now e.moment)) rows) ahead in
     let there : member e all ≡ true = w e (first_member e rows) in
     let here : merge_fault tags now others e ≡ None =
-        fault_none tags now others all e k.0 (not-true (nat_lt now e.moment) a.0) o (fit_member all e fit there) in
+    fault_none tags now others all e k.0 (not-true (nat_lt now e.moment) a.0) o (fit_member all e fit there) in
     let rest : first_fault tags now (line + 1) (others ++ e ∷ []) rows ≡ None =
-        no_fault tags now (line + 1) all (others ++ e ∷ []) rows k.1 a.1 fit (within_both others (e ∷ []) all o (one_within e all there))
-        (back_within (e ∷ []) rows all w) in
+    no_fault tags now (line + 1) all (others ++ e ∷ []) rows k.1 a.1 fit (within_both others (e ∷ []) all o (one_within e all there))
+    (back_within (e ∷ []) rows all w) in
     λ i. or_else (option_map (bad line) (here i)) (rest i)
 
 taken : (tags : List Name) (rows all kept : List Event) (files : List Brought) → are_known tags rows ≡ true → none_ahead rows files ≡ true
@@ -173,7 +173,7 @@ taken tags rows all kept (b ∷ files) known ahead fit inside k w =
     let own : Within b.1 all = λ e h. inside e (front e h) in
     let here : first_fault tags b.0 2 kept b.1 ≡ None =
     no_fault tags b.0 2 all kept b.1 (all_within (λ e. list_any (same_name e.tag) tags) rows b.1 known front)
-        (all_within (λ e. not (nat_lt b.0 e.moment)) rows b.1 a.0 front) fit k own in
+    (all_within (λ e. not (nat_lt b.0 e.moment)) rows b.1 a.0 front) fit k own in
     let more : Within (kept ++ fresh kept b.1) all = λ e h. within_both kept b.1 all k own e (sym (kept_fresh kept b.1 e) ∙ h) in
     let rest = taken tags rows all (kept ++ fresh kept b.1) files known a.1 fit inside more (back_within b.1 (rows_brought files) rows w) in
     λ i. is_none (here i) && rest i
@@ -234,7 +234,7 @@ file_fits tags now line others (e ∷ rows) fit h =
     let parts = no_first line (merge_fault tags now others e) (first_fault tags now (line + 1) (others ++ e ∷ []) rows) h in
     let here = row_fits tags now others e parts.0 in
     ap is_fit (sym (append_assoc others (e ∷ []) rows))
-        ∙ file_fits tags now (line + 1) (others ++ e ∷ []) rows (fit_more others e fit here.0 here.1) parts.1
+    ∙ file_fits tags now (line + 1) (others ++ e ∷ []) rows (fit_more others e fit here.0 here.1) parts.1
 
 none_of : {A : Type 0} (o : Option A) → is_none o ≡ true → o ≡ None
 none_of o e = grind arith
@@ -246,4 +246,4 @@ taken_files_fit tags kept (b ∷ files) fit h =
     let parts = and_parts (is_none (first_fault tags b.0 2 kept b.1)) (are_taken tags (kept ++ fresh kept b.1) files) h in
     let whole : is_fit (kept ++ b.1) ≡ true = file_fits tags b.0 2 kept b.1 fit (none_of (first_fault tags b.0 2 kept b.1) parts.0) in
     taken_files_fit tags (kept
-        ++ fresh kept b.1) files (fit_within (kept ++ b.1) (kept ++ fresh kept b.1) whole (λ e there. sym (kept_fresh kept b.1 e) ∙ there)) parts.1
+    ++ fresh kept b.1) files (fit_within (kept ++ b.1) (kept ++ fresh kept b.1) whole (λ e there. sym (kept_fresh kept b.1 e) ∙ there)) parts.1

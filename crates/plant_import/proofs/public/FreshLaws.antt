@@ -26,6 +26,6 @@ module _ {eq : Event → Event → Bool} (laws : IsEquivalence eq) where
   distinct_firsts before (e ∷ es) =
       let rest = distinct_firsts (before ++ e ∷ []) es in
       let away : list_any (eq e) (firsts (before ++ e ∷ []) es) ≡ false =
-          grind (arith, member_first e (before ++ e ∷ []) es, list_any-append (eq e) before (e ∷ []), laws.refl e) in
+      grind (arith, member_first e (before ++ e ∷ []) es, list_any-append (eq e) before (e ∷ []), laws.refl e) in
       elim (list_any (eq e) before) as (λ b. IsDistinct eq ((if not b then e ∷ [] else [])
-          ++ firsts (before ++ e ∷ []) es)) [ true ↦ rest | false ↦ (each_not (eq e) _ away, rest) ]
+      ++ firsts (before ++ e ∷ []) es)) [ true ↦ rest | false ↦ (each_not (eq e) _ away, rest) ]

@@ -36,7 +36,7 @@ own_put a r (e ∷ es) rises later =
     let more = own_put a r es rises.1 (record { number = numbers.1; last = lasts.1 }) in
     let none : r.seq < e.seq → same_name a r.tag ≡ true → own a (e ∷ es) ≡ [] =
     λ lt t. none_own a r (e
-        ∷ es) t (lt, each_weaker (λ y. e.seq < y.seq) (λ y. r.seq < y.seq) (λ y more. omega (arith, lt, more)) es rises.0) later.last in
+    ∷ es) t (lt, each_weaker (λ y. e.seq < y.seq) (λ y. r.seq < y.seq) (λ y more. omega (arith, lt, more)) es rises.0) later.last in
     grind (arith, nat_tests, numbers.0, more, none, append-nil (own a (e ∷ es)))
 
 later_put : (r s : Event) (es : List Event) → list_any (has_number r.seq) es ≡ false → r.seq < s.seq → IsLater es s
@@ -57,7 +57,7 @@ own_after : (a : Name) (rs es : List Event) → IsInOrder nat_cmp event_number e
 own_after a [] es order rises h = sym (append-nil (own a es))
 own_after a (r ∷ rs) es order rises h =
     own_after a rs (put_row nat_cmp event_number r es)
-        (IsInOrder-put_row nat_cmp event_number nat_cmp_total same_numbers r es order) rises.1 (all_later_put r rs es h.0.number rises.0 h.1)
+    (IsInOrder-put_row nat_cmp event_number nat_cmp_total same_numbers r es order) rises.1 (all_later_put r rs es h.0.number rises.0 h.1)
     ∙ ap (λ l. l ++ own a rs) (own_put a r es (rises_of event_number es order) h.0)
     ∙ append_assoc (own a es) (if same_name a r.tag then r ∷ [] else []) (own a rs)
     ∙ ap (λ l. own a es ++ l)

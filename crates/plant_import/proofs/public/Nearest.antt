@@ -49,16 +49,16 @@ apart below above e low high =
     record {
       same_is =
           list_any-append (same_event e) below above
-              ∙ ap (λ b. b || list_any (same_event e) above)
-              (any_none (same_event e) below (each_weaker (λ x. x.seq < e.seq) (λ x. same_event e x
-              ≡ false) (λ x lt. (other_number e x (λ q. absurd (omega (arith, q, lt)))).0) below low))
+          ∙ ap (λ b. b || list_any (same_event e) above)
+          (any_none (same_event e) below (each_weaker (λ x. x.seq < e.seq) (λ x. same_event e x
+          ≡ false) (λ x lt. (other_number e x (λ q. absurd (omega (arith, q, lt)))).0) below low))
           ∙ any_none (same_event e) above (each_weaker (λ x. e.seq < x.seq) (λ x. same_event e x
           ≡ false) (λ x lt. (other_number e x (λ q. absurd (omega (arith, q, lt)))).0) above high);
       clash_is =
           list_any-append (clashes e) below above
-              ∙ ap (λ b. b || list_any (clashes e) above)
-              (any_none (clashes e) below (each_weaker (λ x. x.seq < e.seq) (λ x. clashes e x
-              ≡ false) (λ x lt. (other_number e x (λ q. absurd (omega (arith, q, lt)))).1) below low))
+          ∙ ap (λ b. b || list_any (clashes e) above)
+          (any_none (clashes e) below (each_weaker (λ x. x.seq < e.seq) (λ x. clashes e x
+          ≡ false) (λ x lt. (other_number e x (λ q. absurd (omega (arith, q, lt)))).1) below low))
           ∙ any_none (clashes e) above (each_weaker (λ x. e.seq < x.seq) (λ x. clashes e x
           ≡ false) (λ x lt. (other_number e x (λ q. absurd (omega (arith, q, lt)))).1) above high);
       order_is =
@@ -80,13 +80,13 @@ known_itself below rest e s rising =
     let low = pairs_before Before below rest e rising in
     let high = (pairs_back Before below (e ∷ rest) rising).0 in
     let below_no_clash =
-        each_weaker (λ x. Before x e) (λ x. clashes e x ≡ false) (λ x b. (other_number e x (λ q. absurd (omega (arith, q, b.0)))).1) below low in
+    each_weaker (λ x. Before x e) (λ x. clashes e x ≡ false) (λ x b. (other_number e x (λ q. absurd (omega (arith, q, b.0)))).1) below low in
     let above_no_clash =
-        each_weaker (Before e) (λ x. clashes e x ≡ false) (λ x b. (other_number e x (λ q. absurd (omega (arith, q, b.0)))).1) rest high in
+    each_weaker (Before e) (λ x. clashes e x ≡ false) (λ x b. (other_number e x (λ q. absurd (omega (arith, q, b.0)))).1) rest high in
     let below_in_order =
-        each_weaker (λ x. Before x e) (λ x. out_of_order e x ≡ false) (λ x b. order_below e x b.0 ∙ le-ltb e.moment x.moment b.1) below low in
+    each_weaker (λ x. Before x e) (λ x. out_of_order e x ≡ false) (λ x b. order_below e x b.0 ∙ le-ltb e.moment x.moment b.1) below low in
     let above_in_order =
-        each_weaker (Before e) (λ x. out_of_order e x ≡ false) (λ x b. order_above e x b.0 ∙ le-ltb x.moment e.moment b.1) rest high in
+    each_weaker (Before e) (λ x. out_of_order e x ≡ false) (λ x b. order_above e x b.0 ∙ le-ltb x.moment e.moment b.1) rest high in
     record {
       same_is = any_there (same_event e) below rest e s;
       clash_is =
@@ -117,7 +117,7 @@ pub parts : (events below above : List Event) (seq place : ℕ) → IsRising eve
     → place ≤ length events → below ≡ take place events → above ≡ drop place events → AreParts events seq below above
 parts events below above seq place rising cut le eb ea =
     let whole : events ≡ below ++ above = sym (take-append-drop place events) ∙ ap (λ l. l ++ drop place events) (sym eb)
-        ∙ ap (λ l. below ++ l) (sym ea) in
+    ∙ ap (λ l. below ++ l) (sym ea) in
     let sides = parted_each (λ x. x.seq < seq) (λ x. seq ≤ x.seq) events place cut le in
     record { whole = whole; rising = subst (λ (l : List Event). Rising l) whole (rising_of events rising); low = rw eb sides.0; high = rw ea sides.1 }
 

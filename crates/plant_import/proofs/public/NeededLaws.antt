@@ -38,7 +38,7 @@ all_lower : (rows pre : List Event) → Each (λ k. is_before_all rows k ≡ tru
 all_lower rows [] h = each_of (λ (e : Event). Each (λ (k : Event). k.seq < e.seq) []) rows (λ k d lt. tt)
 all_lower rows (k ∷ ks) h =
     each_both (λ e. k.seq < e.seq) (λ e. Each (λ x. x.seq < e.seq) ks) (λ e. Each (λ x. x.seq < e.seq) (k ∷ ks))
-        (λ e one others. (one, others)) rows (above_all rows k h.0) (all_lower rows ks h.1)
+    (λ e one others. (one, others)) rows (above_all rows k h.0) (all_lower rows ks h.1)
 
 -- the kept events are some that come before every row, and then the near ones, the first of which comes before every row too
 pub record AreLed (rows kept near : List Event) : Type 0 where
@@ -59,19 +59,19 @@ cut rows (k ∷ ks) h = by (length (filter (is_before_all rows) (k ∷ ks))) ref
   passes : Each (λ x. is_before_all rows x ≡ true) (take (length (filter (is_before_all rows) (k ∷ ks))) (k ∷ ks))
   passes =
       let closed =
-          pairs_weaker (λ x y. x.seq < y.seq) (λ x y. is_before_all rows y ≡ true → is_before_all rows x ≡ true) (before_more rows) (k ∷ ks)
-          (rises_of event_number (k ∷ ks) h) in
+      pairs_weaker (λ x y. x.seq < y.seq) (λ x y. is_before_all rows y ≡ true → is_before_all rows x ≡ true) (before_more rows) (k ∷ ks)
+      (rises_of event_number (k ∷ ks) h) in
       subst (λ (l : List Event). Each (λ x. is_before_all rows x ≡ true) l) (filter_front (is_before_all rows) (k ∷ ks) closed)
-          (each_filter (is_before_all rows) (k ∷ ks))
+      (each_filter (is_before_all rows) (k ∷ ks))
 
   by : (n : ℕ) → n ≡ length (filter (is_before_all rows) (k ∷ ks)) → AreCut rows (k ∷ ks) (drop (n - 1) (k ∷ ks))
   by zero e = inl refl
   by (suc n) e =
       let lt : n < length (k ∷ ks) =
-          omega (arith, e, length-filter_both (is_before_all rows) (λ x. not (is_before_all rows x)) (λ x. refl) (k ∷ ks)) in
+      omega (arith, e, length-filter_both (is_before_all rows) (λ x. not (is_before_all rows x)) (λ x. refl) (k ∷ ks)) in
       let is = drop_more (k ∷ ks) n k lt in
       let front : take (length (filter (is_before_all rows) (k ∷ ks))) (k ∷ ks) ≡ take n (k ∷ ks) ++ get_or (k ∷ ks) n k ∷ [] =
-          ap (λ m. take m (k ∷ ks)) (sym e ∙ sym (add-one n)) ∙ take_more (k ∷ ks) n k lt in
+      ap (λ m. take m (k ∷ ks)) (sym e ∙ sym (add-one n)) ∙ take_more (k ∷ ks) n k lt in
       let one : n ≡ suc n - 1 = omega arith in
       subst (λ m. AreCut rows (k ∷ ks) (drop m (k ∷ ks))) one (inr (record {
         pre = take n (k ∷ ks);
@@ -113,7 +113,7 @@ all_seen : (rows kept near : List Event) → Rising kept → AreCut rows kept ne
 all_seen rows kept near rising (inl is) = each_of (SeenSame kept near) rows (λ k d lt. rw is (record { same = refl; clash = refl; order = refl }))
 all_seen rows kept near rising (inr led) =
     rw (led.whole, led.is)
-        (each_weaker (λ e. Each (λ k. k.seq < e.seq) (led.pre ++ led.first ∷ [])) (SeenSame (led.pre ++ led.first ∷ led.rest) (led.first ∷ led.rest))
+    (each_weaker (λ e. Each (λ k. k.seq < e.seq) (led.pre ++ led.first ∷ [])) (SeenSame (led.pre ++ led.first ∷ led.rest) (led.first ∷ led.rest))
     (λ e. seen e led.pre led.first led.rest (subst (λ (l : List Event). Rising l) led.whole rising)) rows (all_lower rows (led.pre ++ led.first
     ∷ []) led.low))
 
@@ -121,8 +121,8 @@ all_seen rows kept near rising (inr led) =
 seen_more : (kept near : List Event) (e r : Event) → SeenSame kept near r → SeenSame (kept ++ e ∷ []) (near ++ e ∷ []) r
 seen_more kept near e r h =
     record { same = with_one (same_event r) h.same; clash = with_one (clashes r) h.clash; order = with_one (out_of_order r) h.order } where
-  with_one : (p : Event → Bool) → list_any p kept ≡ list_any p near → list_any p (kept ++ e ∷ []) ≡ list_any p (near ++ e ∷ [])
-  with_one p same = list_any-append p kept (e ∷ []) ∙ ap (λ b. b || list_any p (e ∷ [])) same ∙ sym (list_any-append p near (e ∷ []))
+      with_one : (p : Event → Bool) → list_any p kept ≡ list_any p near → list_any p (kept ++ e ∷ []) ≡ list_any p (near ++ e ∷ [])
+      with_one p same = list_any-append p kept (e ∷ []) ∙ ap (λ b. b || list_any p (e ∷ [])) same ∙ sym (list_any-append p near (e ∷ []))
 
 each_seen_more : (kept near : List Event) (e : Event) (rows : List Event) → Each (SeenSame kept near) rows
     → Each (SeenSame (kept ++ e ∷ []) (near ++ e ∷ [])) rows
@@ -133,7 +133,7 @@ faults_same : (tags : List Name) (now line : ℕ) (kept near rows : List Event) 
 faults_same tags now line kept near [] h = refl
 faults_same tags now line kept near (e ∷ rows) h =
     λ i. or_else (option_map (bad line) (same_fault tags now near kept e (sym h.0.clash) (sym h.0.order) i))
-        (faults_same tags now (line + 1) (kept ++ e ∷ []) (near ++ e ∷ []) rows (each_seen_more kept near e rows h.1) i)
+    (faults_same tags now (line + 1) (kept ++ e ∷ []) (near ++ e ∷ []) rows (each_seen_more kept near e rows h.1) i)
 
 fresh_same : (kept near rows : List Event) → Each (SeenSame kept near) rows → fresh near rows ≡ fresh kept rows
 fresh_same kept near [] h = refl
@@ -156,12 +156,12 @@ unfolding merge
 needed_merge kept rows tags now h =
     ap (λ o. merged_or o (needed kept rows) rows) (faults_same tags now 2 kept (needed kept rows) rows (needed_seen kept rows h))
     ∙ by (first_fault tags now 2 kept rows) where
-  adds : List Event → Result Merged BadFile
-  adds added = Ok (record { fresh = added; repeated = length rows - length added })
+      adds : List Event → Result Merged BadFile
+      adds added = Ok (record { fresh = added; repeated = length rows - length added })
 
-  by : (o : Option BadFile) → merged_or o (needed kept rows) rows ≡ merged_or o kept rows
-  by None = ap adds (fresh_same kept (needed kept rows) rows (needed_seen kept rows h))
-  by (Some fault) = refl
+      by : (o : Option BadFile) → merged_or o (needed kept rows) rows ≡ merged_or o kept rows
+      by None = ap adds (fresh_same kept (needed kept rows) rows (needed_seen kept rows h))
+      by (Some fault) = refl
 
 -- what events in the order of their numbers say of a row's number and of late rows, whatever their moments are
 pub record SameNumbers (kept near : List Event) (e : Event) : Type 0 where
@@ -182,7 +182,7 @@ same_numbers : (rows kept near : List Event) → AreCut rows kept near → Each 
 same_numbers rows kept near (inl is) = each_of (SameNumbers kept near) rows (λ k d lt. rw is (record { number = refl; overtaken = refl }))
 same_numbers rows kept near (inr led) =
     rw (led.whole, led.is)
-        (each_weaker (λ e. Each (λ k. k.seq < e.seq) led.pre) (SameNumbers (led.pre ++ led.first ∷ led.rest) (led.first ∷ led.rest))
+    (each_weaker (λ e. Each (λ k. k.seq < e.seq) led.pre) (SameNumbers (led.pre ++ led.first ∷ led.rest) (led.first ∷ led.rest))
     (λ e. lower_same e led.pre (led.first
     ∷ led.rest)) rows (all_lower rows led.pre (each_front (λ k. is_before_all rows k ≡ true) led.pre (led.first ∷ []) led.low)))
 
@@ -243,9 +243,9 @@ lt_last a n es e h = by (nat_lt n e.seq) refl where
   by false f =
       let le = ltb-false n e.seq f in
       ap (λ b. b || false)
-          (any_none (λ k. same_name a k.tag
-          && nat_lt n k.seq) es (each_weaker (λ k. k.seq < e.seq) (λ k. (same_name a k.tag && nat_lt n k.seq) ≡ false)
-          (λ k lt. ap (λ b. same_name a k.tag && b) (le-ltb n k.seq (omega (arith, lt, le))) ∙ and-false _) es h))
+      (any_none (λ k. same_name a k.tag
+      && nat_lt n k.seq) es (each_weaker (λ k. k.seq < e.seq) (λ k. (same_name a k.tag && nat_lt n k.seq) ≡ false)
+      (λ k lt. ap (λ b. same_name a k.tag && b) (le-ltb n k.seq (omega (arith, lt, le))) ∙ and-false _) es h))
 
 reached_more : (old new : BTreeMap Name ℕ) (es : List Event) (e : Event) (t : Name) → t ≡ e.tag → Each (λ k. k.seq < e.seq) es
     → Updates name_cmp old new t (Some e.seq) → AreReached old es → AreReached new (es ++ e ∷ [])
@@ -266,9 +266,9 @@ pub reached_next : (events : List Event) (i : ℕ) (e : Event) (t : Name) (old n
     → AreReached new (take (i + 1) events)
 reached_next events i e t old new h lt is own put are =
     let whole : events ≡ take i events ++ e ∷ drop (i + 1) events = sym (take-append-drop i events)
-        ∙ ap (λ l. take i events ++ l) (drop_more events i e lt ∙ ap (λ x. x ∷ drop (i + 1) events) (sym is)) in
+    ∙ ap (λ l. take i events ++ l) (drop_more events i e lt ∙ ap (λ x. x ∷ drop (i + 1) events) (sym is)) in
     let low : Each (λ k. k.seq < e.seq) (take i events) =
-        pairs_before (λ (x y : Event). x.seq < y.seq) (take i events)
-        (drop (i + 1) events) e (subst (λ (l : List Event). Rises event_number l) whole (rises_of event_number events h)) in
+    pairs_before (λ (x y : Event). x.seq < y.seq) (take i events)
+    (drop (i + 1) events) e (subst (λ (l : List Event). Rises event_number l) whole (rises_of event_number events h)) in
     subst (AreReached new) (sym (take_more events i e lt ∙ ap (λ x. take i events ++ x ∷ []) (sym is)))
-        (reached_more old new (take i events) e t own low put are)
+    (reached_more old new (take i events) e t own low put are)

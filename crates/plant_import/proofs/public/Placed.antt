@@ -82,10 +82,10 @@ module _ {X : Type 0} (key : X → ℕ) where
   there n (x ∷ xs) zero rises h le =
       let from : n ≤ key x = h.1 0 x (omega arith) (omega arith) in
       any_by_first (λ y. eq_by_cmp nat_cmp n (key y)) x xs (each_weaker (λ y. key x < key y) (λ y. eq_by_cmp nat_cmp n (key y) ≡ true
-          → eq_by_cmp nat_cmp n (key x) ≡ true) (λ y lt t. let same = same_it n (key y) t in absurd (omega (arith, from, lt, same))) xs rises.0)
+      → eq_by_cmp nat_cmp n (key x) ≡ true) (λ y lt t. let same = same_it n (key y) t in absurd (omega (arith, from, lt, same))) xs rises.0)
   there n (x ∷ xs) (suc p) rises h le =
       ap (λ b. b || list_any (λ y. eq_by_cmp nat_cmp n (key y)) xs) (other n (key x) (h.0 0 x (omega arith) (omega arith)))
-          ∙ there n xs p rises.1 (later n x xs p h) (omega arith)
+      ∙ there n xs p rises.1 (later n x xs p h) (omega arith)
 
   -- rows put behind others
   pub put_after : (r : X) (xs ys : List X) → AllBelow (key r) xs → put r (xs ++ ys) ≡ xs ++ put r ys
@@ -105,9 +105,11 @@ module _ {X : Type 0} (key : X → ℕ) where
 
   pub behind_end : (r : X) (xs rs : List X) → AllBelow (key r) xs → AllAbove (key r) rs → EachBehind (xs ++ r ∷ []) rs
   behind_end r xs [] h k = tt
-  behind_end r xs (s ∷ rs) h k =
-      (each_append (λ y. key y < key s) xs (r
-      ∷ []) (each_weaker (λ y. key y < key r) (λ y. key y < key s) (λ y lt. omega (arith, lt, k.0)) xs h) (k.0, tt), behind_end r xs rs h k.1)
+  behind_end r xs (s ∷ rs) h k = (
+    each_append (λ y. key y < key s) xs (r
+        ∷ []) (each_weaker (λ y. key y < key r) (λ y. key y < key s) (λ y lt. omega (arith, lt, k.0)) xs h) (k.0, tt),
+    behind_end r xs rs h k.1,
+  )
 
   -- rising rows that are put one by one are those rows
   pub puts_none : (rs : List X) → Rises rs → puts [] rs ≡ rs
@@ -148,8 +150,8 @@ module _ {X : Type 0} (key : X → ℕ) where
       → puts (below ++ above) (r ∷ rs) ≡ (below ++ r ∷ []) ++ puts (without_first (key r) above) rs
   puts_first r below above rs low high more =
       ap (λ l. puts l rs)
-          (put_after r below above low ∙ ap (λ l. below ++ l) (put_first r above high)
-          ∙ sym (append_assoc below (r ∷ []) (without_first (key r) above)))
+      (put_after r below above low ∙ ap (λ l. below ++ l) (put_first r above high)
+      ∙ sym (append_assoc below (r ∷ []) (without_first (key r) above)))
       ∙ puts_after rs (below ++ r ∷ []) (without_first (key r) above) (behind_end r below rs low more)
 
   -- the two parts of rising rows at the place of a number
@@ -181,9 +183,9 @@ module _ {X : Type 0} (key : X → ℕ) where
       let tail : Rises (r ∷ drop (i + 1) more) = subst (λ (l : List X). Rises l) here (rises_drop i more goes) in
       let step : puts rest (drop i more) ≡ (take p rest ++ r ∷ []) ++ puts (without_first (key r) (drop p rest)) (drop (i + 1) more) =
       ap (puts rest) here ∙ ap (λ l. puts l (r ∷ drop (i + 1) more)) parted_so.whole
-          ∙ puts_first r (take p rest) (drop p rest) (drop (i + 1) more) parted_so.low parted_so.high tail.0 in
+      ∙ puts_first r (take p rest) (drop p rest) (drop (i + 1) more) parted_so.low parted_so.high tail.0 in
       ap (λ l. l ++ puts (without_first (key r) above) (drop (i + 1) more)) (append_assoc all below (r ∷ []))
-          ∙ append_assoc all (below ++ r ∷ []) (puts (without_first (key r) above) (drop (i + 1) more))
+      ∙ append_assoc all (below ++ r ∷ []) (puts (without_first (key r) above) (drop (i + 1) more))
       ∙ (λ j. all ++ ((eb j ++ r ∷ []) ++ puts (without_first (key r) (ea j)) (drop (i + 1) more))) ∙ ap (λ l. all ++ l) (sym step) ∙ so
 
   pub rises_left : (n : ℕ) (rest above left : List X) (p : ℕ) → Rises rest → above ≡ drop p rest → left ≡ without_first n above → Rises left

@@ -1,9 +1,9 @@
 -- What each connection was sent.
 use Rattle.std.proofs.Common.{ℕ, List, []}
 use Rattle.plant_model.specs.declared.{call.Call.{Call}, reply.Answer.{Answer}}
-use Rattle.plant_lines.specs.Accounts.{AreSent, Outcome, StopsAfter}
+use Rattle.plant_lines.specs.Accounts.{AreSent, Outcome, HasOpened}
 use Rattle.plant_lines.proofs.{Held.{none_yet}, Whole.{sent_from}}
 
 -- none came
-pub sent_none : {ran : List Call → List Answer → Type 0} {n : ℕ} {r : Outcome} → ran [] [] → StopsAfter n 0 [] r → AreSent ran n r
+pub sent_none : {ran : List Call → List Answer → Type 0} {n : ℕ} {r : Outcome} → ran [] [] → HasOpened n 0 [] r → AreSent ran n r
 sent_none made stops = sent_from [] 0 [] made none_yet stops

@@ -26,7 +26,7 @@ no_more_stands : (k x : Pair) (rest : Option (Said (Option ℕ)))
     → option_map (grant_as k) (still (or_else (when (same_pair k x) Over) rest)) ≡ cond (same_pair k x) None (option_map (grant_as k) (still rest))
 no_more_stands k x rest =
     elim (same_pair k x) as (λ b. option_map (grant_as k) (still (or_else (when b Over) rest))
-        ≡ cond b None (option_map (grant_as k) (still rest))) [ true ↦ refl | false ↦ refl ]
+    ≡ cond b None (option_map (grant_as k) (still rest))) [ true ↦ refl | false ↦ refl ]
 
 -- shelves
 now_shelved : (a b : Name) (row : Name → ShelfRow) (rest : Option (Said ShelfRow))

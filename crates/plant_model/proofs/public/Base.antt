@@ -88,5 +88,13 @@ status h t = verdict h (call ann t (Status u1 pt))
 -- a status of an alarm that is in service and not suppressed by design
 abbrev pub plain : Name → ℕ → ℕ → AlarmState → ShelfState → Result Reply Refused
 plain a max revision state shelf =
-    Ok (StatusOf (record { tag = a; limit = max; limit_revision = revision; state = state; shelf = shelf; suppressed = false; out_of_service = false;
-    suppressed_or_shelved = not (is_unshelved shelf) }))
+    Ok (StatusOf (record {
+      tag = a;
+      limit = max;
+      limit_revision = revision;
+      state = state;
+      shelf = shelf;
+      suppressed = false;
+      out_of_service = false;
+      suppressed_or_shelved = not (is_unshelved shelf);
+    }))

@@ -21,7 +21,7 @@ pub put_row-map : {A X K : Type 0} (R : K → K → Ordering) (key : X → K) (f
 put_row-map R key f r [] = refl
 put_row-map R key f r (x ∷ xs) =
     elim (R (key (f r)) (key (f x))) as (λ v. by_order v (f r ∷ f x ∷ map f xs) (f r ∷ map f xs) (f x ∷ put_row R key (f r) (map f xs))
-        ≡ map f (by_order v (r ∷ x ∷ xs) (r ∷ xs) (x ∷ put_row R (λ y. key (f y)) r xs))) [
+    ≡ map f (by_order v (r ∷ x ∷ xs) (r ∷ xs) (x ∷ put_row R (λ y. key (f y)) r xs))) [
       | Less ↦ refl
       | Equal ↦ refl
       | Greater ↦ ap (λ ys. f x ∷ ys) (put_row-map R key f r xs)
@@ -41,8 +41,8 @@ pub now_stands : (k x : Pair) (until : Option ℕ) (rest : Option (Said (Option 
     (option_map (grant_as k) (still rest))
 now_stands k x until rest =
     elim (same_pair k x) as (λ b. same_pair k x ≡ b
-        → option_map (grant_as k) (still (or_else (when b (Begins until)) rest)) ≡ cond b (Some (grant_as x until))
-        (option_map (grant_as k) (still rest))) [
+    → option_map (grant_as k) (still (or_else (when b (Begins until)) rest)) ≡ cond b (Some (grant_as x until))
+    (option_map (grant_as k) (still rest))) [
       | true ↦ λ e. ap (λ y. Some (grant_as y until)) (same_pairs k x (tied _ _ e refl))
       | false ↦ λ e. refl
     ] refl
@@ -54,7 +54,7 @@ pub said_anew : {K V B X : Type 0} (R : K → K → Ordering) (same : (x y : K) 
     (option_map (row k (value k)) (base k))
 said_anew R same row value base a b v known k =
     elim (eq_by_cmp R k a) as (λ t. eq_by_cmp R k a ≡ t
-        → option_map (row k (cond t v (value k))) (base k) ≡ cond t (Some (row a v b)) (option_map (row k (value k)) (base k))) [
+    → option_map (row k (cond t v (value k))) (base k) ≡ cond t (Some (row a v b)) (option_map (row k (value k)) (base k))) [
       | true ↦ λ e. ap (λ y. option_map (row y v) (base y)) (same k a (tied _ true e refl)) ∙ ap (option_map (row a v)) known
       | false ↦ λ e. refl
     ] refl
@@ -78,8 +78,8 @@ module _ (h : List Call) (p : Name) (t : ℕ) where
       (or_else (when (same_name k a) l) (latching h k)) ≡ cond (same_name k a) (Some (alarm_as a max 0 [] None l)) (alarm_row h k)
   alarm_anew a k l max new =
       elim (same_name k a) as (λ s. same_name k a ≡ s
-          → option_map (alarm_as k (unwrap_or (or_else (when s max) (limit h k)) 0) (limit_revision h k) (events_of h k) (outage h k))
-          (or_else (when s l) (latching h k)) ≡ cond s (Some (alarm_as a max 0 [] None l)) (alarm_row h k)) [
+      → option_map (alarm_as k (unwrap_or (or_else (when s max) (limit h k)) 0) (limit_revision h k) (events_of h k) (outage h k))
+      (or_else (when s l) (latching h k)) ≡ cond s (Some (alarm_as a max 0 [] None l)) (alarm_row h k)) [
         | true ↦ λ e. ap (λ y. Some (alarm_as y max (limit_revision h y) (events_of h y) (outage h y) l)) (same_names k a (tied _ true e refl))
             ∙ (λ i. Some (alarm_as a max (new.no_revision i) (new.no_event i) (new.no_outage i) l))
         | false ↦ λ e. refl

@@ -77,7 +77,7 @@ distinct_step h p t (Approve u m) entry d =
     let known = drafted h m _ off in
     let low : 1 ≤ m = draft_positive h m known.0 known.1 in
     let none =
-        false_from_ne_true (list_any (eqb m) (approved h)) (λ there. true≢false (sym (decided h m there) ∙ ap is_some (was_undecided h m _ off))) in
+    false_from_ne_true (list_any (eqb m) (approved h)) (λ there. true≢false (sym (decided h m there) ∙ ap is_some (was_undecided h m _ off))) in
     ((ne_eqb 0 m (λ e. omega (arith, low, e)), d.0), (apart m (approved h) none, d.1))
 distinct_step h p t _ entry d = d
 
@@ -117,9 +117,9 @@ fewer says each (c ∷ h) =
     let rest = fewer says each h in
     let long = length-append (approved_by c.request) (approved h) in
     elim (is_some (says c h)) as (λ b. is_some (says c h) ≡ b
-        → (if b then
-        counted (λ c before. is_some (says c before)) h + 1 else counted (λ c before. is_some (says c before)) h) ≤ length (approved_by c.request
-        ++ approved h)) [
+    → (if b then
+    counted (λ c before. is_some (says c before)) h + 1 else counted (λ c before. is_some (says c before)) h) ≤ length (approved_by c.request
+    ++ approved h)) [
       | true ↦ λ is. let one = each c h is in omega (arith, rest, long, one)
       | false ↦ λ _. omega (arith, rest, long)
     ] refl

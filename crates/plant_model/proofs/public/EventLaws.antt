@@ -51,7 +51,7 @@ module _ (h : List Call) (p : Name) (t : ℕ) (u : Name) (rows : List Event) whe
       let told = member_told (event_numbered now) (in_order nat_cmp (numbers_of_events now)) e there in
       let n : ℕ = told.0 in
       let is : or_else (find (has_number n) rows) (find (has_number n) (events h)) ≡ Some e =
-          ap (or_else (find (has_number n) rows)) (found_event h n) ∙ told.1 in
+      ap (or_else (find (has_number n) rows)) (found_event h n) ∙ told.1 in
       (subst (IsOf (events h ++ rows) n) is (of_both n (events h) rows _ _ (of_find n rows) (of_find n (events h)))).0
 
 -- a tag among those of the alarms is registered
@@ -69,9 +69,9 @@ none_named tags a (e ∷ rows) known none =
     let parts = and_parts (list_any (same_name e.tag) tags) (are_known tags rows) known in
     let rest = none_named tags a rows parts.1 none in
     let other : same_name a e.tag ≡ false =
-        false_from_ne_true (same_name a e.tag)
-        (λ is. clash_of (list_any (same_name a) tags) (ap (λ y. list_any (same_name y) tags) (same_names a e.tag (tied _ true is refl))
-        ∙ parts.0) none) in
+    false_from_ne_true (same_name a e.tag)
+    (λ is. clash_of (list_any (same_name a) tags) (ap (λ y. list_any (same_name y) tags) (same_names a e.tag (tied _ true is refl))
+    ∙ parts.0) none) in
     λ i. other i || rest i
 
 -- what legality says of the events
@@ -127,9 +127,12 @@ no_event_of : (a : Name) (es : List Event) → list_any (is_of a) es ≡ false �
 no_event_of a [] none = refl
 no_event_of a (e ∷ es) none =
     elim (same_name a e.tag) as (λ b. (b || list_any (is_of a) es) ≡ false
-        → cond b (e ∷ of_alarm a es) (of_alarm a es) ≡ []) [ true ↦ λ no. cc | false ↦ λ rest. no_event_of a es rest ] none
+    → cond b (e ∷ of_alarm a es) (of_alarm a es) ≡ []) [ true ↦ λ no. cc | false ↦ λ rest. no_event_of a es rest ] none
 
 pub unspoken : (h : List Call) → IsLegal h → (a : Name) → latching h a ≡ None → IsUnspoken h a
 unspoken h legal a none =
-    record { no_revision = no_revision h legal a none; no_event = no_event_of a (events h) ((legal_kept h legal).known a none);
-    no_outage = no_outage h legal a none }
+    record {
+      no_revision = no_revision h legal a none;
+      no_event = no_event_of a (events h) ((legal_kept h legal).known a none);
+      no_outage = no_outage h legal a none;
+    }

@@ -6,7 +6,7 @@ use Rattle.plant_types.specs.{KeyedRows.{row_at}, Names.{same_name, Name, name_c
 use Rattle.plant_model.specs.Changes.{Draft, approved_sheet, change, draft, is_proposal, kind_of_change, matrix, proposals, record_of, record_revision, said_of_draft, sheet, sheet_in}
 use Rattle.plant_model.specs.{Facts.{facts}, Grants.{held, is_before, standing, stands}, Histories.{counted, latest, same_number}}
 use Rattle.plant_model.specs.RowFacts.{change_found, change_number, change_read, facts_from, kind_read, matrix_read, record_found, record_from, record_read, record_tag, sheet_read, alarm_tag, pair_of, shelf_tag}
-use Rattle.plant_model.specs.Rows.{change_entry, changes_of, max_of_kind, record_entry, records_of, sheet_of_kind, tag_of_kind, topic, alarm_row, alarm_rows, grant_as, grant_row, grant_rows, rows_of, shelf_rows}
+use Rattle.plant_model.specs.Rows.{change_entry, changes_of, max_of_kind, record_entry, records_of, sheet_of_kind, tag_of_kind, topic_of, alarm_row, alarm_rows, grant_as, grant_row, grant_rows, rows_of, shelf_rows}
 use Rattle.plant_model.specs.{Shelves.{shelf}, declared.call.{Call.{Call}, Request.{Request, TheVariants.{Approve, Propose}}}}
 use Rattle.plant_model.specs.declared.{reply.{ChangeRow.{ChangeRow}, RecordRow.{RecordRow}}, rows.{ChangeEntry.{ChangeEntry}, GrantRow.{GrantRow}}}
 use Rattle.plant_model.{specs.declared.rows.RecordEntry.{RecordEntry}, proofs.public.PutLaws.{is_some-find}}
@@ -52,7 +52,7 @@ pub row_at-map : {A X K : Type 0} (R : K → K → Ordering) (key : X → K) (f 
 row_at-map R key f k [] = refl
 row_at-map R key f k (x ∷ xs) =
     elim (eq_by_cmp R k (key (f x))) as (λ b. cond b (Some (f x)) (row_at R key k (map f xs))
-        ≡ option_map f (cond b (Some x) (row_at R (λ x. key (f x)) k xs))) [ true ↦ refl | false ↦ row_at-map R key f k xs ]
+    ≡ option_map f (cond b (Some x) (row_at R (λ x. key (f x)) k xs))) [ true ↦ refl | false ↦ row_at-map R key f k xs ]
 
 pub record_entry_in : (h : List Call) (a : Name) → record_found (rows_of h) a ≡ option_map record_entry (record_of h a)
 record_entry_in h a = row_at-map name_cmp record_tag record_entry a (records_of h)
@@ -73,7 +73,7 @@ pub none_counted : {A : Type 0} (says : Call → List Call → Option A) (h : Li
 none_counted says [] e = refl
 none_counted says (c ∷ h) e =
     elim (says c h) as (λ o. or_else o (latest says h) ≡ None
-        → (if is_some o then counted (λ c before. is_some (says c before)) h + 1 else counted (λ c before. is_some (says c before)) h) ≡ 0) [
+    → (if is_some o then counted (λ c before. is_some (says c before)) h + 1 else counted (λ c before. is_some (says c before)) h) ≡ 0) [
       | None ↦ λ rest. none_counted says h rest
       | Some x ↦ λ some. cc
     ] e
@@ -93,7 +93,7 @@ bound_step : (h : List Call) (n : ℕ) (p : Name) (t : ℕ) (q : Request) (d : D
     → or_else (said_of_draft n p t h q) (draft h n) ≡ Some d → n ≤ (if is_proposal q then proposals h + 1 else proposals h)
 bound_step h n p t (Propose u y) d rest e =
     elim (same_number n (proposals h + 1)) as (λ b. same_number n (proposals h + 1) ≡ b
-        → or_else (when b (record { proposer = p; proposed = t; kind = y.kind; base = y.base })) (draft h n) ≡ Some d → n ≤ proposals h + 1) [
+    → or_else (when b (record { proposer = p; proposed = t; kind = y.kind; base = y.base })) (draft h n) ≡ Some d → n ≤ proposals h + 1) [
       | true ↦ λ s _. let is : n ≡ proposals h + 1 = same_number_of n (proposals h + 1) s in omega (arith, is)
       | false ↦ λ _ r. let less : n ≤ proposals h = rest r in omega (arith, less)
     ] refl e
@@ -106,7 +106,7 @@ draft_bound (c ∷ h) n d e = bound_step h n c.person c.moment c.request d (draf
 kept_step : (h : List Call) (n : ℕ) (p : Name) (t : ℕ) (q : Request) (o : Option Draft) → n ≤ proposals h → or_else (said_of_draft n p t h q) o ≡ o
 kept_step h n p t (Propose u y) o less =
     ap (λ b. or_else (when b (record { proposer = p; proposed = t; kind = y.kind; base = y.base })) o)
-        (false_from_ne_true _ (λ e. let is : n ≡ proposals h + 1 = same_number_of n (proposals h + 1) e in omega (arith, less, is)))
+    (false_from_ne_true _ (λ e. let is : n ≡ proposals h + 1 = same_number_of n (proposals h + 1) e in omega (arith, less, is)))
 kept_step h n p t _ o less = refl
 
 -- a change is kept for good
@@ -124,9 +124,11 @@ kind_kept c h n k e =
 sheet_when : (a b : Name) (old new : ℕ × Sheet) (t : Bool) → same_name a b ≡ t → when t old ≡ Some new
     → (old.0 ≡ new.0) × (Some (Rationale b old.1) ≡ Some (Rationale a new.1))
 sheet_when a b old new true same is =
-    let pair = when_Some true old new is in
-    (ap (λ (z : ℕ × Sheet). z.0) pair, ap (λ z. Some (Rationale z old.1)) (sym (same_names a b (tied _ true same refl)))
-    ∙ ap (λ (z : ℕ × Sheet). Some (Rationale a z.1)) pair)
+    let pair = when_Some true old new is in (
+      ap (λ (z : ℕ × Sheet). z.0) pair,
+      ap (λ z. Some (Rationale z old.1)) (sym (same_names a b (tied _ true same refl)))
+          ∙ ap (λ (z : ℕ × Sheet). Some (Rationale a z.1)) pair,
+    )
 sheet_when a b old new false same is = cc
 
 sheet_of : (a : Name) (n m : ℕ) (s : Sheet) (k : Option ChangeKind) → sheet_in a n k ≡ Some (m, s) → (n ≡ m) × (k ≡ Some (Rationale a s))
@@ -142,7 +144,7 @@ pub sheet_source : (h : List Call) (a : Name) (m : ℕ) (s : Sheet) → sheet h 
 sheet_source [] a m s e = cc
 sheet_source (c ∷ h) a m s e =
     elim (approved_sheet a h c.request) as (λ o. approved_sheet a h c.request ≡ o → or_else o (sheet h a) ≡ Some (m, s)
-        → kind_of_change (c ∷ h) m ≡ Some (Rationale a s)) [
+    → kind_of_change (c ∷ h) m ≡ Some (Rationale a s)) [
       | None ↦ λ _ rest. kind_kept c h m _ (sheet_source h a m s rest)
       | Some y ↦ λ some is. kind_kept c h m _ (approved_from a c h c.person c.moment c.request m s (some ∙ is))
     ] refl e
@@ -155,11 +157,13 @@ pub record AreReadable (h : List Call) : Type 0 where
 -- a record is read from its row and its change
 sheet_back : (s : Sheet) (a : Name) (c : ChangeRow) → c.kind ≡ Rationale a s → sheet_read (change_entry c) ≡ s
 sheet_back s a c e =
-    ap (λ k. record { cause = unwrap_or (option_map (λ (s : Sheet). s.cause) (sheet_of_kind k)) [];
-    consequence = unwrap_or (option_map (λ (s : Sheet). s.consequence) (sheet_of_kind k)) [];
-    action = unwrap_or (option_map (λ (s : Sheet). s.action) (sheet_of_kind k)) [];
-    severity = unwrap_or (option_map (λ (s : Sheet). s.severity) (sheet_of_kind k)) 0;
-    response = unwrap_or (option_map (λ (s : Sheet). s.response) (sheet_of_kind k)) 0 }) e
+    ap (λ k. record {
+      cause = unwrap_or (option_map (λ (s : Sheet). s.cause) (sheet_of_kind k)) [];
+      consequence = unwrap_or (option_map (λ (s : Sheet). s.consequence) (sheet_of_kind k)) [];
+      action = unwrap_or (option_map (λ (s : Sheet). s.action) (sheet_of_kind k)) [];
+      severity = unwrap_or (option_map (λ (s : Sheet). s.severity) (sheet_of_kind k)) 0;
+      response = unwrap_or (option_map (λ (s : Sheet). s.response) (sheet_of_kind k)) 0;
+    }) e
 
 read_draft : (h : List Call) (r : RecordEntry) (a : Name) (s : Sheet) (o : Option Draft) → option_map (λ (d : Draft). d.kind) o ≡ Some (Rationale a s)
     → option_map (λ (c : ChangeEntry). record_from r (sheet_read c))
@@ -187,16 +191,16 @@ records_back : (h : List Call) (tags : List Name)
 records_back h [] = refl
 records_back h (a ∷ tags) =
     elim (sheet h a) as (λ o. sheet h a ≡ o
-        → filter_map (record_read (rows_of h))
-        (map record_entry (cons_option (option_map (record_with h a) o) (filter_map (record_of h) tags)))
-        ≡ cons_option (option_map (record_with h a) o) (filter_map (record_of h) tags)) [
+    → filter_map (record_read (rows_of h))
+    (map record_entry (cons_option (option_map (record_with h a) o) (filter_map (record_of h) tags)))
+    ≡ cons_option (option_map (record_with h a) o) (filter_map (record_of h) tags)) [
       | None ↦ λ _. records_back h tags
       | Some x ↦ λ e i. cons_option (record_back h a x e i) (records_back h tags i)
     ] refl
 
 -- a change is read from its row
 kind_back : (h : List Call) → AreReadable h → (c : ChangeRow) (k : ChangeKind) → c.kind ≡ k → kind_of_change h c.number ≡ Some k
-    → kind_read (rows_of h) (change_entry c) (topic k) ≡ k
+    → kind_read (rows_of h) (change_entry c) (topic_of k) ≡ k
 kind_back h readable c (Rationale a s) e is = λ i. Rationale (unwrap_or (tag_of_kind (e i)) []) (sheet_back s a c e i)
 kind_back h readable c (Matrix m) e is = ap (λ x. Matrix x) (readable.proposed c.number m is)
 kind_back h readable c (Limit a max) e is = λ i. Limit (unwrap_or (tag_of_kind (e i)) []) (unwrap_or (max_of_kind (e i)) 0)

@@ -34,7 +34,7 @@ keyed_roles rs = map (λ r. (r, r)) rs
 held_person : (t : ℕ) (p : Name) (g : GrantRow) → is_held_row t p g ≡ true → name_cmp p g.person ≡ Equal
 held_person t p g =
     elim (name_cmp p g.person) as (λ o. (if is_eq o then is_before t g.end_s else false) ≡ true
-        → o ≡ Equal) [ Less ↦ λ e. cc | Equal ↦ λ _. refl | Greater ↦ λ e. cc ]
+    → o ≡ Equal) [ Less ↦ λ e. cc | Equal ↦ λ _. refl | Greater ↦ λ e. cc ]
 
 one_person : (p : Name) (a b : Name) → name_cmp p a ≡ Equal → name_cmp p b ≡ Equal → name_cmp a b ≡ Equal
 one_person p a b x y = subst (λ n. name_cmp n b ≡ Equal) (same_names p a x) y
@@ -47,8 +47,7 @@ below_held t p x [] held h = tt
 below_held t p x (g ∷ rows) held h =
     let rest = below_held t p x rows held (second _ _ h) in
     elim (is_held_row t p g) as (λ b. is_held_row t p g ≡ b
-        → T (below_all role_cmp (role_in x) (keyed_roles (map role_in (cond b (g ∷ filter (is_held_row t p) rows) (filter (is_held_row t p) rows))))))
-        [
+    → T (below_all role_cmp (role_in x) (keyed_roles (map role_in (cond b (g ∷ filter (is_held_row t p) rows) (filter (is_held_row t p) rows)))))) [
       | true ↦ λ e. both _ _
           (subst (λ o. T (is_lt (ordering_then o (role_cmp x.role_no g.role_no))))
           (one_person p x.person g.person (held_person t p x held) (held_person t p g e)) (first _ _ h)) rest
@@ -61,7 +60,7 @@ roles_rise t p [] h = tt
 roles_rise t p (g ∷ rows) h =
     let rest = roles_rise t p rows (second _ _ h) in
     elim (is_held_row t p g) as (λ b. is_held_row t p g ≡ b
-        → IsInOrder role_cmp (λ r. r) (map role_in (cond b (g ∷ filter (is_held_row t p) rows) (filter (is_held_row t p) rows)))) [
+    → IsInOrder role_cmp (λ r. r) (map role_in (cond b (g ∷ filter (is_held_row t p) rows) (filter (is_held_row t p) rows)))) [
       | true ↦ λ e. both _ _ (below_held t p g rows e (first _ _ h)) rest
       | false ↦ λ _. rest
     ] refl
@@ -73,18 +72,18 @@ none_above t p r [] h = refl
 none_above t p r (g ∷ rows) h =
     let rest = none_above t p r rows (second _ _ h) in
     elim (name_cmp p g.person) as (λ o. T (is_lt (ordering_then o (role_cmp r g.role_no)))
-        → row_at role_cmp role_in r (cond (if is_eq o then
-        is_before t g.end_s else false) (g ∷ filter (is_held_row t p) rows) (filter (is_held_row t p) rows)) ≡ None) [
+    → row_at role_cmp role_in r (cond (if is_eq o then
+    is_before t g.end_s else false) (g ∷ filter (is_held_row t p) rows) (filter (is_held_row t p) rows)) ≡ None) [
       | Less ↦ λ _. rest
       | Greater ↦ λ _. rest
       | Equal ↦ λ lt. elim (is_before t g.end_s) as (λ b. row_at role_cmp role_in r (cond b (g
           ∷ filter (is_held_row t p) rows) (filter (is_held_row t p) rows)) ≡ None) [
-        | true ↦ elim (role_cmp r g.role_no) as (λ o. T (is_lt o)
-            → cond (is_eq o) (Some g)
-            (row_at role_cmp role_in r (filter (is_held_row t p) rows))
-            ≡ None) [ Less ↦ λ _. rest | Equal ↦ λ x. absurd x | Greater ↦ λ x. absurd x ] lt
-        | false ↦ rest
-      ]
+            | true ↦ elim (role_cmp r g.role_no) as (λ o. T (is_lt o)
+                → cond (is_eq o) (Some g)
+                (row_at role_cmp role_in r (filter (is_held_row t p) rows))
+                ≡ None) [ Less ↦ λ _. rest | Equal ↦ λ x. absurd x | Greater ↦ λ x. absurd x ] lt
+            | false ↦ rest
+          ]
     ] (first _ _ h)
 
 -- the row of a role among the person's is that of the pair, where its end is not yet there
@@ -95,34 +94,34 @@ held_at t p r [] h = refl
 held_at t p r (g ∷ rows) h =
     let rest = held_at t p r rows (second _ _ h) in
     elim (name_cmp p g.person) as (λ o. name_cmp p g.person ≡ o
-        → option_map role_in (row_at role_cmp role_in r (cond (if is_eq o then
-        is_before t g.end_s else false) (g ∷ filter (is_held_row t p) rows) (filter (is_held_row t p) rows)))
-        ≡ cond (held_by t (cond (is_eq (ordering_then o (role_cmp r g.role_no))) (Some g) (row_at pair_cmp pair_of (p, r) rows))) (Some r) None) [
+    → option_map role_in (row_at role_cmp role_in r (cond (if is_eq o then
+    is_before t g.end_s else false) (g ∷ filter (is_held_row t p) rows) (filter (is_held_row t p) rows)))
+    ≡ cond (held_by t (cond (is_eq (ordering_then o (role_cmp r g.role_no))) (Some g) (row_at pair_cmp pair_of (p, r) rows))) (Some r) None) [
       | Less ↦ λ _. rest
       | Greater ↦ λ _. rest
       | Equal ↦ λ e. elim (is_before t g.end_s) as (λ b. is_before t g.end_s ≡ b
           → option_map role_in (row_at role_cmp role_in r (cond b (g ∷ filter (is_held_row t p) rows) (filter (is_held_row t p) rows)))
           ≡ cond (held_by t (cond (is_eq (role_cmp r g.role_no)) (Some g) (row_at pair_cmp pair_of (p, r) rows))) (Some r) None) [
-        | true ↦ λ before. elim (role_cmp r g.role_no) as (λ o. role_cmp r g.role_no ≡ o
-            → option_map role_in (cond (is_eq o) (Some g) (row_at role_cmp role_in r (filter (is_held_row t p) rows)))
-            ≡ cond (held_by t (cond (is_eq o) (Some g) (row_at pair_cmp pair_of (p, r) rows))) (Some r) None) [
-          | Less ↦ λ _. rest
-          | Greater ↦ λ _. rest
-          | Equal ↦ λ same. ap (λ x. Some x) (sym (same_roles r g.role_no same)) ∙ sym (ap (λ b. cond b (Some r) None) before)
-        ] refl
-        | false ↦ λ ended. elim (role_cmp r g.role_no) as (λ o. role_cmp r g.role_no ≡ o
-            → option_map role_in (row_at role_cmp role_in r (filter (is_held_row t p) rows))
-            ≡ cond (held_by t (cond (is_eq o) (Some g) (row_at pair_cmp pair_of (p, r) rows))) (Some r) None) [
-          | Less ↦ λ _. rest
-          | Greater ↦ λ _. rest
-          | Equal ↦ λ same.
-              let names = sym (same_names p g.person e) in
-              let roles = sym (same_roles r g.role_no same) in
-              let pair : pair_of g ≡ (p, r) = λ i. (names i, roles i) in
-              ap (option_map role_in) (none_above t p r rows (subst (λ (k : Pair). T (below_all pair_cmp k (keyed_grants rows))) pair (first _ _ h)))
-                  ∙ sym (ap (λ b. cond b (Some r) None) ended)
-        ] refl
-      ] refl
+            | true ↦ λ before. elim (role_cmp r g.role_no) as (λ o. role_cmp r g.role_no ≡ o
+                → option_map role_in (cond (is_eq o) (Some g) (row_at role_cmp role_in r (filter (is_held_row t p) rows)))
+                ≡ cond (held_by t (cond (is_eq o) (Some g) (row_at pair_cmp pair_of (p, r) rows))) (Some r) None) [
+                  | Less ↦ λ _. rest
+                  | Greater ↦ λ _. rest
+                  | Equal ↦ λ same. ap (λ x. Some x) (sym (same_roles r g.role_no same)) ∙ sym (ap (λ b. cond b (Some r) None) before)
+                ] refl
+            | false ↦ λ ended. elim (role_cmp r g.role_no) as (λ o. role_cmp r g.role_no ≡ o
+                → option_map role_in (row_at role_cmp role_in r (filter (is_held_row t p) rows))
+                ≡ cond (held_by t (cond (is_eq o) (Some g) (row_at pair_cmp pair_of (p, r) rows))) (Some r) None) [
+                  | Less ↦ λ _. rest
+                  | Greater ↦ λ _. rest
+                  | Equal ↦ λ same.
+                      let names = sym (same_names p g.person e) in
+                      let roles = sym (same_roles r g.role_no same) in
+                      let pair : pair_of g ≡ (p, r) = λ i. (names i, roles i) in
+                      ap (option_map role_in) (none_above t p r rows (subst (λ (k : Pair). T (below_all pair_cmp k (keyed_grants rows))) pair (first _ _ h)))
+                      ∙ sym (ap (λ b. cond b (Some r) None) ended)
+                ] refl
+          ] refl
     ] refl
 
 row_at-mapped : (r : Role) (rows : List GrantRow)
@@ -130,13 +129,13 @@ row_at-mapped : (r : Role) (rows : List GrantRow)
 row_at-mapped r [] = refl
 row_at-mapped r (g ∷ rows) =
     elim (eq_by_cmp role_cmp r (role_in g)) as (λ b. cond b (Some (role_in g)) (row_at role_cmp (λ x. x) r (map role_in rows))
-        ≡ option_map role_in (cond b (Some g) (row_at role_cmp role_in r rows))) [ true ↦ refl | false ↦ row_at-mapped r rows ]
+    ≡ option_map role_in (cond b (Some g) (row_at role_cmp role_in r rows))) [ true ↦ refl | false ↦ row_at-mapped r rows ]
 
 filter-when : (q : Role → Bool) (rs : List Role) → filter q rs ≡ filter_map (λ r. when (q r) r) rs
 filter-when q [] = refl
 filter-when q (r ∷ rs) =
     elim (q r) as (λ b. cond b (r ∷ filter q rs) (filter q rs)
-        ≡ cons_option (when b r) (filter_map (λ r. when (q r) r) rs)) [ true ↦ ap (λ xs. r ∷ xs) (filter-when q rs) | false ↦ filter-when q rs ]
+    ≡ cons_option (when b r) (filter_map (λ r. when (q r) r) rs)) [ true ↦ ap (λ xs. r ∷ xs) (filter-when q rs) | false ↦ filter-when q rs ]
 
 each_role : (r : Role) → is_some (row_at role_cmp (λ x. x) r all_roles) ≡ true
 each_role Viewer = refl
@@ -175,5 +174,5 @@ any-filter q (x ∷ xs) =
 pub any_of_rows : (h : List Call) (t : ℕ) (p : Name) → list_any (is_held_row t p) (grant_rows h) ≡ holds_any h t p
 any_of_rows h t p =
     any-filter (is_held_row t p) (grant_rows h)
-        ∙ sym (ap is_some (slice_get-map role_in (filter (is_held_row t p) (grant_rows h)) 0) ∙ is_some-map role_in _)
+    ∙ sym (ap is_some (slice_get-map role_in (filter (is_held_row t p) (grant_rows h)) 0) ∙ is_some-map role_in _)
     ∙ ap (λ (rs : List Role). is_some (slice_get rs 0)) (roles_of_rows h t p) ∙ sym (any-filter (λ r. held h t (p, r)) all_roles)

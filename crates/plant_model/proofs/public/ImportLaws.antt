@@ -4,7 +4,7 @@ use Rattle.std.proofs.Common.{ap, cond, inl, inr, refl, subst, sym, true, ◌∙
 use Rattle.plant_import.{specs.{Merging.{first_fault, fresh}, Numbers.{has_number, with_events}}, proofs.public.Counted.{put_twice}}
 use Rattle.plant_import.proofs.public.FileLaws.{none_member}
 use Rattle.plant_model.specs.{Alarms.{latching, limit}, Changes.{limit_revision}, Events.{event_numbered, events, events_of}, Facts.{facts}}
-use Rattle.plant_model.specs.{Parts.{none}, Refusals.{tags_of}, RowChanges.{all_events, is_touched, new_events, put, with_state}}
+use Rattle.plant_model.specs.{Parts.{none}, Refusals.{tags_of}, RowChanges.{events_with_file, is_touched, new_events, put, with_state}}
 use Rattle.plant_model.specs.{RowFacts.{alarm_tag, event_number}, Rows.{alarm_as, alarm_row, alarm_rows, rows_of, unit_row}, Service.{outage}}
 use Rattle.plant_model.specs.declared.{call.{Call.{Call}, Request.TheVariants.{Import}}, rows.AlarmRow.{AlarmRow}}
 use Rattle.plant_model.specs.declared.rows.{Row.TheVariants.{Unit as UnitPut}, RowEdit.TheVariants.{PutEvents}, UnitRows.{UnitRows}}
@@ -31,7 +31,7 @@ module _ (h : List Call) (p : Name) (t : ℕ) (u : Name) (rows : List Event) (ke
       ∙ new_rows_say (tags_of (facts h)) t (events h) rows kept.fit clean n
       ∙ ap (or_else (said nat_cmp event_number new n)) (found_event h n)
 
-  pub events_put : all_events (events h) rows ≡ events after
+  pub events_put : events_with_file (events h) rows ≡ events after
   events_put =
       puts-rows (event_numbered h) (event_numbered after) (numbers_of_events h) (numbers_of_events after) new (events_told h) (events_told after) says
 
@@ -53,7 +53,7 @@ module _ (h : List Call) (p : Name) (t : ℕ) (u : Name) (rows : List Event) (ke
   kept_only : (a : Name) → list_any (is_of a) new ≡ false → (n : ℕ) → only a (event_numbered h n) ≡ only a (event_numbered after n)
   kept_only a none n =
       elim (said nat_cmp event_number new n) as (λ o. said nat_cmp event_number new n ≡ o
-          → only a (event_numbered h n) ≡ only a (or_else o (event_numbered h n))) [
+      → only a (event_numbered h n) ≡ only a (or_else o (event_numbered h n))) [
         | None ↦ λ _. refl
         | Some y ↦ λ is.
             let away : same_name a y.tag ≡ false = none_member (is_of a) new y none (subst (IsOf new n) is (of_said n new)).0 in
@@ -76,7 +76,7 @@ module _ (h : List Call) (p : Name) (t : ℕ) (u : Name) (rows : List Event) (ke
 
   -- the alarms that the file names
   abbrev row_now : AlarmRow → AlarmRow
-  row_now r = with_state (of_alarm r.tag (all_events (events h) rows)) r
+  row_now r = with_state (of_alarm r.tag (events_with_file (events h) rows)) r
 
   abbrev named_row : AlarmRow → Option AlarmRow
   named_row r = when (is_touched (events h) rows r) (row_now r)
@@ -90,8 +90,8 @@ module _ (h : List Call) (p : Name) (t : ℕ) (u : Name) (rows : List Event) (ke
   fused None rest = refl
   fused (Some r) rest =
       elim (is_touched (events h) rows r) as (λ b. map row_now (cond b (r
-          ∷ filter (is_touched (events h) rows) rest) (filter (is_touched (events h) rows) rest))
-          ≡ cons_option (when b (row_now r)) (map row_now (filter (is_touched (events h) rows) rest))) [ true ↦ refl | false ↦ refl ]
+      ∷ filter (is_touched (events h) rows) rest) (filter (is_touched (events h) rows) rest))
+      ≡ cons_option (when b (row_now r)) (map row_now (filter (is_touched (events h) rows) rest))) [ true ↦ refl | false ↦ refl ]
 
   fuse : (tags : List Name) → map row_now (filter (is_touched (events h) rows) (filter_map (alarm_row h) tags)) ≡ filter_map row_named tags
   fuse [] = refl
@@ -121,8 +121,8 @@ module _ (h : List Call) (p : Name) (t : ℕ) (u : Name) (rows : List Event) (ke
   by_alarm a None = refl
   by_alarm a (Some l) =
       elim (list_any (is_of a) new) as (λ b. list_any (is_of a) new ≡ b
-          → Some (alarm_with a (events_of after a) l) ≡ or_else (when b (alarm_with a (of_alarm a (all_events (events h) rows)) l))
-          (Some (alarm_of h a l))) [
+      → Some (alarm_with a (events_of after a) l) ≡ or_else (when b (alarm_with a (of_alarm a (events_with_file (events h) rows)) l))
+      (Some (alarm_of h a l))) [
         | true ↦ λ _. ap (λ es. Some (alarm_with a (of_alarm a es) l)) (sym events_put)
         | false ↦ λ none. ap (λ es. Some (alarm_with a es l)) (sym (others_kept a none))
       ] refl
@@ -138,7 +138,7 @@ module _ (h : List Call) (p : Name) (t : ℕ) (u : Name) (rows : List Event) (ke
   import_turns =
       let first : UnitRows = put (UnitPut (unit_row after)) (rows_of h) in
       let touched : List AlarmRow = filter (is_touched (events h) rows) (alarm_rows h) in
-      let twice : with_events (events h) (new_events (events h) rows) ≡ all_events (events h) rows =
-          put_twice (events h) new (IsInOrder-rows (event_numbered h) (numbers_of_events h) (events_told h)) in
+      let twice : with_events (events h) (new_events (events h) rows) ≡ events_with_file (events h) rows =
+      put_twice (events h) new (IsInOrder-rows (event_numbered h) (numbers_of_events h) (events_told h)) in
       put_alarms row_now touched (PutEvents (new_events (events h) rows) ∷ []) first
       ∙ (λ i. record (rows_of after) { events = (twice ∙ events_put) i; alarms = alarm_rows_put i })

@@ -37,7 +37,7 @@ module _ (w : World) (c : Call) (u : Name) (legal : IsLegalWorld w) (m : has_mat
   next_at_legal : IsLegalWorld (next_at w c (Some u))
   next_at_legal =
       elim (changes_history (answer_at w c (Some u)) c) as (λ b. changes_history (answer_at w c (Some u)) c ≡ b
-          → IsLegalWorld (if b then with_call w c u else w)) [
+      → IsLegalWorld (if b then with_call w c u else w)) [
         | true ↦ λ changing q h is. at_code q h (same_name q u) (entered (get w.units u) refl changing)
             (sym (get-insert name_total w.units u (c ∷ history w u) q) ∙ is)
         | false ↦ λ _. legal
@@ -64,7 +64,7 @@ own_after : (w v : World) (c : Call) (u q : Name) → Alike c.moment c.person w 
     → holds_any (history v q) c.moment c.person ≡ true → get (next_at w c (Some u)).units q ≡ get (next_at v c (Some u)).units q
 own_after w v c u q a same holds =
     elim (changes_history (answer_at w c (Some u)) c) as (λ b. changes_history (answer_at w c (Some u)) c ≡ b
-        → get (if b then with_call w c u else w).units q ≡ get (if b then with_call v c u else v).units q) [
+    → get (if b then with_call w c u else w).units q ≡ get (if b then with_call v c u else v).units q) [
       | true ↦ λ changing. get-insert name_total w.units u (c ∷ history w u) q
           ∙ (λ i. cond (same_name q u) (Some (c ∷ own_histories w v c u a changing i)) (same_unit c.moment c.person w v q (a.seen q) holds i))
           ∙ sym (get-insert name_total v.units u (c ∷ history v u) q)
@@ -76,6 +76,6 @@ pub own_units_after : (w v : World) (c : Call) (q : Name) → Alike c.moment c.p
     → get (next w c).units q ≡ get (next v c).units q
 own_units_after w v c q a holds =
     elim (unit_named c.request) as (λ o. unit_named c.request ≡ o → get (next_at w c o).units q ≡ get (next_at v c o).units q) [
-  | None ↦ λ is. same_unit c.moment c.person w v q (a.seen q) holds
-  | Some u ↦ λ is. own_after w v c u q a (sym (ap (answer_at w c) is) ∙ (own_answer w v c a).0 ∙ ap (answer_at v c) is) holds
-] refl
+      | None ↦ λ is. same_unit c.moment c.person w v q (a.seen q) holds
+      | Some u ↦ λ is. own_after w v c u q a (sym (ap (answer_at w c) is) ∙ (own_answer w v c a).0 ∙ ap (answer_at v c) is) holds
+    ] refl

@@ -4,11 +4,11 @@ use Rattle.std.proofs.Common.{ap, arith, refl, sym, ◌∙◌, ◌≤◌, option
 use Rattle.std.proofs.lemmas.{Bool.{or_left, or_right, Decides.{nat_tests}}, List.Sums.{count_by-le-length, length-filter}}
 use Rattle.plant_model.specs.{Calls.{changes_for, own_refusals, record_reply, reply}, Changes.{no_matrix}, Facts.{Facts, others_shelved}}
 use Rattle.plant_model.{specs.{Grants.{is_before}, Histories.{same_number}, Kinds.{role_needed}}, proofs.public.FactLaws.{is_same_number}}
-use Rattle.plant_model.specs.Parts.{Selection, every, has_shelf, is_crowded, is_source, of_approved, of_content, of_number, of_records, of_topic, part_of, part_of_holder, part_of_stranger, rows_selected, selected, with_number}
+use Rattle.plant_model.specs.Parts.{Selection, every, has_shelf, is_crowded, is_source, of_approved, of_content, change_by_number, of_records, of_topic, part_of, part_of_holder, part_of_stranger, rows_selected, selected, with_number}
 use Rattle.plant_model.specs.{Refusals.{first_refusal, holds_some, is_open, kind_refusals, lacks_role, of_change}, declared.call.Request.{Request}}
 use Rattle.plant_model.specs.{Replies.{change_reply, line_of, status_reply}, declared.reply.Refused.{Refused}}
 use Rattle.plant_model.specs.RowChanges.{approval_changes, approved_row, decision_change, for_change, in_force, placed_in, taken_out}
-use Rattle.plant_model.specs.RowFacts.{alarm_tag, change_found, change_number, change_read, facts_among, facts_from, facts_of, has_cells, held_by, holds_by, kind_read, last_number, last_return, matrix_read, pair_of, record_found, record_from, record_read, record_tag, sheet_read, shelf_tag, unit_read}
+use Rattle.plant_model.specs.RowFacts.{alarm_tag, change_found, change_number, change_read, facts_among, facts_from, facts_of, has_cells, held_by, holds_by, kind_read, last_number, last_return_in, matrix_read, pair_of, record_found, record_from, record_read, record_tag, sheet_read, shelf_tag, unit_read}
 use Rattle.plant_model.specs.{Shelves.{shelf_left, shelf_row_as}, Verdicts.{refusals_of_holder, refused_or, verdict_of}, declared.call.Call.{Call}}
 use Rattle.plant_model.specs.declared.call.Request.TheVariants.{Alarms, Approve, ChangeOf, Grant, Import, OneShotShelve, PlaceInService, Propose, RecordOf, Register, Reject, RemoveFromService, Shelves, Standing, Status, TimedShelve, Unshelve, Withdraw, WithdrawChange}
 use Rattle.plant_model.specs.declared.reply.{ChangeRow.{ChangeRow}, Full.TheVariants.{Alarms as TooManyAlarms}, RecordRow.{RecordRow}}
@@ -136,7 +136,7 @@ module _ (rows : UnitRows) (p : Name) (t : ℕ) where
     records_read [] chosen = refl
     records_read (r ∷ records) chosen =
         ap (λ o. cons_option o (filter_map (record_read within) records))
-            (record_there r (chosen r.change_no (or_left _ _ (is_same_number r.change_no))))
+        (record_there r (chosen r.change_no (or_left _ _ (is_same_number r.change_no))))
         ∙ ap (cons_option (record_read rows r)) (records_read records (λ n e. chosen n (or_right _ _ e)))
 
     records_there : ((n : ℕ) → is_source rows every n ≡ true → s.change n ≡ true)
@@ -167,7 +167,7 @@ module _ (rows : UnitRows) (p : Name) (t : ℕ) where
 
   -- the line of a shelf whose alarm is selected, and those of shelves that all have their alarms selected
   abbrev line_by : List AlarmRow → ShelfRow → Option ShelfLine
-  line_by alarms s = line_of s (shelf_state (shelf_left (Some s)) (last_return alarms s.tag) t)
+  line_by alarms s = line_of s (shelf_state (shelf_left (Some s)) (last_return_in alarms s.tag) t)
 
   abbrev passing : (Name → Bool) → List AlarmRow
   passing test = filter (λ r. test r.tag) rows.alarms
@@ -206,8 +206,8 @@ module _ (rows : UnitRows) (p : Name) (t : ℕ) where
 
   -- a change of a number, and what an approval of it looks at
   numbered_there : (n : ℕ)
-      → option_map (change_read (within (of_number n))) (change_found (within (of_number n)) n) ≡ option_map (change_read rows) (change_found rows n)
-  numbered_there n = change_there (of_number n) n (is_same_number n) (is_same_number n)
+      → option_map (change_read (within (change_by_number n))) (change_found (within (change_by_number n)) n) ≡ option_map (change_read rows) (change_found rows n)
+  numbered_there n = change_there (change_by_number n) n (is_same_number n) (is_same_number n)
 
   -- a change from the columns that its topic looks at
   abbrev kind_as : ChangeTopic → Name → Sheet → Grid → ℕ → ChangeKind
@@ -288,7 +288,7 @@ module _ (rows : UnitRows) (p : Name) (t : ℕ) where
   approval_refused : (n : ℕ) (o : Option ChangeEntry) → change_found rows n ≡ o
       → of_change ((chosen (of_approved rows n o)).change n)
       (refusals_by (chosen (of_approved rows n o))) ≡ of_change (option_map (change_read rows) o) (refusals_by (facts_of rows))
-  approval_refused n None e = ap (λ c. of_change c (refusals_by (chosen (of_number n)))) (approved_there n None e)
+  approval_refused n None e = ap (λ c. of_change c (refusals_by (chosen (change_by_number n)))) (approved_there n None e)
   approval_refused n (Some c) e =
       ap (λ x. of_change x (refusals_by (chosen (approved n c.tag c.kind_no)))) (approved_there n (Some c) e)
       ∙ ap (λ refusals. (not (is_open c.state_no), NotProposed c.state_no) ∷ refusals) (refusals_same n c)
@@ -297,7 +297,7 @@ module _ (rows : UnitRows) (p : Name) (t : ℕ) where
       → row_after ((chosen (of_approved rows n o)).change n) ∷ for_change ((chosen (of_approved rows n o)).change n)
       (approval_changes (chosen (of_approved rows n o)) p t) ≡ row_after (option_map (change_read rows) o)
       ∷ for_change (option_map (change_read rows) o) (approval_changes (facts_of rows) p t)
-  approval_made n None e = ap (λ c. row_after c ∷ for_change c (approval_changes (chosen (of_number n)) p t)) (approved_there n None e)
+  approval_made n None e = ap (λ c. row_after c ∷ for_change c (approval_changes (chosen (change_by_number n)) p t)) (approved_there n None e)
   approval_made n (Some c) e =
       ap (λ x. row_after x ∷ for_change x (approval_changes (chosen (approved n c.tag c.kind_no)) p t)) (approved_there n (Some c) e)
       ∙ ap (λ changes. row_after (Some (change_read rows c)) ∷ changes) (brought_same n c)
@@ -366,8 +366,8 @@ module _ (rows : UnitRows) (p : Name) (t : ℕ) where
   holder_verdict : (q : Request) → verdict_of (of_part q) (asked q) ≡ verdict_of (facts_of rows) (asked q)
   holder_verdict q = λ i.
       refused_or (first_refusal ((not (own_roles q i), NotGranted)
-          ∷ (own_lack q (role_needed q) i ++ (nat_lt t (unit_read rows).last_s, MomentBehind (unit_read rows).last_s)
-          ∷ own_same q i))) (reply_same q i)
+      ∷ (own_lack q (role_needed q) i ++ (nat_lt t (unit_read rows).last_s, MomentBehind (unit_read rows).last_s)
+      ∷ own_same q i))) (reply_same q i)
 
   abbrev alarm_changed : (AlarmRow → AlarmRow) → Option AlarmRow → List RowEdit
   alarm_changed g o = Put (UnitPut (record (unit_read rows) { last_s = t })) ∷ map (λ r. Put (AlarmPut (g r))) (option_to_list o)
@@ -413,7 +413,7 @@ module _ (rows : UnitRows) (p : Name) (t : ℕ) where
     by true some = holder_verdict q
     by false none =
         stranger_refused (facts_among (part_of_stranger (asked q) rows) rows.events) (asked q)
-            (part_holds (part_of_stranger (asked q) rows) rows.events ∙ own_holds ∙ none)
+        (part_holds (part_of_stranger (asked q) rows) rows.events ∙ own_holds ∙ none)
         ∙ sym (stranger_refused (facts_of rows) (asked q) (rows_hold rows (length rows.alarms) (last_number rows.changes) ∙ none))
 
   -- the changes matter where the call is accepted, and so by one who holds a role

@@ -16,7 +16,7 @@ pub filter-within : {X : Type 0} (narrow wide : X → Bool) → ((x : X) → nar
 filter-within narrow wide passes [] = refl
 filter-within narrow wide passes (x ∷ xs) =
     elim (wide x) as (λ b. wide x ≡ b
-        → filter narrow (cond b (x ∷ filter wide xs) (filter wide xs)) ≡ cond (narrow x) (x ∷ filter narrow xs) (filter narrow xs)) [
+    → filter narrow (cond b (x ∷ filter wide xs) (filter wide xs)) ≡ cond (narrow x) (x ∷ filter narrow xs) (filter narrow xs)) [
       | true ↦ λ _. ap (λ ys. cond (narrow x) (x ∷ ys) ys) (filter-within narrow wide passes xs)
       | false ↦ λ no. filter-within narrow wide passes xs
           ∙ sym (ap (λ b. cond b (x
@@ -29,7 +29,7 @@ pub row_at-filter : {K X : Type 0} (R : K → K → Ordering) (key : X → K) (k
 row_at-filter R key k test passes [] = refl
 row_at-filter R key k test passes (r ∷ rows) =
     elim (test r) as (λ b. test r ≡ b
-        → row_at R key k (cond b (r ∷ filter test rows) (filter test rows)) ≡ cond (eq_by_cmp R k (key r)) (Some r) (row_at R key k rows)) [
+    → row_at R key k (cond b (r ∷ filter test rows) (filter test rows)) ≡ cond (eq_by_cmp R k (key r)) (Some r) (row_at R key k rows)) [
       | true ↦ λ _. ap (cond (eq_by_cmp R k (key r)) (Some r)) (row_at-filter R key k test passes rows)
       | false ↦ λ no. row_at-filter R key k test passes rows
           ∙ sym (ap (λ b. cond b (Some r) (row_at R key k rows)) (false_from_ne_true (eq_by_cmp R k (key r)) (λ e. let t : true
@@ -81,8 +81,8 @@ pub source_found : (a : Name) (records : List RecordEntry) (r : RecordEntry) →
 source_found a [] r e = cc
 source_found a (x ∷ records) r e =
     elim (same_name a x.tag) as (λ b. cond b (Some x) (row_at name_cmp record_tag a records) ≡ Some r
-        → ((b && same_number r.change_no x.change_no)
-        || list_any (λ (x : RecordEntry). same_name a x.tag && same_number r.change_no x.change_no) records) ≡ true) [
+    → ((b && same_number r.change_no x.change_no)
+    || list_any (λ (x : RecordEntry). same_name a x.tag && same_number r.change_no x.change_no) records) ≡ true) [
       | true ↦ λ some. let same : x ≡ r = cc in
           or_left _ _ (ap (λ (y : RecordEntry). same_number r.change_no y.change_no) same ∙ is_same_number r.change_no)
       | false ↦ λ rest. source_found a records r rest

@@ -26,7 +26,7 @@ length-put R key r [] = omega arith
 length-put R key r (e ∷ es) =
     let rest = length-put R key r es in
     elim (R (key r) (key e)) as (λ o. length (by_order o (r ∷ e ∷ es) (r ∷ es) (e ∷ put_row R key r es)) ≤ length (e
-        ∷ es) + 1) [ Less ↦ omega arith | Equal ↦ omega arith | Greater ↦ omega (arith, rest) ]
+    ∷ es) + 1) [ Less ↦ omega arith | Equal ↦ omega arith | Greater ↦ omega (arith, rest) ]
 
 pub never_some : {A : Type 0} (o : Option A) → ((x : A) → o ≡ Some x → ⊥) → o ≡ None
 never_some None never = refl
@@ -54,7 +54,7 @@ module _ {K X : Type 0} (R : K → K → Ordering) (key : X → K) where
     row_at-puts q [] rows = refl
     row_at-puts q (r ∷ rs) rows =
         row_at-puts q rs (put_row R key r rows) ∙ ap (or_else (said rs q)) (row_at-put_row R key o same q r rows)
-            ∙ else_else (said rs q) (eq_by_cmp R q (key r)) r (row_at R key q rows)
+        ∙ else_else (said rs q) (eq_by_cmp R q (key r)) r (row_at R key q rows)
 
     pub IsInOrder-puts : (rs rows : List X) → IsInOrder R key rows → IsInOrder R key (puts rs rows)
     IsInOrder-puts [] rows h = h
@@ -67,14 +67,14 @@ module _ {K X : Type 0} (R : K → K → Ordering) (key : X → K) where
     said-told row at_key q (k ∷ ks) =
         let rest = said-told row at_key q ks in
         elim (row k) as (λ x. row k ≡ x
-            → said (cons_option x (filter_map row ks)) q ≡ cond (is_some (cond (eq_by_cmp R q k) (Some k) (row_at R (λ k. k) q ks))) (row q) None) [
+        → said (cons_option x (filter_map row ks)) q ≡ cond (is_some (cond (eq_by_cmp R q k) (Some k) (row_at R (λ k. k) q ks))) (row q) None) [
           | None ↦ λ none. rest
               ∙ elim (eq_by_cmp R q k) as (λ b. eq_by_cmp R q k ≡ b
               → cond (is_some (row_at R (λ k. k) q ks)) (row q) None ≡ cond (is_some (cond b (Some k) (row_at R (λ k. k) q ks))) (row q) None) [
-            | true ↦ λ t. let is : row q ≡ None = ap row (same q k (tied _ _ t refl)) ∙ none in
-                elim (is_some (row_at R (λ k. k) q ks)) as (λ b. cond b (row q) None ≡ row q) [ true ↦ refl | false ↦ sym is ]
-            | false ↦ λ t. refl
-          ] refl
+                | true ↦ λ t. let is : row q ≡ None = ap row (same q k (tied _ _ t refl)) ∙ none in
+                    elim (is_some (row_at R (λ k. k) q ks)) as (λ b. cond b (row q) None ≡ row q) [ true ↦ refl | false ↦ sym is ]
+                | false ↦ λ t. refl
+              ] refl
           | Some r ↦ λ some. ap (λ y. or_else (said (filter_map row ks) q) (when (eq_by_cmp R q y) r)) (at_key k r some)
               ∙ elim (eq_by_cmp R q k) as (λ b. eq_by_cmp R q k ≡ b
               → or_else (said (filter_map row ks) q) (when b r) ≡ cond (is_some (cond b (Some k) (row_at R (λ k. k) q ks))) (row q) None) [

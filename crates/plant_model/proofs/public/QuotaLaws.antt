@@ -34,15 +34,15 @@ as_many_alarms : (h : List Call) (c : Call) → ((a : Name) → said_of_latching
     → length (alarm_rows h) ≡ length (alarm_rows (c ∷ h))
 as_many_alarms h c unsaid unnamed =
     length-told (alarm_row h) (alarm_row (c ∷ h))
-        (λ a. latched_of h a ∙ ap (λ o. is_some (or_else o (latching h a))) (sym (unsaid a)) ∙ sym (latched_of (c ∷ h) a))
-        (in_order name_cmp (tags_of_alarms h))
+    (λ a. latched_of h a ∙ ap (λ o. is_some (or_else o (latching h a))) (sym (unsaid a)) ∙ sym (latched_of (c ∷ h) a))
+    (in_order name_cmp (tags_of_alarms h))
     ∙ ap (λ tags. length (filter_map (alarm_row (c ∷ h)) (in_order name_cmp (tags ++ tags_of_alarms h)))) (sym unnamed)
 
 more_alarms : (h : List Call) → IsLegal h → (p : Name) (t : ℕ) (q : Request) → IsEntry h (made p t q) → length (alarm_rows h) ≤ max_alarms
     → length (alarm_rows (made p t q ∷ h)) ≤ max_alarms
 more_alarms h legal p t (Register u a l max) entry le =
     let put : put_row name_cmp alarm_tag (alarm_as a max 0 [] None l) (alarm_rows h) ≡ alarm_rows (made p t (Register u a l max) ∷ h) =
-        ap (λ (rows : UnitRows). rows.alarms) (register_turns h p t u a l max (unspoken h legal a (registered_anew h p t u a l max entry))) in
+    ap (λ (rows : UnitRows). rows.alarms) (register_turns h p t u a l max (unspoken h legal a (registered_anew h p t u a l max entry))) in
     let few : length (alarm_rows h) < max_alarms = leb-false max_alarms _ (unrefused h (made p t (Register u a l max)) entry).1.1.1.0 in
     let long = length-put name_cmp alarm_tag (alarm_as a max 0 [] None l) (alarm_rows h) in
     subst (λ rows. length rows ≤ max_alarms) put (omega (arith, few, long))
@@ -70,7 +70,7 @@ shelf_known : (h : List Call) → IsLegal h → (a : Name) (v : Said ShelfRow) �
     → is_some (latching h a) ≡ true
 shelf_known h legal a =
     latest_legal (λ c before. said_of_shelf a c.person c.moment before c.request)
-        (λ h v. (s : ShelfRow) → v ≡ Begins s → is_some (latching h a) ≡ true) (λ p t u q m k shape v e s is. cc)
+    (λ h v. (s : ShelfRow) → v ≡ Begins s → is_some (latching h a) ≡ true) (λ p t u q m k shape v e s is. cc)
     (λ h c f v said s is. registered_stays c h a (shelved_alarm h c.person c.moment a c.request s f.entry (said ∙ ap (λ v. Some v) is)))
     (λ h c f v rest s is. registered_stays c h a (rest s is)) h legal
 
@@ -99,9 +99,9 @@ module _ {X : Type 0} (key : X → Name) where
     by (r ∷ rows) =
         let rest = by rows in
         elim (same_name a (key r)) as (λ b. length (cond (not b
-            && p r) (r
-            ∷ filter (λ r. not (same_name a (key r)) && p r) rows) (filter (λ r. not (same_name a (key r)) && p r) rows)) ≤ length (cond (not b) (r
-            ∷ remove_row name_cmp key a rows) (remove_row name_cmp key a rows))) [
+        && p r) (r
+        ∷ filter (λ r. not (same_name a (key r)) && p r) rows) (filter (λ r. not (same_name a (key r)) && p r) rows)) ≤ length (cond (not b) (r
+        ∷ remove_row name_cmp key a rows) (remove_row name_cmp key a rows))) [
           | true ↦ rest
           | false ↦ elim (p r) as (λ b. length (cond b (r
               ∷ filter (λ r. not (same_name a (key r)) && p r) rows) (filter (λ r. not (same_name a (key r)) && p r) rows)) ≤ length (r
@@ -112,7 +112,7 @@ module _ {X : Type 0} (key : X → Name) where
   one_less a [] e = cc
   one_less a (r ∷ rows) e =
       elim (same_name a (key r)) as (λ b. is_some (cond b (Some r) (row_at name_cmp key a rows)) ≡ true
-          → length (cond (not b) (r ∷ remove_row name_cmp key a rows) (remove_row name_cmp key a rows)) + 1 ≤ length (r ∷ rows)) [
+      → length (cond (not b) (r ∷ remove_row name_cmp key a rows) (remove_row name_cmp key a rows)) + 1 ≤ length (r ∷ rows)) [
         | true ↦ λ _. omega (arith, length-filter (λ r. not (same_name a (key r))) rows, count_by-le-length (λ r. not (same_name a (key r))) rows)
         | false ↦ λ there. let rest = one_less a rows there in omega (arith, rest)
       ] e
@@ -123,8 +123,8 @@ few_others h legal a t there =
     let others = remove_row name_cmp shelf_tag a (shelf_rows h) in
     let alarms = remove_row name_cmp alarm_tag a (alarm_rows h) in
     let distinct =
-        distinct_keys shelf_tag others
-        (ordered name_cmp shelf_tag others (IsInOrder-remove_row name_cmp shelf_tag name_total same_names a (shelf_rows h) in_order)) in
+    distinct_keys shelf_tag others
+    (ordered name_cmp shelf_tag others (IsInOrder-remove_row name_cmp shelf_tag name_total same_names a (shelf_rows h) in_order)) in
     let fit = length-le_from_is_member (eq_by_cmp_equiv name_total) (map shelf_tag others) (map alarm_tag alarms) distinct among in
     let few = few_alarms h legal in
     let counted = fewer shelf_tag a (λ s. not (is_unshelved (shelf_state (shelf_left (Some s)) (returned (facts h) s.tag) t))) (shelf_rows h) in
@@ -134,10 +134,10 @@ few_others h legal a t there =
           → list_any (same_name q) (map alarm_tag (remove_row name_cmp alarm_tag a (alarm_rows h))) ≡ true
       among q e =
           key_in name_cmp alarm_tag q _ ∙ ap is_some (row_at-remove_row name_cmp alarm_tag name_total same_names q a (alarm_rows h))
-              ∙ ap (λ o. is_some (cond (same_name q a) None o)) (alarm_in h q)
+          ∙ ap (λ o. is_some (cond (same_name q a) None o)) (alarm_in h q)
           ∙ elim (same_name q a) as (λ b. is_some (cond b None (row_at name_cmp shelf_tag q (shelf_rows h))) ≡ true
           → is_some (cond b None (alarm_row h q)) ≡ true) [
             | true ↦ λ no. no
             | false ↦ λ some. shelf_registered h legal q (sym (ap is_some (shelf_in h q)) ∙ some)
           ] (sym (ap is_some (row_at-remove_row name_cmp shelf_tag name_total same_names q a (shelf_rows h))) ∙ sym (key_in name_cmp shelf_tag q _)
-              ∙ e)
+          ∙ e)

@@ -29,7 +29,7 @@ module _ {K X : Type 0} (R : K → K → Ordering) (key : X → K) where
   below_left p k (r ∷ rows) h =
       let rest = below_left p k rows (second _ _ h) in
       elim (p r) as (λ b. T (below_all R k (map (λ r. (key r, r)) (cond b (r ∷ filter p rows) (filter p rows)))))
-          [ true ↦ both _ _ (first _ _ h) rest | false ↦ rest ]
+      [ true ↦ both _ _ (first _ _ h) rest | false ↦ rest ]
 
   -- rows in order stay in order where some are left out
   pub left_in_order : (p : X → Bool) (rows : List X) → IsInOrder R key rows → IsInOrder R key (filter p rows)
@@ -37,7 +37,7 @@ module _ {K X : Type 0} (R : K → K → Ordering) (key : X → K) where
   left_in_order p (r ∷ rows) h =
       let rest = left_in_order p rows (second _ _ h) in
       elim (p r) as (λ b. IsInOrder R key (cond b (r
-          ∷ filter p rows) (filter p rows))) [ true ↦ both _ _ (below_left p (key r) rows (first _ _ h)) rest | false ↦ rest ]
+      ∷ filter p rows) (filter p rows))) [ true ↦ both _ _ (below_left p (key r) rows (first _ _ h)) rest | false ↦ rest ]
 
   module _ (o : IsTotalOrder R) (same : (x y : K) → R x y ≡ Equal → x ≡ y) (test : K → Bool) where
     pub row_at-left : (q : K) (rows : List X) → row_at R key q (filter (λ r. test (key r)) rows) ≡ cond (test q) (row_at R key q rows) None
@@ -45,20 +45,20 @@ module _ {K X : Type 0} (R : K → K → Ordering) (key : X → K) where
     row_at-left q (r ∷ rows) =
         let rest = row_at-left q rows in
         elim (test (key r)) as (λ b. test (key r) ≡ b
-            → row_at R key q (cond b (r ∷ filter (λ r. test (key r)) rows) (filter (λ r. test (key r)) rows)) ≡ cond (test q)
-            (row_at R key q (r ∷ rows)) None) [
+        → row_at R key q (cond b (r ∷ filter (λ r. test (key r)) rows) (filter (λ r. test (key r)) rows)) ≡ cond (test q)
+        (row_at R key q (r ∷ rows)) None) [
           | true ↦ λ t. elim (eq_by_cmp R q (key r)) as (λ b. eq_by_cmp R q (key r) ≡ b
               → cond b (Some r) (row_at R key q (filter (λ r. test (key r)) rows)) ≡ cond (test q) (cond b (Some r) (row_at R key q rows)) None) [
-            | true ↦ λ e. sym (ap (λ b. cond b (Some r) None) (ap test (same q (key r) (tied _ true e refl)) ∙ t))
-            | false ↦ λ _. rest
-          ] refl
+                | true ↦ λ e. sym (ap (λ b. cond b (Some r) None) (ap test (same q (key r) (tied _ true e refl)) ∙ t))
+                | false ↦ λ _. rest
+              ] refl
           | false ↦ λ t. rest
               ∙ elim (eq_by_cmp R q (key r)) as (λ b. eq_by_cmp R q (key r) ≡ b
               → cond (test q) (row_at R key q rows) None ≡ cond (test q) (cond b (Some r) (row_at R key q rows)) None) [
-            | true ↦ λ e. let no : test q ≡ false = ap test (same q (key r) (tied _ true e refl)) ∙ t in
-                ap (λ b. cond b (row_at R key q rows) None) no ∙ sym (ap (λ b. cond b (Some r) None) no)
-            | false ↦ λ _. refl
-          ] refl
+                | true ↦ λ e. let no : test q ≡ false = ap test (same q (key r) (tied _ true e refl)) ∙ t in
+                    ap (λ b. cond b (row_at R key q rows) None) no ∙ sym (ap (λ b. cond b (Some r) None) no)
+                | false ↦ λ _. refl
+              ] refl
         ] refl
 
     -- they are those that another function tells at rising places
@@ -68,7 +68,7 @@ module _ {K X : Type 0} (R : K → K → Ordering) (key : X → K) where
         → filter (λ r. test (key r)) (filter_map told (in_order R ks)) ≡ filter_map row places
     left_rows told ks t row places at_key rise among is =
         same_rows R key o same _ _ (left_in_order (λ r. test (key r)) _ (IsInOrder-rows told ks t))
-            (IsInOrder-told R key o same row at_key places rise)
+        (IsInOrder-told R key o same row at_key places rise)
         (λ q. row_at-left q _ ∙ ap (λ x. cond (test q) x None) (row_at-rows told ks t q) ∙ is q
         ∙ sym (row_at-told R key o same row at_key q places ∙ ap (λ b. cond b (row q) None) (is_some-find (eq_by_cmp R q) places)
         ∙ settled _ _ (among q)))
@@ -129,10 +129,10 @@ module _ (h : List Call) (n : ℕ) (m : Grid) (numbered : matrix_numbered h n �
   band_among q =
       elim (same_number n q.0) as (λ b. same_number n q.0 ≡ b
       → (cond b (band_at q m) None ≡ None) ⊎ (list_any (eq_by_cmp band_cmp q) (band_places n m) ≡ true)) [
-    | true ↦ λ s. subst (λ k. (band_at q m ≡ None) ⊎ (list_any (eq_by_cmp band_cmp q) (band_places k m) ≡ true)) (sym (same_number_of n q.0 s))
-        (band_here q.0 q.1 m)
-    | false ↦ λ _. inl refl
-  ] refl
+        | true ↦ λ s. subst (λ k. (band_at q m ≡ None) ⊎ (list_any (eq_by_cmp band_cmp q) (band_places k m) ≡ true)) (sym (same_number_of n q.0 s))
+            (band_here q.0 q.1 m)
+        | false ↦ λ _. inl refl
+      ] refl
 
   band_told : (q : BandKey) → cond (same_number n q.0) (band_row h q) None ≡ at_band q
   band_told q = elim (same_number n q.0) as (λ b. same_number n q.0 ≡ b → cond b (band_row h q) None ≡ cond b (band_at q m) None) [
@@ -146,9 +146,9 @@ module _ (h : List Call) (n : ℕ) (m : Grid) (numbered : matrix_numbered h n �
   limits_back =
       ap (map (λ (b : BandRow). b.limit_s)) (
       left_rows band_cmp band_key band_total same_bands (λ k. same_number n k.0) (band_row h) (band_keys h)
-          (bands_told h) at_band (band_places n m) band_kept
-          (places_rise band_cmp (band_key_of n) (λ a b less. ap (λ o. is_lt (ordering_then o (nat_cmp a b))) (level n)
-          ∙ lower a b less) 1 (length m.limits)) band_among band_told
+      (bands_told h) at_band (band_places n m) band_kept
+      (places_rise band_cmp (band_key_of n) (λ a b less. ap (λ o. is_lt (ordering_then o (nat_cmp a b))) (level n)
+      ∙ lower a b less) 1 (length m.limits)) band_among band_told
       ∙ filter_map-map at_band (band_key_of n) (range_with_len 1 (length m.limits))
       ∙ (λ i. filter_map (λ b. cond (is_same_number n i) (option_map (band_make b) (at_place m.limits b)) None) (range_with_len 1 (length m.limits)))
       ∙ listed band_make m.limits [] m.limits 1 refl refl)
@@ -172,8 +172,12 @@ module _ (h : List Call) (n : ℕ) (m : Grid) (numbered : matrix_numbered h n �
 
     cell_kept : (q : CellKey) (r : CellRow) → at_cell q ≡ Some r → cell_key r ≡ q
     cell_kept q r e = elim (is_cell q) as (λ b. cond b (cell_made q) None ≡ Some r → cell_key r ≡ q) [
-      | true ↦ mapped_key cell_key (λ c. record { matrix_no = q.0; severity = q.1; band_no = q.2;
-          cell_no = c }) q (at_place row_there q.2) r (λ x. refl)
+      | true ↦ mapped_key cell_key (λ c. record {
+        matrix_no = q.0;
+        severity = q.1;
+        band_no = q.2;
+        cell_no = c;
+      }) q (at_place row_there q.2) r (λ x. refl)
       | false ↦ λ no. cc
     ] e
 
@@ -192,9 +196,9 @@ module _ (h : List Call) (n : ℕ) (m : Grid) (numbered : matrix_numbered h n �
     cell_among : (q : CellKey) → (at_cell q ≡ None) ⊎ (list_any (eq_by_cmp cell_cmp q) cell_range ≡ true)
     cell_among q =
         elim (is_cell q) as (λ b. is_cell q ≡ b → (cond b (cell_made q) None ≡ None) ⊎ (list_any (eq_by_cmp cell_cmp q) cell_range ≡ true)) [
-      | true ↦ λ t. among_of q (cell_keyed q t).0 (cell_keyed q t).1 (row_here n s q.2 row_there)
-      | false ↦ λ _. inl refl
-    ] refl
+          | true ↦ λ t. among_of q (cell_keyed q t).0 (cell_keyed q t).1 (row_here n s q.2 row_there)
+          | false ↦ λ _. inl refl
+        ] refl
 
     row_of_place : (o : Option (List Cell)) (b : ℕ) → option_and_then (λ row. at_place row b) o ≡ at_place (unwrap_or o []) b
     row_of_place (Some row) b = refl
@@ -219,9 +223,9 @@ module _ (h : List Call) (n : ℕ) (m : Grid) (numbered : matrix_numbered h n �
     cells_back =
         ap (map (λ (c : CellRow). c.cell_no)) (
         left_rows cell_cmp cell_key cell_total same_cells is_cell (cell_row h) (cell_keys h)
-            (cells_told h) at_cell (map (cell_key_of n s) (range_with_len 1 (length row_there))) cell_kept
-            (places_rise cell_cmp (cell_key_of n s) (λ a b less. (λ i. is_lt (ordering_then (level n i) (ordering_then (level s i) (nat_cmp a b))))
-            ∙ lower a b less) 1 (length row_there)) cell_among cell_told
+        (cells_told h) at_cell (map (cell_key_of n s) (range_with_len 1 (length row_there))) cell_kept
+        (places_rise cell_cmp (cell_key_of n s) (λ a b less. (λ i. is_lt (ordering_then (level n i) (ordering_then (level s i) (nat_cmp a b))))
+        ∙ lower a b less) 1 (length row_there)) cell_among cell_told
         ∙ filter_map-map at_cell (cell_key_of n s) (range_with_len 1 (length row_there))
         ∙ (λ i. filter_map (λ b. cond (both_same i) (option_map (cell_make b) (at_place row_there b)) None) (range_with_len 1 (length row_there)))
         ∙ listed cell_make row_there [] row_there 1 refl refl)
@@ -260,7 +264,7 @@ positive_step : (h : List Call) (n : ℕ) (d : Draft) (p : Name) (t : ℕ) (q : 
     → or_else (said_of_draft n p t h q) (draft h n) ≡ Some d → 1 ≤ n
 positive_step h n d p t (Propose u x) before e =
     elim (same_number n (proposals h + 1)) as (λ b. same_number n (proposals h + 1) ≡ b
-        → or_else (when b (record { proposer = p; proposed = t; kind = x.kind; base = x.base })) (draft h n) ≡ Some d → 1 ≤ n) [
+    → or_else (when b (record { proposer = p; proposed = t; kind = x.kind; base = x.base })) (draft h n) ≡ Some d → 1 ≤ n) [
       | true ↦ λ s _. let is : n ≡ proposals h + 1 = same_number_of n (proposals h + 1) s in omega (arith, is)
       | false ↦ λ _ rest. before rest
     ] refl e
@@ -294,9 +298,9 @@ numbered_step h n m p t (OpenUnit u s x k) above before e =
     (false_from_ne_true (same_number n 0) (λ z. let is : n ≡ 0 = same_number_of n 0 z in omega (arith, above, is))) ∙ before e
 numbered_step h n m p t (Propose u x) above before e =
     elim (same_number n (proposals h + 1)) as (λ b. same_number n (proposals h + 1) ≡ b
-        → option_map (λ (d : Draft). d.kind)
-        (or_else (when b (record { proposer = p; proposed = t; kind = x.kind; base = x.base })) (draft h n)) ≡ Some (Matrix m)
-        → or_else (when_number n (matrix_in (proposals h + 1) (Some x.kind))) (matrix_numbered h n) ≡ Some m) [
+    → option_map (λ (d : Draft). d.kind)
+    (or_else (when b (record { proposer = p; proposed = t; kind = x.kind; base = x.base })) (draft h n)) ≡ Some (Matrix m)
+    → or_else (when_number n (matrix_in (proposals h + 1) (Some x.kind))) (matrix_numbered h n) ≡ Some m) [
       | true ↦ λ s here. own_matrix n (proposals h + 1) x.kind m (matrix_numbered h n) s here
       | false ↦ λ s rest. other_matrix n (proposals h + 1) x.kind (matrix_numbered h n) s ∙ before rest
     ] refl e
@@ -320,7 +324,7 @@ shape_here h n _ m has e = cc
 pub shaped : (h : List Call) → IsLegal h → (n : ℕ) (m : Grid) → matrix_numbered h n ≡ Some m → is_matrix m.limits m.cells ≡ true
 shaped h legal n =
     latest_legal (λ c before. when_number n (numbered_matrix before c.request)) (λ h m. is_matrix m.limits m.cells ≡ true)
-        (λ p t u s x k shape m e. shape_here [] n (OpenUnit u s x k) m shape e)
+    (λ p t u s x k shape m e. shape_here [] n (OpenUnit u s x k) m shape e)
     (λ h c f m e. shape_here h n c.request m f.matrix e) (λ h c f m e. e) h legal
 
 -- the matrix in force has its number
@@ -332,8 +336,8 @@ matrix_stays : (h : List Call) (q : Request) (k : ℕ) (m : Grid) → is_opening
 matrix_stays h (OpenUnit u s x n) k m plain e = cc
 matrix_stays h (Propose u x) k m plain e =
     other_matrix k (proposals h + 1) x.kind (matrix_numbered h k)
-        (false_from_ne_true (same_number k (proposals h + 1)) (λ z. let is : k ≡ proposals h + 1 = same_number_of k (proposals h + 1) z in
-        let less : k ≤ proposals h = number_bound h k m e in omega (arith, is, less))) ∙ e
+    (false_from_ne_true (same_number k (proposals h + 1)) (λ z. let is : k ≡ proposals h + 1 = same_number_of k (proposals h + 1) z in
+    let less : k ≤ proposals h = number_bound h k m e in omega (arith, is, less))) ∙ e
 matrix_stays h _ k m plain e = e
 
 matrix_approved : (n : ℕ) (k : Option ChangeKind) (x : ℕ × Grid) → matrix_in n k ≡ Some x → (n ≡ x.0) × (k ≡ Some (Matrix x.1))
@@ -346,7 +350,7 @@ said_numbered : (h : List Call) (q : Request) (x : ℕ × Grid) → said_of_matr
 said_numbered h (OpenUnit u s m k) x e =
     let same : (0, m) ≡ x = cc in
     subst (λ (y : ℕ × Grid). or_else (when (same_number y.0 0) m) (matrix_numbered h y.0)
-        ≡ Some y.1) same (ap (λ b. or_else (when b m) (matrix_numbered h 0)) (is_same_number 0))
+    ≡ Some y.1) same (ap (λ b. or_else (when b m) (matrix_numbered h 0)) (is_same_number 0))
 said_numbered h (Approve u n) x e =
     let known = matrix_approved n (kind_of_change h n) x e in
     proposed_matrix h x.0 x.1 (ap (kind_of_change h) (sym known.0) ∙ known.1)
@@ -355,7 +359,7 @@ said_numbered h _ x e = cc
 matrix_in_force : (h : List Call) → IsLegal h → (x : ℕ × Grid) → matrix_said h ≡ Some x → matrix_numbered h x.0 ≡ Some x.1
 matrix_in_force =
     latest_legal (λ c before. said_of_matrix before c.request) (λ h x. matrix_numbered h x.0 ≡ Some x.1)
-        (λ p t u s m k shape x e. said_numbered [] (OpenUnit u s m k) x e)
+    (λ p t u s m k shape x e. said_numbered [] (OpenUnit u s m k) x e)
     (λ h c f x e. said_numbered h c.request x e) (λ h c f x e. matrix_stays h c.request x.0 x.1 (not-true _ f.plain) e)
 
 -- there is one
@@ -370,8 +374,8 @@ matrix_there =
 pub in_force_numbered : (h : List Call) → IsLegal h → matrix_numbered h (matrix h).0 ≡ Some (matrix h).1
 in_force_numbered h legal =
     elim (matrix_said h) as (λ o. matrix_said h ≡ o → is_some o ≡ true
-        → matrix_numbered h (unwrap_or o no_matrix).0
-        ≡ Some (unwrap_or o no_matrix).1) [ None ↦ λ _ there. cc | Some x ↦ λ is _. matrix_in_force h legal x is ] refl (matrix_there h legal)
+    → matrix_numbered h (unwrap_or o no_matrix).0
+    ≡ Some (unwrap_or o no_matrix).1) [ None ↦ λ _ there. cc | Some x ↦ λ is _. matrix_in_force h legal x is ] refl (matrix_there h legal)
 
 pub readable : (h : List Call) → IsLegal h → AreReadable h
 readable h legal =
@@ -392,8 +396,11 @@ numbers_told h =
       order = told.order;
       same = told.same;
       at_key = λ n r e. mapped_key (λ k. k) (λ (d : Draft). n) n (draft h n) r (λ x. refl) e;
-      among = λ n. elim (told.among n) [ inl none ↦ inl (elim (draft h n) as (λ o. option_map (change_with h n) o ≡ None
-          → option_map (λ d. n) o ≡ None) [ None ↦ λ _. refl | Some d ↦ λ e. cc ] none) | inr there ↦ inr there ];
+      among = λ n. elim (told.among n) [
+        | inl none ↦ inl (elim (draft h n) as (λ o. option_map (change_with h n) o ≡ None
+            → option_map (λ d. n) o ≡ None) [ None ↦ λ _. refl | Some d ↦ λ e. cc ] none)
+        | inr there ↦ inr there
+      ];
     }
 
 abbrev numbers_kept : List Call → List ℕ
@@ -403,7 +410,7 @@ number_anew : (n k : ℕ) (d : Draft) (rest : Option Draft)
     → option_map (λ d. k) (or_else (when (same_number k n) d) rest) ≡ cond (same_number k n) (Some n) (option_map (λ d. k) rest)
 number_anew n k d rest =
     elim (same_number k n) as (λ s. same_number k n ≡ s
-        → option_map (λ d. k) (or_else (when s d) rest) ≡ cond s (Some n) (option_map (λ d. k) rest)) [
+    → option_map (λ d. k) (or_else (when s d) rest) ≡ cond s (Some n) (option_map (λ d. k) rest)) [
       | true ↦ λ e. ap (λ y. Some y) (same_number_of k n e)
       | false ↦ λ e. refl
     ] refl
@@ -427,12 +434,12 @@ kept_step h p t (Propose u x) before =
     let c : List Call = record { person = p; moment = t; request = Propose u x } ∷ h in
     let n : ℕ = proposals h + 1 in
     let put : put_row nat_cmp (λ k. k) n (numbers_kept h) ≡ numbers_kept c =
-        put-rows (numbered_draft h) (numbered_draft c) (numbers_of_changes h) (numbers_of_changes c) n (numbers_told h) (numbers_told c)
-        (λ k. number_anew n k (record { proposer = p; proposed = t; kind = x.kind; base = x.base }) (draft h k)) in
+    put-rows (numbered_draft h) (numbered_draft c) (numbers_of_changes h) (numbers_of_changes c) n (numbers_told h) (numbers_told c)
+    (λ k. number_anew n k (record { proposer = p; proposed = t; kind = x.kind; base = x.base }) (draft h k)) in
     let one : n ≡ 1 + proposals h = omega arith in
     let next : suc (proposals h) ≡ n = omega arith in
     sym put ∙ ap (put_row nat_cmp (λ k. k) n) before ∙ ap (λ m. put_row nat_cmp (λ k. k) m (range_with_len 1 (proposals h))) one
-        ∙ next_put 1 (proposals h) ∙ ap (range_with_len 1) next
+    ∙ next_put 1 (proposals h) ∙ ap (range_with_len 1) next
 kept_step h p t _ before = before
 
 -- the numbers of the changes are those from 1 to the number of proposals
@@ -444,7 +451,7 @@ numbers_shown : (h : List Call) (ks : List ℕ) → map change_number (map chang
 numbers_shown h [] = refl
 numbers_shown h (k ∷ ks) =
     elim (draft h k) as (λ o. map change_number (map change_entry (cons_option (option_map (change_with h k) o) (filter_map (change h) ks)))
-        ≡ cons_option (option_map (λ d. k) o) (filter_map (numbered_draft h) ks)) [
+    ≡ cons_option (option_map (λ d. k) o) (filter_map (numbered_draft h) ks)) [
       | None ↦ numbers_shown h ks
       | Some d ↦ ap (λ ns. k ∷ ns) (numbers_shown h ks)
     ]
@@ -457,11 +464,11 @@ last_of_numbers (suc k) = unwrap_or-slice_get (range_with_len 1 (suc k)) (suc k 
 pub change_count : (h : List Call) → last_number (change_rows h) ≡ proposals h
 change_count h =
     let numbers : map change_number (change_rows h) ≡ range_with_len 1 (proposals h) = numbers_shown h (in_order nat_cmp (numbers_of_changes h))
-        ∙ kept_all h in
+    ∙ kept_all h in
     let many : length (change_rows h) ≡ proposals h = sym (length-map (change_rows h) change_number) ∙ ap length numbers
-        ∙ length-range_with_len 1 (proposals h) in
+    ∙ length-range_with_len 1 (proposals h) in
     ap (λ o. unwrap_or o 0)
-        (sym (slice_get-map change_number (change_rows h) (length (change_rows h) - 1)) ∙ (λ i. slice_get (numbers i) (many i - 1)))
+    (sym (slice_get-map change_number (change_rows h) (length (change_rows h) - 1)) ∙ (λ i. slice_get (numbers i) (many i - 1)))
     ∙ last_of_numbers (proposals h)
 
 -- the rows of a legal history give its facts

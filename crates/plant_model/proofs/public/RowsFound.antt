@@ -144,6 +144,8 @@ lower m n less = sym (ap is_lt (nat_cmp_is m n Less less))
 
 pub number_parts : {X : Type 0} (key : X → ℕ) (n : ℕ) (rows : List X) (p : ℕ) → IsPartitionPoint (λ r. key r < n) (λ r. n ≤ key r) rows p
     → Parts nat_cmp key n rows p
-number_parts key n rows p h =
-    (λ k d low high. lower _ n (h.0 k d low high), λ k d low high. false_from_ne_true _ (λ t. let lt = ranked _ n Less (sym (lesser _ t)) in
-    let le = h.1 k d low high in omega (arith, lt, le)))
+number_parts key n rows p h = (
+  λ k d low high. lower _ n (h.0 k d low high),
+  λ k d low high. false_from_ne_true _ (λ t. let lt = ranked _ n Less (sym (lesser _ t)) in
+      let le = h.1 k d low high in omega (arith, lt, le)),
+)

@@ -43,7 +43,7 @@ removed_known : (h : List Call) → IsLegal h → (a : Name) (v : Said Outage) �
     → is_some (latching h a) ≡ true
 removed_known h legal a =
     latest_legal (λ c before. said_of_outage a c.person c.moment c.request) (λ h v. (o : Outage) → v ≡ Begins o → is_some (latching h a) ≡ true)
-        (λ p t u s m k shape v e o is. cc)
+    (λ p t u s m k shape v e o is. cc)
     (λ h c f v said o is. registered_stays c h a (removed_is_there h c.person c.moment c.request a o f.entry (said ∙ ap (λ v. Some v) is)))
     (λ h c f v rest o is. registered_stays c h a (rest o is)) h legal
 

@@ -33,7 +33,7 @@ module _ {X : Type 0} (m : FinMap name_cmp X) where
   found_itself q [] = refl
   found_itself q (k ∷ ks) =
       elim (same_name q k) as (λ b. same_name q k ≡ b
-          → cond b (Some k) (row_at name_cmp (λ k. k) q ks) ≡ cond (b || list_any (eq_by_cmp name_cmp q) ks) (Some q) None) [
+      → cond b (Some k) (row_at name_cmp (λ k. k) q ks) ≡ cond (b || list_any (eq_by_cmp name_cmp q) ks) (Some q) None) [
         | true ↦ λ e. ap (λ x. Some x) (sym (same_of q k e))
         | false ↦ λ e. found_itself q ks
       ] refl
@@ -73,7 +73,7 @@ seen t p u h = when (holds_any h t p) (u, h)
 seen_key : (t : ℕ) (p u : Name) (h : List Call) (e : Name × List Call) → seen t p u h ≡ Some e → e.0 ≡ u
 seen_key t p u h e =
     elim (holds_any h t p) as (λ b. when b (u, h) ≡ Some e
-        → e.0 ≡ u) [ true ↦ λ is. let same : (u, h) ≡ e = cc in ap (λ x. x.0) (sym same) | false ↦ λ is. cc ]
+    → e.0 ≡ u) [ true ↦ λ is. let same : (u, h) ≡ e = cc in ap (λ x. x.0) (sym same) | false ↦ λ is. cc ]
 
 seen_at : (w : World) (t : ℕ) (p q : Name) → row_at name_cmp (λ e. e.0) q (units_held w t p) ≡ unit_seen w t p q
 seen_at w t p q =
@@ -145,8 +145,8 @@ stood t k _ rest other = λ h. h
 pub no_grant : (h : List Call) (c : Call) (t : ℕ) (p : Name) → grants_to p c.request ≡ false → holds_any h t p ≡ false → holds_any (c ∷ h) t p ≡ false
 no_grant h c t p other none =
     false_from_ne_true _
-        (λ e. clash (holds_any h t p) (any-mono (λ r. held (c
-        ∷ h) t (p, r)) (λ r. held h t (p, r)) (λ r. stood t (p, r) c.request _ other) all_roles e) none)
+    (λ e. clash (holds_any h t p) (any-mono (λ r. held (c
+    ∷ h) t (p, r)) (λ r. held h t (p, r)) (λ r. stood t (p, r) c.request _ other) all_roles e) none)
 
 -- Calls that the person does not see
 pub unseen_calls : UnseenCallsChangeNothing
@@ -187,7 +187,7 @@ pub changes_by : (admin taken : Bool) (h : List Call) (c : Call) → changes_his
     → ((admin ≡ true) × (taken ≡ false)) ⊎ (holds_any h c.moment c.person ≡ true)
 changes_by admin taken h c =
     elim (is_opening c.request) as (λ b. changes_history (if b then opening admin taken else verdict h c) c ≡ true
-        → ((admin ≡ true) × (taken ≡ false)) ⊎ (holds_any h c.moment c.person ≡ true)) [
+    → ((admin ≡ true) × (taken ≡ false)) ⊎ (holds_any h c.moment c.person ≡ true)) [
       | true ↦ λ t. inl (opening_changes admin taken c t)
       | false ↦ λ t. inr (true_from_ne_false _ (λ e. refused_changes (verdict h c) c NotGranted (not_granted h c e) t))
     ]
@@ -211,7 +211,7 @@ codes_are_the_administrators w c other = by_unit (unit_named c.request) where
   by_unit None = refl
   by_unit (Some u) =
       elim (changes_history (answer_at w c (Some u)) c) as (λ b. changes_history (answer_at w c (Some u)) c ≡ b
-          → keys (if b then with_call w c u else w).units ≡ keys w.units) [
+      → keys (if b then with_call w c u else w).units ≡ keys w.units) [
         | true ↦ λ t. same_keys _ _ (taken_by_other w c u other t)
         | false ↦ λ _. refl
       ] refl
@@ -230,8 +230,8 @@ pub alike_view : (t : ℕ) (p : Name) (w v : World) → Alike t p w v → view t
 alike_view t p w v a =
     let units = same_units w v t p a.seen in
     let codes : codes_seen w p ≡ codes_seen v p =
-        if_same (same_name p w.admin) (keys w.units) (keys v.units) [] (λ admin. same_keys w.units v.units (a.taken admin))
-        ∙ ap (λ x. if same_name p x then keys v.units else []) a.admin in
+    if_same (same_name p w.admin) (keys w.units) (keys v.units) [] (λ admin. same_keys w.units v.units (a.taken admin))
+    ∙ ap (λ x. if same_name p x then keys v.units else []) a.admin in
     λ i. (units i, codes i)
 
 pub view_alike : (t : ℕ) (p : Name) (w v : World) → w.admin ≡ v.admin → view t p w ≡ view t p v → Alike t p w v
@@ -270,9 +270,9 @@ pub same_answer : (w v : World) (c : Call) (u : Name) → w.admin ≡ v.admin
     → (is_opening c.request ≡ false → verdict (history w u) c ≡ verdict (history v u) c) → answer_at w c (Some u) ≡ answer_at v c (Some u)
 same_answer w v c u admin taken verdicts =
     elim (is_opening c.request) as (λ b. (b ≡ true → by_admin w c ≡ true → is_taken w u ≡ is_taken v u)
-        → (b ≡ false → verdict (history w u) c ≡ verdict (history v u) c)
-        → (if b then opening (by_admin w c) (is_taken w u) else verdict (history w u) c)
-        ≡ (if b then opening (by_admin v c) (is_taken v u) else verdict (history v u) c)) [
+    → (b ≡ false → verdict (history w u) c ≡ verdict (history v u) c)
+    → (if b then opening (by_admin w c) (is_taken w u) else verdict (history w u) c)
+    ≡ (if b then opening (by_admin v c) (is_taken v u) else verdict (history v u) c)) [
       | true ↦ λ f g. elim (by_admin w c) as (λ b. (b ≡ true → is_taken w u ≡ is_taken v u)
           → opening b (is_taken w u) ≡ opening b (is_taken v u)) [ true ↦ λ h. ap (opening true) (h refl) | false ↦ λ h. refl ] (f refl)
           ∙ ap (λ x. opening (same_name c.person x) (is_taken v u)) admin
@@ -291,7 +291,7 @@ own_histories w v c u a t =
 own_verdict : (w v : World) (c : Call) (u : Name) → Alike c.moment c.person w v → verdict (history w u) c ≡ verdict (history v u) c
 own_verdict w v c u a =
     elim (holds_any (history w u) c.moment c.person) as (λ b. holds_any (history w u) c.moment c.person ≡ b
-        → verdict (history w u) c ≡ verdict (history v u) c) [
+    → verdict (history w u) c ≡ verdict (history v u) c) [
       | true ↦ λ e. ap (λ h. verdict h c) (seen_history c.moment c.person u (history w u) (history v u) (a.seen u) e)
       | false ↦ λ e. not_granted (history w u) c e
           ∙ sym (not_granted (history v u) c (sym (seen_holds c.moment c.person u (history w u) (history v u) (a.seen u)) ∙ e))
@@ -317,7 +317,9 @@ calls_to_seen_units w v p t c u admin e named holds =
     let there : is_taken w u ≡ true = taken_of_held w t p u holds in
     let there_too : is_taken v u ≡ true = taken_of_held v t p u (sym (seen_holds t p u (history w u) (history v u) (a.seen u)) ∙ holds) in
     let same : answer_at w c (Some u) ≡ answer_at v c (Some u) =
-        same_answer w v c u admin (λ _ _. there ∙ sym there_too) (λ _. ap (λ h. verdict h c) histories) in
-    let after = next_alike t p w v c u a same (λ _. histories) in
-    (ap (answer_at w c) named ∙ same ∙ sym (ap (answer_at v c) named), ap (λ o. view t p (next_at w c o)) named ∙ alike_view t p _ _ after
-    ∙ sym (ap (λ o. view t p (next_at v c o)) named))
+    same_answer w v c u admin (λ _ _. there ∙ sym there_too) (λ _. ap (λ h. verdict h c) histories) in
+    let after = next_alike t p w v c u a same (λ _. histories) in (
+      ap (answer_at w c) named ∙ same ∙ sym (ap (answer_at v c) named),
+      ap (λ o. view t p (next_at w c o)) named ∙ alike_view t p _ _ after
+          ∙ sym (ap (λ o. view t p (next_at v c o)) named),
+    )

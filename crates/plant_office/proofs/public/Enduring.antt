@@ -19,7 +19,7 @@ confirmed_more [] [] c a long = refl
 confirmed_more (d ∷ cs) (y ∷ xs) c a long =
     let rest = confirmed_more cs xs c a (omega (arith, long)) in
     elim (confirms d y) as (λ b. (if b then d ∷ confirmed (cs ++ c ∷ []) (xs ++ a ∷ []) else confirmed (cs ++ c ∷ []) (xs ++ a ∷ []))
-        ≡ (if b then d ∷ confirmed cs xs else confirmed cs xs) ++ (if confirms c a then c ∷ [] else []))
+    ≡ (if b then d ∷ confirmed cs xs else confirmed cs xs) ++ (if confirms c a then c ∷ [] else []))
     [ true ↦ ap (λ l. d ∷ l) rest | false ↦ rest ]
 confirmed_more [] (y ∷ xs) c a long = absurd (omega (arith, long))
 confirmed_more (d ∷ cs) [] c a long = absurd (omega (arith, long))
@@ -95,8 +95,12 @@ module _ (w : World) (calls : List Call) (answers : List Answer) (before after :
         | inl earlier ↦ outcome_same w calls answers so_far.long c (Faulted f) refl x (so_far.outcomes x earlier)
         | inr made ↦
             one_more w calls answers so_far.long c (Faulted f) x
-            (inr (c, doubt_new calls answers c (Faulted f) so_far.long refl, ap (λ l. l ++ c
-            ∷ []) (sym (plain calls answers c (Faulted f) so_far.long refl)))) made.0 made.1
+            (inr (
+              c,
+              doubt_new calls answers c (Faulted f) so_far.long refl,
+              ap (λ l. l ++ c
+                  ∷ []) (sym (plain calls answers c (Faulted f) so_far.long refl)),
+            )) made.0 made.1
       ]
   outcome_each (WasRefused r) it tidy x l =
       outcome_same w calls answers so_far.long c (WasRefused r) refl x (so_far.outcomes x (it.endures.quiet tidy tt x l))
@@ -115,12 +119,12 @@ module _ (w : World) (calls : List Call) (answers : List Answer) (before after :
       → HoldsWorld (after_calls w (confirmed (calls ++ c ∷ []) (answers ++ a ∷ []))) after
   now_as a it tidy true told =
       subst (λ v. HoldsWorld v after)
-          (sym (ap (after_calls w) (with_it calls answers c a so_far.long told) ∙ after_more w (confirmed calls answers) c))
-          (it.endures.made (it.endures.kept tidy told) told old so_far.now)
+      (sym (ap (after_calls w) (with_it calls answers c a so_far.long told) ∙ after_more w (confirmed calls answers) c))
+      (it.endures.made (it.endures.kept tidy told) told old so_far.now)
   now_as a it tidy false none =
       let was = so_far.now in
       subst (λ v. HoldsWorld v after) (sym (ap (after_calls w) (plain calls answers c a so_far.long none)))
-          (record { content = was.content; held = it.endures.unmade none was.content was.held; holds = was.holds; legal = was.legal })
+      (record { content = was.content; held = it.endures.unmade none was.content was.held; holds = was.holds; legal = was.legal })
 
   -- one call more
   pub after_next : (a : Answer) → EnduresSettled c a before after → after.clean → AreAfter w (calls ++ c ∷ []) (answers ++ a ∷ []) after

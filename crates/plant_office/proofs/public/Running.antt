@@ -59,8 +59,14 @@ run_more w calls answers c a old new s served fault =
     let said = said_as v c a new now in
     let left = left_as v c a s.after new s.legal s.holds now (fault s.after s.left_it) in
     run-append w calls (c ∷ []) answers (a ∷ []) old new s
-    (record { answered = (said, tt); isolated = (alike_if v c a said, tt); after = left.after; left_it = left.left_it; holds = left.holds;
-    legal = left.legal })
+    (record {
+      answered = (said, tt);
+      isolated = (alike_if v c a said, tt);
+      after = left.after;
+      left_it = left.left_it;
+      holds = left.holds;
+      legal = left.legal;
+    })
 
 pub run_none : (w : World) (m : Content) (left : Content → Type 0) → left m → Holds m w → IsLegalWorld w → IsRun w [] [] left
 run_none w m left l h legal = record { answered = tt; isolated = tt; after = m; left_it = l; holds = h; legal = legal }

@@ -10,7 +10,7 @@ use Rattle.plant_model.specs.declared.rows.{RowEdit.{RowEdit, TheVariants.{Put, 
 use Rattle.plant_types.{specs.Names.{Name, name_cmp, same_name}, proofs.public.{KeyedRowLaws.{tied}, Orders.{same_names}}}
 use Rattle.plant_store.specs.{Changes.{Applies, IsOfficeOf}, Keeping.{HasContent, has_any}, Making.{AreNew}}
 use Rattle.plant_columns.specs.Shape.{rows_in as rows_of}
-use Rattle.plant_columns.specs.{Tables.{AreBooks, AreSeen, rows_at, rows_seen, shape}, declared.tables.TableKind.{TableKind, TheVariants.{Units}}}
+use Rattle.plant_columns.specs.{Tables.{AreBooks, AreSeen, rows_of_table, rows_seen, shape}, declared.tables.TableKind.{TableKind, TheVariants.{Units}}}
 
 pub same_codes : (a b : Name) → same_name a b ≡ true → a ≡ b
 same_codes a b h = same_names a b (tied _ _ h refl)
@@ -102,7 +102,7 @@ none_found s m u k units is any = sym (never_opened s m u k (ap has_any (sym is)
 
 -- ---- new books
 
-pub nothing_at : (i : TableKind) → [] ≡ rows_at i no_rows
+pub nothing_at : (i : TableKind) → [] ≡ rows_of_table i no_rows
 nothing_at Units = refl
 nothing_at i = refl
 
@@ -110,6 +110,6 @@ pub keeps_new : (s : State) (admin : Name) → AreNew admin s.now → HasContent
 keeps_new s admin it = record {
   books = it.books;
   office = it.office;
-  seen = λ u i. ap (rows_of (shape i) u) (it.empty i) ∙ nothing_at i ∙ sym (ap (λ o. rows_at i (unwrap_or o no_rows)) (get-empty name_cmp u));
+  seen = λ u i. ap (rows_of (shape i) u) (it.empty i) ∙ nothing_at i ∙ sym (ap (λ o. rows_of_table i (unwrap_or o no_rows)) (get-empty name_cmp u));
   opened = λ u. ap is_some (get-empty name_cmp u) ∙ sym (ap (λ o. has_any (unwrap_or o no_rows).units) (get-empty name_cmp u));
 }

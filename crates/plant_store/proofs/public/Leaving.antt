@@ -5,7 +5,7 @@ use Rattle.std.proofs.lemmas.Bool.{cases_Bool}
 use Rattle.sqlite.specs.{Effect.{Database, IsDatabase}, Held.{Held, state}, State.{HasCleanDisk, IsLive, State, Survives}, Tree.{Trees}}
 use Rattle.sqlite_trees.specs.declared.store.Store.{Ghosts}
 use Rattle.plant_books.specs.{Contents.{Content, IsKnownTo, after_changes, rows_in}, Crashes.{Alike, IsSettled, LosesNoPart, LosesNothing}}
-use Rattle.plant_columns.specs.{Tables.{office_row, rows_at, rows_seen}, declared.tables.TableKind.{TableKind, TheVariants.{Units, Grants, Alarms, Shelves, Bands, Cells, Events, Records, Changes}}}
+use Rattle.plant_columns.specs.{Tables.{office_row, rows_of_table, rows_seen}, declared.tables.TableKind.{TableKind, TheVariants.{Units, Grants, Alarms, Shelves, Bands, Cells, Events, Records, Changes}}}
 use Rattle.plant_model.specs.declared.rows.{RowEdit.{RowEdit}, UnitRows.{UnitRows}}
 use Rattle.plant_store.specs.{Changes.{Applies, IsHonest}, Keeping.{HasContent, HaveRows, LeavesAlike, LeavesBooks, LeavesContent, Represents, has_any}, Writing.{AreChangedHonestly}}
 use Rattle.plant_store.proofs.public.{Contents.{keeps_after, kept_rows, never_opened}, Databases.{same_database}}
@@ -16,7 +16,7 @@ use Rattle.plant_types.specs.Names.{Name}
 one_admin : (a b : Name) → office_row a ∷ [] ≡ office_row b ∷ [] → a ≡ b
 one_admin a b same = cc
 
-same_rows : (a b : UnitRows) → ((i : TableKind) → rows_at i a ≡ rows_at i b) → a ≡ b
+same_rows : (a b : UnitRows) → ((i : TableKind) → rows_of_table i a ≡ rows_of_table i b) → a ≡ b
 same_rows a b same = λ k. record {
   units = same Units k;
   grants = same Grants k;

@@ -32,7 +32,7 @@ module _ {K X : Type 0} (R : K → K → Ordering) (key : X → K) where
         → row_at R key q (put_row R key r rows) ≡ cond (eq_by_cmp R q (key r)) (Some r) (row_at R key q rows)
     row_at-put_row q r rows =
         row_at-found q _ ∙ ap (found R q) (keyed-put r rows) ∙ find-put R o q (key r) r (keyed rows)
-            ∙ ap (cond (eq_by_cmp R q (key r)) (Some r)) (sym (row_at-found q rows))
+        ∙ ap (cond (eq_by_cmp R q (key r)) (Some r)) (sym (row_at-found q rows))
 
     pub IsInOrder-put_row : (r : X) (rows : List X) → IsInOrder R key rows → IsInOrder R key (put_row R key r rows)
     IsInOrder-put_row r rows h = subst (λ es. T (is_sorted R es)) (sym (keyed-put r rows)) (is_sorted-put R o (key r) r (keyed rows) h)
@@ -56,8 +56,8 @@ module _ {K X : Type 0} (R : K → K → Ordering) (key : X → K) where
     pub same_rows : (xs ys : List X) → IsInOrder R key xs → IsInOrder R key ys → ((q : K) → row_at R key q xs ≡ row_at R key q ys) → xs ≡ ys
     same_rows xs ys g h is =
         sym (unkeyed xs)
-            ∙ ap (map (λ e. e.1)) (same_entries R o same (keyed xs) (keyed ys) g h (λ q. sym (row_at-found q xs) ∙ is q ∙ row_at-found q ys))
-            ∙ unkeyed ys
+        ∙ ap (map (λ e. e.1)) (same_entries R o same (keyed xs) (keyed ys) g h (λ q. sym (row_at-found q xs) ∙ is q ∙ row_at-found q ys))
+        ∙ unkeyed ys
 
     -- rows from their keys, where a key's row has that key
     module _ (row : K → Option X) (at_key : (k : K) (r : X) → row k ≡ Some r → key r ≡ k) where
@@ -98,7 +98,7 @@ module _ {K : Type 0} (R : K → K → Ordering) (o : IsTotalOrder R) (same : (x
   row_at-in_order q [] = refl
   row_at-in_order q (k ∷ ks) =
       ap is_some (row_at-put_row R (λ k. k) o same q k (in_order R ks)) ∙ is_some-cond (eq_by_cmp R q k) k _
-          ∙ ap (λ b. eq_by_cmp R q k || b) (row_at-in_order q ks)
+      ∙ ap (λ b. eq_by_cmp R q k || b) (row_at-in_order q ks)
 
 -- a function gives the rows of these keys: its rows have their keys, and it has none at other keys
 pub record Tells {K X : Type 0} (R : K → K → Ordering) (key : X → K) (row : K → Option X) (ks : List K) : Type 0 where

@@ -15,5 +15,5 @@ module _ {X : Type 0} (name : X → Name) where
       → UpdatesBy name_cmp (name_cmp k) s n true → HasNames s (take i xs) → HasNames n (take (i + 1) xs)
   has_more s n xs i x k lt is own new are a =
       let turned : eq_by_cmp name_cmp k a ≡ same_name a (name x) = ap (λ y. same_name y a) own
-          ∙ (eq_by_cmp_equiv nat_list_cmp_total).symm (name x) a in
+      ∙ (eq_by_cmp_equiv nat_list_cmp_total).symm (name x) a in
       grind (arith, new.0 a, turned, are a, list_any_more (λ y. same_name a (name y)) xs i x)

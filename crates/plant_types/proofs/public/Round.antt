@@ -20,24 +20,34 @@ decimal_four n = omega arith
 pub form_of : (y m d h mi s : ℕ) → y < 10000 → m < 100 → d < 100 → h < 100 → mi < 100 → s < 100 → has_form (spelled y m d h mi s) ≡ true
 form_of y m d h mi s hy hm hd hh hmi hs =
     two (dig (y / 100 / 10) (omega arith))
-        (two (dig (y / 100 % 10) (omega arith))
-        (two (dig (y % 100 / 10) (omega arith))
-        (two (dig (y % 100 % 10) (omega arith))
-        (two (dig (m / 10) (omega arith))
-        (two (dig (m % 10) (omega arith))
-        (two (dig (d / 10) (omega arith))
-        (two (dig (d % 10) (omega arith))
-        (two (dig (h / 10) (omega arith))
-        (two (dig (h % 10) (omega arith))
-        (two (dig (mi / 10) (omega arith))
-        (two (dig (mi % 10) (omega arith)) (two (dig (s / 10) (omega arith)) (two (dig (s % 10) (omega arith)) (refl))))))))))))))
+    (two (dig (y / 100 % 10) (omega arith))
+    (two (dig (y % 100 / 10) (omega arith))
+    (two (dig (y % 100 % 10) (omega arith))
+    (two (dig (m / 10) (omega arith))
+    (two (dig (m % 10) (omega arith))
+    (two (dig (d / 10) (omega arith))
+    (two (dig (d % 10) (omega arith))
+    (two (dig (h / 10) (omega arith))
+    (two (dig (h % 10) (omega arith))
+    (two (dig (mi / 10) (omega arith))
+    (two (dig (mi % 10) (omega arith)) (two (dig (s / 10) (omega arith)) (two (dig (s % 10) (omega arith)) (refl))))))))))))))
 
 pub round : (y m d h mi s : ℕ) → is_date y m d ≡ true → is_time h mi s ≡ true → y < 10000 → m < 100 → d < 100 → h < 100 → mi < 100 → s < 100
     → moment_of (spelled y m d h mi s) ≡ Some (86400 * days_since_2000 y m d + 3600 * h + 60 * mi + s)
 unfolding moment_of
 round y m d h mi s date time hy hm hd hh hmi hs =
-    rw (form_of y m d h mi s hy hm hd hh hmi hs, decimal_four y, decimal_two m hm, decimal_two d hd, decimal_two h hh, decimal_two mi hmi, decimal_two
-        s hs, date, time) refl
+    rw (
+      form_of y m d h mi s hy hm hd hh hmi hs,
+      decimal_four y,
+      decimal_two m hm,
+      decimal_two d hd,
+      decimal_two h hh,
+      decimal_two mi hmi,
+      decimal_two
+          s hs,
+      date,
+      time,
+    ) refl
 
 -- the parts of a date are small
 pub date_bounds : (y m d : ℕ) → is_date y m d ≡ true → (y < 10000) × (m < 100) × (d < 100)

@@ -76,4 +76,4 @@ passing_next {A = A} p f xs i d lt = ap (λ l. map f (filter p l)) (take_more xs
     one_more (y ∷ ys) x =
         let rest = one_more ys x in
         elim (p y) as (λ b. map f (if b then y ∷ filter p (ys ++ x ∷ []) else filter p (ys ++ x ∷ []))
-            ≡ map f (if b then y ∷ filter p ys else filter p ys) ++ (if p x then f x ∷ [] else [])) [ true ↦ ap (λ l. f y ∷ l) rest | false ↦ rest ]
+        ≡ map f (if b then y ∷ filter p ys else filter p ys) ++ (if p x then f x ∷ [] else [])) [ true ↦ ap (λ l. f y ∷ l) rest | false ↦ rest ]

@@ -54,7 +54,7 @@ ran_one before after count counted_to call answer served fault counts endured =
     record {
       run = λ m h w legal holds t.
           run_more w [] [] call answer before.held after.held (run_none w m before.held h holds legal)
-              (λ m' h' w' legal' holds'. served m' h' w' legal' holds' t) fault;
+          (λ m' h' w' legal' holds'. served m' h' w' legal' holds' t) fault;
       counted = counted_one count counted_to answer counts;
       endures = all_one before after call answer endured;
     }

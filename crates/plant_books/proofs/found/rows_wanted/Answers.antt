@@ -20,6 +20,6 @@ returns-in-One-clause-value g c order =
 
 pub returns-in-Every-clause-value : goal.returns-in-Every-clause-value
 returns-in-Every-clause-value g c order =
-    subst (λ xs. IfOk c.duplicate.result (λ found. found ≡ xs))
+    subst (λ xs. IfOk c.copy.result (λ found. found ≡ xs))
     (sym (passing_every true c.args.rows.now refl) ∙ sym (passing_as (λ r. ap (λ w. is_wanted w (g.T.Tagged.key r)) c.in-Every.is) c.args.rows.now))
-    c.duplicate.ensures.value
+    c.copy.ensures.value

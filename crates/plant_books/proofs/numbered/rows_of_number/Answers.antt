@@ -12,8 +12,8 @@ returns g c rise =
     let from : c.split_at.result.1.now ≡ drop p xs = c.split_at.ensures.back in
     let low : Parted (λ x. nat_lt (matrix x) n) xs p =
     IsPartitionPoint-from_clause (λ x. nat_lt (matrix x) n) xs p c.partition_point.ensures.partitioned (parted_below matrix n xs rise)
-        (λ a r f' k. search rules) in
+    (λ a r f' k. search rules) in
     let high : Parted (λ x. nat_le (matrix x) n) (drop p xs) e =
     IsPartitionPoint-from_clause (λ x. nat_le (matrix x) n) (drop p xs) e (rw from at c.partition_point-2.ensures.partitioned)
-        (parted_upto matrix n p xs rise) (λ a r f' k. search rules) in
+    (parted_upto matrix n p xs rise) (λ a r f' k. search rules) in
     c.split_at-2.ensures.front ∙ ap (take e) from ∙ cut_out matrix n xs p e low high

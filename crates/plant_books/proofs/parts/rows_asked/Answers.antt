@@ -4,7 +4,7 @@ use Rattle.plant_books.proofs.parts.rows_asked.Goals as goal
 
 pub returns-clause-value : goal.returns-clause-value
 returns-clause-value c order = λ i. record {
-  units = c.in_ok-duplicate.ensures.value i;
+  units = c.in_ok-copy.ensures.value i;
   grants = c.in_ok-grants_asked.ensures.value i;
   alarms = (c.in_ok-alarms_asked.ensures.value order.alarms order.shelves
       ∙ passing_as (λ r. sym (c.wanted_alarms.ensures.alarms c.args.rows.now r.tag)) c.args.rows.now.alarms) i;

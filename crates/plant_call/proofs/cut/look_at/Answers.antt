@@ -16,9 +16,9 @@ returns-then-after-count-clause-wants c =
 pub returns-in-Ok-call_in-clause-shows : goal.returns-in-Ok-call_in-clause-shows
 returns-in-Ok-call_in-clause-shows c =
     λ head found. whole_read _ _ _ head _ _ c.args.after.now _ _ found c.of.ensures c.of-2.ensures c.in-Ok.ensures.value c.if-after-count.false
-        c.in-Ok-call_in.ensures
+    c.in-Ok-call_in.ensures
 
 pub returns-in-Err-Because-clause-shows : goal.returns-in-Err-Because-clause-shows
 returns-in-Err-Because-clause-shows c =
     λ head found. whole_read _ _ _ head _ _ c.args.after.now _ _ found c.of.ensures c.of-2.ensures c.in-Ok.ensures.value c.if-after-count.false
-        (rw c.in-Err-Because.field-0-is at c.in-Err-Because.ensures)
+    (rw c.in-Err-Because.field-0-is at c.in-Err-Because.ensures)

@@ -8,8 +8,8 @@ loop-event-preserved c =
     let i = c.loop-event.event-index in
     let so_far = take i c.args.events.now in
     let more =
-        moments_more c.args.events.now i e c.in_ok-is_activation.field-0 c.loop-event.moments c.if-branch.moments c.loop-event-test.true
-        c.event-item.is (c.in_ok-is_activation.ensures.value so_far c.loop-event.invariant.active) c.loop-event.invariant.moments in
+    moments_more c.args.events.now i e c.in_ok-is_activation.field-0 c.loop-event.moments c.if-branch.moments c.loop-event-test.true
+    c.event-item.is (c.in_ok-is_activation.ensures.value so_far c.loop-event.invariant.active) c.loop-event.invariant.moments in
     record {
       moments = more (elim c.if-branch.branch [
         | then-branch+in_ok-push w ↦ w.moments-is ∙ w.in_ok-push.ensures.ok

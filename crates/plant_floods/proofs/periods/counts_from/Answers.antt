@@ -9,5 +9,5 @@ loop-moment-init c few =
 pub loop-moment-preserved : goal.loop-moment-preserved
 loop-moment-preserved c few =
     counted_more c.args.moments.now c.loop-moment.counts.items c.count_in.new.counts.items c.args.start c.args.periods c.loop-moment.moment-index
-        c.moment-item.result c.moment-item.result
+    c.moment-item.result c.moment-item.result
     c.loop-moment-test.true c.moment-item.is few c.count_in.ensures.len c.count_in.ensures.counted (c.loop-moment.invariant few)

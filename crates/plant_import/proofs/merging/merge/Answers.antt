@@ -8,26 +8,32 @@ use Rattle.plant_import.proofs.merging.merge.Goals as goal
 
 pub loop-i-init : goal.loop-i-init
 loop-i-init c =
-    record { count = rw c.new-fresh.ensures refl;
-    so = λ rising. ([], rw c.new-fresh.ensures (stand_none c.tree_for-rising.result c.args.file.now c.tree_for-rising.ensures), rw c.new-fresh.ensures
-    (so_none c.args.tags.now c.args.now c.args.kept.now)) }
+    record {
+      count = rw c.new-fresh.ensures refl;
+      so = λ rising. (
+        [],
+        rw c.new-fresh.ensures (stand_none c.tree_for-rising.result c.args.file.now c.tree_for-rising.ensures),
+        rw c.new-fresh.ensures
+            (so_none c.args.tags.now c.args.now c.args.kept.now),
+      );
+    }
 
 pub returns-in-Err-clause-value : goal.returns-in-Err-clause-value
 returns-in-Err-clause-value c rising =
     let so = c.loop-i.invariant.so rising in
     let is = subst (λ (r : Result Bool Cause). JudgesRow c.args.tags.now c.args.now c.args.kept.now so.0 c.index-file-i.result r) c.in-Err.is
-        (c.judged.ensures c.args.tags.now c.in_ok-known.ensures.value rising so.0 so.2.rises
+    (c.judged.ensures c.args.tags.now c.in_ok-known.ensures.value rising so.0 so.2.rises
     (stand_nearest c.loop-i.rising c.as_slice.result.now c.args.file.now so.0 c.loop-i.i c.index-file-i.result c.nearest_new-nearest.result
     (omega arith) c.index-file-i.is (rw c.as_slice.ensures so.1) c.nearest_new-nearest.ensures.by_number c.nearest_new-nearest.ensures.below)) in
     sym (so_fault_at c.args.tags.now c.args.now c.args.kept.now c.args.file.now c.loop-i.fresh so.0 c.loop-i.repeated c.loop-i.i c.index-file-i.result
-        c.in-Err.cause (omega arith) c.index-file-i.is so.2 is)
+    c.in-Err.cause (omega arith) c.index-file-i.is so.2 is)
 
 pub loop-i-preserved : goal.loop-i-preserved
 loop-i-preserved c =
     let judged : IsRising c.args.kept.now → (seen : List Event) → StandSo c.loop-i.rising c.loop-i.fresh (drop c.loop-i.i c.args.file.now) seen
-        → IsRising seen → JudgesRow c.args.tags.now c.args.now c.args.kept.now seen c.index-file-i.result (Ok c.in-Ok.is_new) =
+    → IsRising seen → JudgesRow c.args.tags.now c.args.now c.args.kept.now seen c.index-file-i.result (Ok c.in-Ok.is_new) =
     λ rising seen stand rises. subst (λ (r : Result Bool Cause). JudgesRow c.args.tags.now c.args.now c.args.kept.now seen c.index-file-i.result r)
-        c.in-Ok.is (c.judged.ensures c.args.tags.now c.in_ok-known.ensures.value rising seen rises
+    c.in-Ok.is (c.judged.ensures c.args.tags.now c.in_ok-known.ensures.value rising seen rises
     (stand_nearest c.loop-i.rising c.as_slice.result.now c.args.file.now seen c.loop-i.i c.index-file-i.result c.nearest_new-nearest.result
     (omega arith) c.index-file-i.is (rw c.as_slice.ensures stand) c.nearest_new-nearest.ensures.by_number c.nearest_new-nearest.ensures.below)) in
     elim c.if-is_new.branch [

@@ -5,9 +5,12 @@ use Rattle.plant_import.proofs.needs.count_before.Goals as goal
 pub returns-in-Some-clause-value : goal.returns-in-Some-clause-value
 returns-in-Some-clause-value c rising =
     let place = c.place_of.ensures.place rising in
-    parted_count (is_before_all c.args.rows.now) c.args.kept.now c.place_of.result ((λ k d low high. c.in-Some.ensures (get_or c.args.kept.now k d)
-        ∙ lt-ltb _ _ (place.0 k d low high)), (λ k d low high. c.in-Some.ensures (get_or c.args.kept.now k d)
-        ∙ le-ltb _ _ (place.1 k d low high))) c.place_of.ensures.bound
+    parted_count (is_before_all c.args.rows.now) c.args.kept.now c.place_of.result (
+      (λ k d low high. c.in-Some.ensures (get_or c.args.kept.now k d)
+          ∙ lt-ltb _ _ (place.0 k d low high)),
+      (λ k d low high. c.in-Some.ensures (get_or c.args.kept.now k d)
+          ∙ le-ltb _ _ (place.1 k d low high)),
+    ) c.place_of.ensures.bound
 
 pub returns-in-None-clause-value : goal.returns-in-None-clause-value
 returns-in-None-clause-value c rising =

@@ -5,7 +5,7 @@ pub returns-in-Some : goal.returns-in-Some
 returns-in-Some c kept are =
     let less : c.lt.result ≡ nat_lt c.args.event.now.seq c.in-Some.last.now = search rules in
     less ∙ ap (λ o. unwrap_or (option_map (nat_lt c.args.event.now.seq) o) false) c.in-Some.ensures.value
-        ∙ are c.args.event.now.tag c.args.event.now.seq
+    ∙ are c.args.event.now.tag c.args.event.now.seq
 
 pub returns-in-None : goal.returns-in-None
 returns-in-None c kept are = ap (λ o. unwrap_or (option_map (nat_lt c.args.event.now.seq) o) false) c.in-None.ensures.value

@@ -8,16 +8,16 @@ pub returns-then-not-branch-clause-value : goal.returns-then-not-branch-clause-v
 unfolding file_read
 returns-then-not-branch-clause-value c =
     sym (ap records_read
-        (none c.next_record.new.reader c.args.bytes.now [] c.in_ok-next_record.field-0 (fields_of c.next_record.new.row) c.if-not-branch.true
-        (c.in_ok-next_record.ensures.value c.args.bytes.now [] c.reader_of-reader.ensures)))
+    (none c.next_record.new.reader c.args.bytes.now [] c.in_ok-next_record.field-0 (fields_of c.next_record.new.row) c.if-not-branch.true
+    (c.in_ok-next_record.ensures.value c.args.bytes.now [] c.reader_of-reader.ensures)))
 
 pub returns-then-not-is_header-clause-value : goal.returns-then-not-is_header-clause-value
 unfolding file_read
 returns-then-not-is_header-clause-value c =
     let fields = fields_of c.next_record.new.row in
     let first =
-        found c.next_record.new.reader c.args.bytes.now [] c.in_ok-next_record.field-0 fields c.if-not-branch.false
-        (c.in_ok-next_record.ensures.value c.args.bytes.now [] c.reader_of-reader.ensures) in
+    found c.next_record.new.reader c.args.bytes.now [] c.in_ok-next_record.field-0 fields c.if-not-branch.false
+    (c.in_ok-next_record.ensures.value c.args.bytes.now [] c.reader_of-reader.ensures) in
     let all = read_first c.next_record.new.reader c.args.bytes.now (fields ∷ []) first in
     sym (ap records_read all.1 ∙ ap (λ b. if b then rows_read all.0 else Err (bad 1 Header)) (sym c.is_header.ensures ∙ c.if-not-is_header.true))
 
@@ -26,9 +26,9 @@ unfolding file_read
 returns-clause-value c =
     let fields = fields_of c.next_record.new.row in
     let first =
-        found c.next_record.new.reader c.args.bytes.now [] c.in_ok-next_record.field-0 fields c.if-not-branch.false
-        (c.in_ok-next_record.ensures.value c.args.bytes.now [] c.reader_of-reader.ensures) in
+    found c.next_record.new.reader c.args.bytes.now [] c.in_ok-next_record.field-0 fields c.if-not-branch.false
+    (c.in_ok-next_record.ensures.value c.args.bytes.now [] c.reader_of-reader.ensures) in
     IfOk-weaker c.read_rows.result _ _ (λ read told.
     let t = told c.args.bytes.now fields first in
     t.2 ∙ sym (ap records_read t.1
-        ∙ ap (λ b. if b then rows_read t.0 else Err (bad 1 Header)) (sym c.is_header.ensures ∙ c.if-not-is_header.false))) c.read_rows.ensures.value
+    ∙ ap (λ b. if b then rows_read t.0 else Err (bad 1 Header)) (sym c.is_header.ensures ∙ c.if-not-is_header.false))) c.read_rows.ensures.value

@@ -12,5 +12,5 @@ returns-in-Some c es holds =
 pub returns-in-None : goal.returns-in-None
 returns-in-None c es holds =
     no_first (relation.from c.args.seq es)
-        (sym c.in-None.ensures.steps.0 ∙ c.range.ensures.between tt ∙ ap (entries_between nat_cmp (Included c.args.seq) Unbounded) holds
-        ∙ entries_from c.args.seq es)
+    (sym c.in-None.ensures.steps.0 ∙ c.range.ensures.between tt ∙ ap (entries_between nat_cmp (Included c.args.seq) Unbounded) holds
+    ∙ entries_from c.args.seq es)

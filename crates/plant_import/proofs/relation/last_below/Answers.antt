@@ -12,5 +12,5 @@ returns-in-Some c es holds =
 pub returns-in-None : goal.returns-in-None
 returns-in-None c es holds =
     no_last (relation.below c.args.seq es)
-        (sym c.in-None.ensures.steps.0 ∙ c.range.ensures.between tt ∙ ap (entries_between nat_cmp Unbounded (Excluded c.args.seq)) holds
-        ∙ entries_below c.args.seq es)
+    (sym c.in-None.ensures.steps.0 ∙ c.range.ensures.between tt ∙ ap (entries_between nat_cmp Unbounded (Excluded c.args.seq)) holds
+    ∙ entries_below c.args.seq es)

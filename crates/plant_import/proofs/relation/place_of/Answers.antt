@@ -6,6 +6,6 @@ use Rattle.plant_import.proofs.relation.place_of.Goals as goal
 pub returns-clause-place : goal.returns-clause-place
 returns-clause-place c rising =
     let part =
-        IsPartitionPoint-from_clause (λ (y : Event). nat_lt y.seq c.args.seq) c.args.events.now c.partition_point.result
-        c.partition_point.ensures.partitioned (parted event_number c.args.events.now c.args.seq rising) (λ a r f' k. search rules) in
+    IsPartitionPoint-from_clause (λ (y : Event). nat_lt y.seq c.args.seq) c.args.events.now c.partition_point.result
+    c.partition_point.ensures.partitioned (parted event_number c.args.events.now c.args.seq rising) (λ a r f' k. search rules) in
     (λ k d low high. ltb-true _ _ (part.0 k d low high), λ k d low high. ltb-false _ _ (part.1 k d low high))

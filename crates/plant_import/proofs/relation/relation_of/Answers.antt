@@ -8,13 +8,13 @@ pub returns-then-is_same : goal.returns-then-is_same
 returns-then-is_same c es rising near =
     let e = c.args.event.now in
     related_known es (below e.seq es) (from e.seq es) e c.in-Some.other.now (halves e.seq es rising) (sym (ap option_copied c.in-Some.is) ∙ near.1)
-        (search rules)
+    (search rules)
 
 pub returns-else-is_same : goal.returns-else-is_same
 returns-else-is_same c es rising near =
     let e = c.args.event.now in
     stands_clash es (below e.seq es) (from e.seq es) e c.in-Some.other.now (halves e.seq es rising) (sym (ap option_copied c.in-Some.is) ∙ near.1)
-        (search rules) (search rules)
+    (search rules) (search rules)
 
 pub returns-then-is_late : goal.returns-then-is_late
 returns-then-is_late c es rising near =

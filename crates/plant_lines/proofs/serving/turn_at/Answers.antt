@@ -20,7 +20,7 @@ close_line-requires-clause-held g c =
     record {
       lines =
           set_lines c.args.held.now.count ls c.args.at l c.turn_and_report.new.line c.requires.held.lines is
-              c.turn_and_report.ensures.turned.went.same
+          c.turn_and_report.ensures.turned.went.same
           c.turn_and_report.ensures.waits;
       few = c.requires.held.few;
     }

@@ -6,5 +6,5 @@ use Rattle.plant_model.proofs.found.place_of.Goals as goal
 pub returns : goal.returns
 returns g c order =
     IsPartitionPoint-from_clause (λ r. is_lt (name_cmp (g.T.Tagged.key r) c.args.tag.now)) c.args.rows.now c.partition_point.result
-        c.partition_point.ensures.partitioned (parted name_cmp g.T.Tagged.key name_total c.args.rows.now c.args.tag.now order)
-        (λ a r f' k. search rules)
+    c.partition_point.ensures.partitioned (parted name_cmp g.T.Tagged.key name_total c.args.rows.now c.args.tag.now order)
+    (λ a r f' k. search rules)

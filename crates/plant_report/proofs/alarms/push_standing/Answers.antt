@@ -8,7 +8,7 @@ returns-clause-value c =
     on_ok_weaker _
     (λ last.
     column_then c.args.text.now.items c.push_left.new.text.items c.push_last.new.text.items (left 24 l.tag) (left 14 (state_name l.state))
-        (left 2 (priority_name l.priority) ∷ moment_text l.since ∷ flags l.shelved l.by_design l.out_of_service ∷ []) (search rules)
+    (left 2 (priority_name l.priority) ∷ moment_text l.since ∷ flags l.shelved l.by_design l.out_of_service ∷ []) (search rules)
     (column_then c.push_left.new.text.items c.push_left-2.new.text.items c.push_last.new.text.items (left 14 (state_name l.state))
     (left 2 (priority_name l.priority)) (moment_text l.since ∷ flags l.shelved l.by_design l.out_of_service ∷ []) (search rules)
     (column_then c.push_left-2.new.text.items c.push_left-3.new.text.items c.push_last.new.text.items (left 2 (priority_name l.priority))

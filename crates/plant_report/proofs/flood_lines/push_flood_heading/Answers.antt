@@ -7,7 +7,7 @@ returns-clause-value c =
     on_ok_weaker _
     (λ last.
     column_then c.args.text.now.items c.push_column.new.text.items c.push_last.new.text.items (codes "FLOODS") (c.args.unit.now)
-        (codes "FROM" ∷ moment_text c.args.begin ∷ codes "TO" ∷ moment_text c.args.until ∷ codes "COUNT" ∷ decimal c.args.count ∷ []) (search rules)
+    (codes "FROM" ∷ moment_text c.args.begin ∷ codes "TO" ∷ moment_text c.args.until ∷ codes "COUNT" ∷ decimal c.args.count ∷ []) (search rules)
     (column_then c.push_column.new.text.items c.push_column-2.new.text.items c.push_last.new.text.items (c.args.unit.now) (codes "FROM")
     (moment_text c.args.begin ∷ codes "TO" ∷ moment_text c.args.until ∷ codes "COUNT" ∷ decimal c.args.count ∷ []) (search rules)
     (column_then c.push_column-2.new.text.items c.push_column-3.new.text.items c.push_last.new.text.items (codes "FROM") (moment_text c.args.begin)

@@ -9,8 +9,11 @@ returns-in-Ok g c = record {
       served _ _ (λ calls answers is.
       let tidy = c.leave.ensures.clean clean in
       let start = c.in-Ok.ensures.crash m held (is.endures.clean tidy) in
-      let k = is.endures.goes_on w [] [] tidy (after_none w m _ (c.in-Ok.ensures.own.0
-          ∙ sym same, c.in-Ok.ensures.kept m held) holds legal start.0 start.1) in
+      let k = is.endures.goes_on w [] [] tidy (after_none w m _ (
+        c.in-Ok.ensures.own.0
+            ∙ sym same,
+        c.in-Ok.ensures.kept m held,
+      ) holds legal start.0 start.1) in
       c.leave.ensures.left w calls answers clean k.sound k.outcomes) _ _ c.args.service _ _ _ c.serve_books-status.ensures.ran;
   whole = c.leave.ensures.whole;
   served = inr c.serve_books-status.ensures.served;

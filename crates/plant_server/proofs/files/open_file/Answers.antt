@@ -20,4 +20,4 @@ pub returns-in-Ok-clause-crash : goal.returns-in-Ok-clause-crash
 returns-in-Ok-clause-crash g c m held clean =
     let conn = file_state c.in_ok-conn.conn in
     c.in-Ok.ensures.crash m (kept (image_at g.S.Start) conn c.in_ok-conn.ensures.opened c.in_ok-conn.ensures.found m held) clean
-        (λ early. (c.in_ok-conn.ensures.opened early).0.is_open)
+    (λ early. (c.in_ok-conn.ensures.opened early).0.is_open)

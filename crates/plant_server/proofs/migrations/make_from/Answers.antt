@@ -11,7 +11,7 @@ returns-clause-taken g c m is held =
     if_ok c.make_new.result.1 (λ files h honest.
     let then = c.make_new.ensures.read.honest honest in
     h honest (subst (HaveOldRows m) (sym (same_now (image_at g.S.Start) old c.requires.opened c.requires.found then
-        held.db held.database)) held.rows)) (c.make_new.ensures.taken m is)
+    held.db held.database)) held.rows)) (c.make_new.ensures.taken m is)
 
 pub returns-clause-read : goal.returns-clause-read
 returns-clause-read g c db held =

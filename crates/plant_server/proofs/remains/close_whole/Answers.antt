@@ -13,5 +13,5 @@ returns g c m held = if_ok c.copy_log.result (λ files copied clean.
     let quiet : IsTrue c.is_autocommit-settled.result = c.is_autocommit-settled.ensures.value ∙ ap not c.close-conn.ensures.mode in
     let early : HasCleanDisk (file_state c.close-conn.result) = omega (arith, it.clean, c.into_store.ensures.quiet.clean) in
     whole_books c.close-conn.result c.into_store.result files c.schema-live.ensures.live (c.is_autocommit-settled.ensures.settled quiet) early
-        (kept.was_open it.is_open) (kept.committed it.is_open) m
+    (kept.was_open it.is_open) (kept.committed it.is_open) m
     (rw c.close-conn.ensures.same held) it) c.copy_log.ensures

@@ -11,6 +11,8 @@ returns-clause-open g c clean up =
 
 pub returns-clause-left : goal.returns-clause-left
 returns-clause-left g c w calls answers clean sound has =
-    outcomes_left c.close.result c.into_store.result (record { numbered = c.into_store.ensures.numbered clean;
-        sound = c.into_store.ensures.sound clean }) c.into_store.ensures.quiet.outcomes
+    outcomes_left c.close.result c.into_store.result (record {
+      numbered = c.into_store.ensures.numbered clean;
+      sound = c.into_store.ensures.sound clean;
+    }) c.into_store.ensures.quiet.outcomes
     (rw c.close.ensures.same sound) w calls answers (rw c.close.ensures.same has)

@@ -11,8 +11,8 @@ returns-clause-survives g c blank =
     let started : IsTrue c.transaction-tx.result.conn.now.in_transaction = search rules in
     let empty : c.transaction-tx.result.conn.now.schema ≡ no_schema = search rules in
     let all =
-        survives_whole g.S.Store old c.transaction-tx.result.conn.now mid c.commit.new.self.0 (AreNewTrees c.args.admin.now)
-        c.transaction-tx.ensures.begun
+    survives_whole g.S.Store old c.transaction-tx.result.conn.now mid c.commit.new.self.0 (AreNewTrees c.args.admin.now)
+    c.transaction-tx.ensures.begun
     c.make_tables.ensures.stays.survives (λ clean. ((state g.S.Store mid).now, refl, c.in_ok-make_tables.ensures.made clean started empty))
-        c.commit.ensures.survives in
+    c.commit.ensures.survives in
     search (rules, all)

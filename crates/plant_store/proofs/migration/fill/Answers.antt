@@ -18,11 +18,13 @@ returns-clause-made g c honest clean started blank m is had =
     let empty = c.in_ok-make_tables.ensures.made clean_made started blank in
     let inside = c.in_ok-make_tables.ensures.stays.inside clean_made started in
     let lines : units_of c.as_slice.result.now ≡ old_codes between.trees = ap units_of c.as_slice.ensures
-        ∙ c.in_ok-lines.ensures.rows known.0 had.books ∙ ap (λ (d : Database). old_codes d.trees) (sym same) in
+    ∙ c.in_ok-lines.ensures.rows known.0 had.books ∙ ap (λ (d : Database). old_codes d.trees) (sym same) in
     on_ok c.take_units.result
     (λ it.
     let taken = subst (λ (d : Database). AreTakenOver (old_codes d.trees) d.trees new) same it.0 in
-    record { database = taken.database;
-        rows = all_taken m before new had taken (it.1 ∙ empty.office ∙ ap (λ (a : Name). office_row a ∷ []) (sym is)) })
+    record {
+      database = taken.database;
+      rows = all_taken m before new had taken (it.1 ∙ empty.office ∙ ap (λ (a : Name). office_row a ∷ []) (sym is));
+    })
     (c.take_units.ensures.made honest (subst AreOldBooks (sym same) had.books) lines clean inside
     (none_taken c.args.admin.now between.trees made.now empty))

@@ -15,7 +15,7 @@ returns-in-Ok-clause-crash g c =
     rw c.of.ensures.same (survives_weaker _ _ _ (AreTaken (state g.O.Store c.args.old) (state g.O.Store c.take_into_blank.new.from) c.args.admin)
     (λ _ db made honest m is had.
     made honest m is (subst (HaveOldRows m) (sym (c.is_office_of.ensures.reads.same (c.take_into_blank.ensures.reads.honest honest))) had))
-        c.take_into_blank.ensures.survives)
+    c.take_into_blank.ensures.survives)
 
 pub returns-clause-crash_unmade : goal.returns-clause-crash_unmade
 returns-clause-crash_unmade g c = elim c.match-is_office_of.branch [
@@ -23,7 +23,7 @@ returns-clause-crash_unmade g c = elim c.match-is_office_of.branch [
       rw (w.new-is, w.old-is) (survives_weaker _ _ _ (AreTaken (state g.O.Store c.args.old) (state g.O.Store w.take_into_blank.new.from) c.args.admin)
       (λ _ db made honest m is had.
       made honest m is (subst (HaveOldRows m) (sym (c.is_office_of.ensures.reads.same (w.take_into_blank.ensures.reads.honest honest))) had))
-          w.take_into_blank.ensures.survives)
+      w.take_into_blank.ensures.survives)
   | in-Ok-false w ↦ rw w.new-is (survives_unmade _ _)
   | in-Err w ↦ rw w.new-is (survives_unmade _ _)
 ]

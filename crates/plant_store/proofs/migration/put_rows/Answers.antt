@@ -20,7 +20,7 @@ loop-row-preserved g c =
           let more = map_more (λ r. Put (g.T.OldRow.becomes r)) xs at c.row-item.result (omega arith)
           ∙ ap (λ r. map (λ r. Put (g.T.OldRow.becomes r)) (take at xs) ++ Put (g.T.OldRow.becomes r) ∷ []) (sym c.row-item.is) in
           subst (λ (l : List RowEdit). Applies c.args.unit.now l old.now now.now) (sym more)
-              (applies_then c.args.unit.now _ _ old.now mid.now now.now so_far one);
+          (applies_then c.args.unit.now _ _ old.now mid.now now.now so_far one);
       stays = stays_then {W = Unit {0}} {result = Ok tt} c.loop-row.invariant.stays c.in_ok-put.ensures.stays;
     }
 

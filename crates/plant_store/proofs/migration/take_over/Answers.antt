@@ -21,11 +21,11 @@ returns-clause-survives g c blank =
     let started : IsTrue c.transaction-tx.result.conn.now.in_transaction = search rules in
     let empty : c.transaction-tx.result.conn.now.schema ≡ no_schema = search rules in
     let all =
-        survives_whole g.N.Store old c.transaction-tx.result.conn.now mid c.commit.new.self.0
-        (AreTaken (state g.O.Store c.args.from.now) (state g.O.Store c.fill.new.from) c.args.admin.now) c.transaction-tx.ensures.begun
+    survives_whole g.N.Store old c.transaction-tx.result.conn.now mid c.commit.new.self.0
+    (AreTaken (state g.O.Store c.args.from.now) (state g.O.Store c.fill.new.from) c.args.admin.now) c.transaction-tx.ensures.begun
     c.fill.ensures.stays.survives
-        (λ clean honest m is had. ((state g.N.Store mid).now, refl, c.in_ok-fill.ensures.made honest clean started empty m is had))
-        c.commit.ensures.survives in
+    (λ clean honest m is had. ((state g.N.Store mid).now, refl, c.in_ok-fill.ensures.made honest clean started empty m is had))
+    c.commit.ensures.survives in
     search (rules, all)
 
 pub returns-in_err-commit-clause-survives : goal.returns-in_err-commit-clause-survives
@@ -35,9 +35,9 @@ returns-in_err-commit-clause-survives g c blank =
     let started : IsTrue c.transaction-tx.result.conn.now.in_transaction = search rules in
     let empty : c.transaction-tx.result.conn.now.schema ≡ no_schema = search rules in
     let all =
-        survives_whole g.N.Store old c.transaction-tx.result.conn.now mid c.commit.new.self.0
-        (AreTaken (state g.O.Store c.args.from.now) (state g.O.Store c.fill.new.from) c.args.admin.now) c.transaction-tx.ensures.begun
+    survives_whole g.N.Store old c.transaction-tx.result.conn.now mid c.commit.new.self.0
+    (AreTaken (state g.O.Store c.args.from.now) (state g.O.Store c.fill.new.from) c.args.admin.now) c.transaction-tx.ensures.begun
     c.fill.ensures.stays.survives
-        (λ clean honest m is had. ((state g.N.Store mid).now, refl, c.in_ok-fill.ensures.made honest clean started empty m is had))
-        c.commit.ensures.survives in
+    (λ clean honest m is had. ((state g.N.Store mid).now, refl, c.in_ok-fill.ensures.made honest clean started empty m is had))
+    c.commit.ensures.survives in
     search (rules, all)

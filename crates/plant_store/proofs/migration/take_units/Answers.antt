@@ -25,20 +25,22 @@ loop-line-preserved g c =
           let is = c.loop-line.invariant.reads.same before in
           let so_far = c.loop-line.invariant.made before old_books all (early clean) started none in
           let one =
-              c.in_ok-take_unit.ensures.made honest (subst AreOldBooks (sym is) old_books) clean
-              (c.loop-line.invariant.stays.inside (early clean) started) so_far.0.books in
+          c.in_ok-take_unit.ensures.made honest (subst AreOldBooks (sym is) old_books) clean
+          (c.loop-line.invariant.stays.inside (early clean) started) so_far.0.books in
           let xs = c.args.lines.now in
           let at = c.loop-line.line-index in
           let x : CodeLine = c.line-item.result in
           let here = subst (λ (d : Database). Applies x.unit (puts_all (upgraded_rows x.unit d.trees)) mid.now now.now) is one in
           let up : IsAscending (λ a b. name_cmp a b ≡ Less) (units_of xs) =
-              subst (IsAscending (λ a b. name_cmp a b ≡ Less)) (sym all) (codes_rise had.now old_books) in
+          subst (IsAscending (λ a b. name_cmp a b ≡ Less)) (sym all) (codes_rise had.now old_books) in
           let fresh : is_among (units_of (take at xs)) x.unit ≡ false =
-              subst (λ (y : CodeLine). is_among (units_of (take at xs)) y.unit ≡ false) (sym c.line-item.is) (not_before xs at x up (omega arith)) in
+          subst (λ (y : CodeLine). is_among (units_of (take at xs)) y.unit ≡ false) (sym c.line-item.is) (not_before xs at x up (omega arith)) in
           let more : units_of (take (at + 1) xs) ≡ units_of (take at xs) ++ x.unit ∷ [] =
           map_more (λ (l : CodeLine). l.unit) xs at x (omega arith)
-              ∙ ap (λ (y : CodeLine). units_of (take at xs) ++ y.unit ∷ []) (sym c.line-item.is) in
-          (subst (λ (us : List Name). AreTakenOver us had.now.trees now.now) (sym more)
-          (taken_next (units_of (take at xs)) x.unit had.now old_books mid.now now.now fresh so_far.0 here), here.office ∙ so_far.1);
+          ∙ ap (λ (y : CodeLine). units_of (take at xs) ++ y.unit ∷ []) (sym c.line-item.is) in (
+            subst (λ (us : List Name). AreTakenOver us had.now.trees now.now) (sym more)
+                (taken_next (units_of (take at xs)) x.unit had.now old_books mid.now now.now fresh so_far.0 here),
+            here.office ∙ so_far.1,
+          );
       stays = stays_then {W = Unit {0}} {result = Ok tt} c.loop-line.invariant.stays c.in_ok-take_unit.ensures.stays;
     }

@@ -14,7 +14,7 @@ returns-clause-found g c honest m k =
     let it = c.in_ok-holdings.ensures.rows honest.0 in
     let read = holdings_read p old (state g.S.Store c.read_rows.new.conn) k.books it.0 (rw c.single.ensures at it.1.0) _ it.1.1 in
     if_ok c.standing_codes.result (λ codes are. codes_found m t p old k codes (subst (λ held. AreCodes t held codes) read are))
-        c.standing_codes.ensures
+    c.standing_codes.ensures
 
 pub returns-in_err-holdings-clause-reads : goal.returns-in_err-holdings-clause-reads
 returns-in_err-holdings-clause-reads g c =

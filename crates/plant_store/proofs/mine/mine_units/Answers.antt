@@ -8,4 +8,4 @@ returns-clause-found g c honest m k =
     let t = c.args.now in
     let found = c.as_slice.ensures ∙ c.in_ok-lines.ensures.found honest m k in
     if_ok c.group.result (λ units h. h ∙ ap (λ ls. runs_of (standing_units t ls)) found
-        ∙ units_found t c.args.person.now m (state g.S.Store c.args.conn.now) k) c.group.ensures
+    ∙ units_found t c.args.person.now m (state g.S.Store c.args.conn.now) k) c.group.ensures

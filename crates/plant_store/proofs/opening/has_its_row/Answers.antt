@@ -8,7 +8,7 @@ pub returns-clause-row : goal.returns-clause-row
 returns-clause-row g c honest has =
     let found = office_there (state g.S.Store c.args.conn.now).now.schema has in
     let it = office_told c.args.schema c.args.admin.now (state g.S.Store c.args.conn.now)
-        (state g.S.Store c.ask.new.conn) found.0 found.1 found.2 c.in_ok-rows.rows.items (c.in_ok-rows.ensures.rows honest.0) in
+    (state g.S.Store c.ask.new.conn) found.0 found.1 found.2 c.in_ok-rows.rows.items (c.in_ok-rows.ensures.rows honest.0) in
     let is = rw c.as_slice.ensures.value at c.is_office_row.ensures in
     (λ t. it.0 (is.0 t), λ h. is.1 (it.1 h))
 

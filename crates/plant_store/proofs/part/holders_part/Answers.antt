@@ -45,7 +45,7 @@ returns-clause-found g c honest m k units own =
     } in
     let chosen = selection_by all c.scope_of-scope.result in
     let is : chosen ≡ selected all call.request =
-        c.scope_of-scope.ensures all (subst (IsSeenIn all call.request c.in_ok-crowded.crowded) (sym (search rules)) seen) in
+    c.scope_of-scope.ensures all (subst (IsSeenIn all call.request c.in_ok-crowded.crowded) (sym (search rules)) seen) in
     let records : c.in_ok-records.records ≡ filter (λ (r : RecordEntry). chosen.rationale r.tag) all.records =
     records_asked old m u k chosen c.wanted_records-recorded.result (c.wanted_records-recorded.ensures all) c.in_ok-records.records
     (c.in_ok-records.ensures.rows t7.0 r6.books
@@ -54,45 +54,45 @@ returns-clause-found g c honest m k units own =
     c.in_ok-read.ensures.rows t4.0 r3.books ∙ ap (λ (d : Database). alarms_with c.wanted_alarms-tags.result (rows_seen u d.trees Alarms)) r3.now in
     let shelves_read : c.in_ok-shelves.shelves ≡ rows_with shelf_tag c.wanted_shelves-shelved.result (rows_seen u old.now.trees Shelves) =
     c.in_ok-shelves.ensures.rows t5.0 r4.books
-        ∙ ap (λ (d : Database). rows_with shelf_tag c.wanted_shelves-shelved.result (rows_seen u d.trees Shelves)) r4.now in
+    ∙ ap (λ (d : Database). rows_with shelf_tag c.wanted_shelves-shelved.result (rows_seen u d.trees Shelves)) r4.now in
     let alarms_rise : TagsRise alarm_tag c.in_ok-read.read =
     subst (TagsRise alarm_tag) (sym alarms_read)
-        (alarms_in_order c.wanted_alarms-tags.result (rows_seen u old.now.trees Alarms)
-        (rises alarm_shape (good Alarms) u (old.now.trees 5) (k.books.tidy Alarms))) in
+    (alarms_in_order c.wanted_alarms-tags.result (rows_seen u old.now.trees Alarms)
+    (rises alarm_shape (good Alarms) u (old.now.trees 5) (k.books.tidy Alarms))) in
     let shelves_rise : TagsRise shelf_tag c.in_ok-shelves.shelves =
     subst (TagsRise shelf_tag) (sym shelves_read)
-        (rows_in_order shelf_tag c.wanted_shelves-shelved.result (rows_seen u old.now.trees Shelves)
-        (rises shelf_shape (good Shelves) u (old.now.trees 7) (k.books.tidy Shelves))) in
+    (rows_in_order shelf_tag c.wanted_shelves-shelved.result (rows_seen u old.now.trees Shelves)
+    (rises shelf_shape (good Shelves) u (old.now.trees 7) (k.books.tidy Shelves))) in
     let all_read : c.in_ok-all_events.all_events ≡ events_with c.looks_at_events-looks.result (rows_seen u old.now.trees Events) =
-        c.in_ok-all_events.ensures.rows t6.0 r5.books
-        ∙ ap (λ (d : Database). events_with c.looks_at_events-looks.result (rows_seen u d.trees Events)) r5.now in
+    c.in_ok-all_events.ensures.rows t6.0 r5.books
+    ∙ ap (λ (d : Database). events_with c.looks_at_events-looks.result (rows_seen u d.trees Events)) r5.now in
     let in_order : IsInOrder nat_cmp event_number c.in_ok-all_events.all_events =
-        subst (IsInOrder nat_cmp event_number) (sym all_read)
-        (read_in_order c.looks_at_events-looks.result (rows_seen u old.now.trees Events)
-        (rises event_shape (good Events) u (old.now.trees 13) (k.books.tidy Events))) in
+    subst (IsInOrder nat_cmp event_number) (sym all_read)
+    (read_in_order c.looks_at_events-looks.result (rows_seen u old.now.trees Events)
+    (rises event_shape (good Events) u (old.now.trees 13) (k.books.tidy Events))) in
     part_found old m u k call chosen is c.args.units units
     c.wants_all_grants-all.result (c.wants_all_grants-all.ensures all)
     c.in_ok-grants.grants (c.in_ok-grants.ensures.rows t3.0 r2.books call.person (own
-        ∙ ap (λ (d : Database). filter (λ (g : GrantRow). same_name call.person g.person) (rows_seen u d.trees Grants)) (sym r2.now))
-        ∙ ap (λ (d : Database). filter (λ (g : GrantRow). same_name call.person g.person
-        || c.wants_all_grants-all.result) (rows_seen u d.trees Grants)) r2.now)
+    ∙ ap (λ (d : Database). filter (λ (g : GrantRow). same_name call.person g.person) (rows_seen u d.trees Grants)) (sym r2.now))
+    ∙ ap (λ (d : Database). filter (λ (g : GrantRow). same_name call.person g.person
+    || c.wants_all_grants-all.result) (rows_seen u d.trees Grants)) r2.now)
     c.wanted_alarms-tags.result (c.wanted_alarms-tags.ensures.alarms all) (c.wanted_alarms-tags.ensures.shelves all)
     c.wanted_shelves-shelved.result (c.wanted_shelves-shelved.ensures all)
     c.in_ok-shelves.shelves shelves_read
     c.in_ok-alarms.alarms (c.in_ok-alarms.ensures alarms_rise shelves_rise
-        ∙ ap (alarms_left c.wanted_alarms-tags.result c.in_ok-shelves.shelves) alarms_read)
+    ∙ ap (alarms_left c.wanted_alarms-tags.result c.in_ok-shelves.shelves) alarms_read)
     c.looks_at_events-looks.result c.looks_at_events-looks.ensures
     c.in_ok-all_events.all_events all_read
     c.in_ok-events.events (c.in_ok-events.ensures in_order all)
     c.in_ok-records.records records
     c.in_ok-bands.bands (c.in_ok-bands.ensures.rows t8 r7.books (bands_climb u _ r7.books) all (sym (units ∙ k.seen u Units))
-        ∙ ap (λ (d : Database). filter (λ (r : BandRow). chosen.matrix r.matrix_no) (rows_seen u d.trees Bands)) r7.now)
+    ∙ ap (λ (d : Database). filter (λ (r : BandRow). chosen.matrix r.matrix_no) (rows_seen u d.trees Bands)) r7.now)
     c.in_ok-cells.cells (c.in_ok-cells.ensures.rows t9 r8.books (cells_climb u _ r8.books) all (sym (units ∙ k.seen u Units))
-        ∙ ap (λ (d : Database). filter (λ (r : CellRow). chosen.matrix r.matrix_no) (rows_seen u d.trees Cells)) r8.now)
+    ∙ ap (λ (d : Database). filter (λ (r : CellRow). chosen.matrix r.matrix_no) (rows_seen u d.trees Cells)) r8.now)
     c.in_ok-changes.changes (c.in_ok-changes.ensures.rows t10 r9.books all records
-        ∙ ap (λ (d : Database). filter (λ (r : ChangeEntry). chosen.change r.number) (rows_seen u d.trees Changes)) r9.now)
+    ∙ ap (λ (d : Database). filter (λ (r : ChangeEntry). chosen.change r.number) (rows_seen u d.trees Changes)) r9.now)
     c.in_ok-count.count (λ rows h n es. c.in_ok-count.ensures.rows honest.0 r10.books rows (h
-        ∙ ap (λ (d : Database). rows_seen u d.trees Alarms) (sym r10.now)) (n ∙ ap (λ (d : Database). rows_seen u d.trees Changes) (sym r10.now)) es)
+    ∙ ap (λ (d : Database). rows_seen u d.trees Alarms) (sym r10.now)) (n ∙ ap (λ (d : Database). rows_seen u d.trees Changes) (sym r10.now)) es)
 
 pub returns-in_err-bands-clause-reads : goal.returns-in_err-bands-clause-reads
 returns-in_err-bands-clause-reads g c =

@@ -10,7 +10,7 @@ use Rattle.plant_store.proofs.part.unit_part.Goals as goal
 pub returns-then-not-has_row-clause-found : goal.returns-then-not-has_row-clause-found
 returns-then-not-has_row-clause-found g c honest m k =
     no_part (state g.S.Store c.args.conn.now) m c.args.unit.now k c.args.call.now c.in_ok-units.units (c.in_ok-units.ensures.rows honest.0 k.books)
-        (search rules)
+    (search rules)
 
 pub returns-then-not-holds_some_by-clause-found : goal.returns-then-not-holds_some_by-clause-found
 returns-then-not-holds_some_by-clause-found g c honest m k =
@@ -23,7 +23,7 @@ returns-then-not-holds_some_by-clause-found g c honest m k =
     let none : holds_by c.in_ok-own.own call.moment call.person ≡ false = search rules in
     stranger_found old m u k call c.in_ok-units.units (c.in_ok-units.ensures.rows t1.0 k.books) any
     c.in_ok-own.own (c.in_ok-own.ensures.rows honest.0 r1.books
-        ∙ ap (λ (d : Database). filter (λ (g : GrantRow). same_name call.person g.person) (rows_seen u d.trees Grants)) r1.now) none
+    ∙ ap (λ (d : Database). filter (λ (g : GrantRow). same_name call.person g.person) (rows_seen u d.trees Grants)) r1.now) none
     c.part_of_grants.result c.part_of_grants.ensures.rows c.part_of_grants.ensures.count
 
 pub returns-clause-found : goal.returns-clause-found
@@ -39,7 +39,7 @@ returns-clause-found g c honest m k =
     let some : holds_by c.in_ok-own.own call.moment call.person ≡ true = search rules in
     let units = c.in_ok-units.ensures.rows t1.0 k.books in
     let own = c.in_ok-own.ensures.rows t2.0 r1.books
-        ∙ ap (λ (d : Database). filter (λ (g : GrantRow). same_name call.person g.person) (rows_seen u d.trees Grants)) r1.now in
+    ∙ ap (λ (d : Database). filter (λ (g : GrantRow). same_name call.person g.person) (rows_seen u d.trees Grants)) r1.now in
     let part = c.in_ok-part.ensures.found honest m (keeps_same old (state g.S.Store c.own_grants.new.conn) m k r2.now)
     (units ∙ ap (λ (d : Database). rows_seen u d.trees Units) (sym r2.now))
     (own ∙ ap (λ (d : Database). filter (λ (g : GrantRow). same_name call.person g.person) (rows_seen u d.trees Grants)) (sym r2.now)) in

@@ -25,6 +25,8 @@ pub returns-clause-honest : goal.returns-clause-honest
 returns-clause-honest g c honest =
     let old = state g.S.Store c.args.conn.now in
     let new = state g.S.Store c.query_all.new.self in
-    let early : HasCleanDisk old = omega (arith, c.query_all.ensures.survives.clean) in
-    (early, was_open c.args.sql.now _ old new (λ (v : Vec Row Global). v.items) c.query_all.result honest.1 (c.query_all.ensures.ok honest.0)
-    (c.query_all.ensures.err honest.0))
+    let early : HasCleanDisk old = omega (arith, c.query_all.ensures.survives.clean) in (
+      early,
+      was_open c.args.sql.now _ old new (λ (v : Vec Row Global). v.items) c.query_all.result honest.1 (c.query_all.ensures.ok honest.0)
+          (c.query_all.ensures.err honest.0),
+    )

@@ -7,8 +7,8 @@ pub returns-clause-rows : goal.returns-clause-rows
 returns-clause-rows g c clean books =
     let shown = rw c.single.ensures at (rw c.select.ensures.text at (c.in_ok-alarms.ensures.rows clean)) in
     if_ok c.count_of.result (λ n is. is ∙ ap length c.as_slice.ensures.value
-        ∙ alarms_counted c.args.unit.now (state g.S.Store c.args.conn.now)
-        (state g.S.Store c.ask.new.conn) books c.in_ok-alarms.alarms.items shown) c.count_of.ensures
+    ∙ alarms_counted c.args.unit.now (state g.S.Store c.args.conn.now)
+    (state g.S.Store c.ask.new.conn) books c.in_ok-alarms.alarms.items shown) c.count_of.ensures
 
 pub returns-in_err-alarms-clause-reads : goal.returns-in_err-alarms-clause-reads
 returns-in_err-alarms-clause-reads g c =

@@ -8,8 +8,8 @@ returns-in-Some-clause-rows g c clean books =
     let shown = rw c.single.ensures at (c.in_ok-rows.ensures.rows clean) in
     let first = sym (ap option_copied c.in-Some.is) ∙ c.first.ensures.value ∙ ap (λ l. slice_get l 0) c.as_slice.ensures.value in
     if_ok c.number.result
-        (λ n at. last_came c.args.unit.now (state g.S.Store c.args.conn.now) (state g.S.Store c.ask.new.conn) books c.in_ok-rows.rows.items shown
-        c.in-Some.row.now first n at) c.number.ensures.value
+    (λ n at. last_came c.args.unit.now (state g.S.Store c.args.conn.now) (state g.S.Store c.ask.new.conn) books c.in_ok-rows.rows.items shown
+    c.in-Some.row.now first n at) c.number.ensures.value
 
 pub returns-clause-rows : goal.returns-clause-rows
 returns-clause-rows g c clean books =

@@ -8,4 +8,4 @@ pub returns : goal.returns
 returns c =
     let standing = filter_same _ (λ (l : ShelfLine). is_before c.args.now l.end_s) _ (λ x b f' k. search rules) _ _ c.retain.ensures.filtered in
     rw (← c.into_vec-lines.ensures)
-        (c.from_vec.ensures ∙ dedup_same _ repeats _ (λ x y b f' x' y' k. search rules) _ _ c.dedup_by.ensures.filtered ∙ ap (dedup repeats) standing)
+    (c.from_vec.ensures ∙ dedup_same _ repeats _ (λ x y b f' x' y' k. search rules) _ _ c.dedup_by.ensures.filtered ∙ ap (dedup repeats) standing)

@@ -13,4 +13,4 @@ returns-clause-found g c honest m k =
     let k2 = keeps_same before (state g.S.Store c.shelf_lines.new.conn) m k (c.shelf_lines.ensures.reads.same was) in
     let merged = c.merge.ensures ∙ ap (λ ls. dedup repeats (standing_shelves t ls)) (c.in_ok-lines.ensures.found was m k) in
     if_ok c.all_returned.result (λ mine h. h ∙ ap (map (with_return m)) merged ∙ shelves_found t c.args.person.now m before k)
-        (c.all_returned.ensures.found honest m k2)
+    (c.all_returned.ensures.found honest m k2)

@@ -11,8 +11,8 @@ use Rattle.plant_store.proofs.unit.rows_but_events.Goals as goal
 pub returns-then-not-has_row-clause-found : goal.returns-then-not-has_row-clause-found
 returns-then-not-has_row-clause-found g c honest m k =
     ap (option_map without_events)
-        (none_found (state g.S.Store c.args.conn.now) m c.args.unit.now k c.in_ok-units.units (c.in_ok-units.ensures.rows honest.0 k.books)
-        (search rules))
+    (none_found (state g.S.Store c.args.conn.now) m c.args.unit.now k c.in_ok-units.units (c.in_ok-units.ensures.rows honest.0 k.books)
+    (search rules))
 
 pub returns-clause-found : goal.returns-clause-found
 returns-clause-found g c honest m k =
@@ -33,9 +33,17 @@ returns-clause-found g c honest m k =
     let r6 = goes_on c.all_rows-6.ensures.reads t6 r5 in
     let r7 = goes_on c.all_rows-7.ensures.reads t7 r6 in
     let rows : UnitRows =
-        record { units = c.in_ok-units.units; grants = c.in_ok-grants.grants; alarms = c.in_ok-alarms.alarms; shelves = c.in_ok-shelves.shelves;
-        events = rows_seen u old.now.trees Events; bands = c.in_ok-bands.bands; cells = c.in_ok-cells.cells; records = c.in_ok-records.records;
-        changes = c.in_ok-changes.changes } in
+    record {
+      units = c.in_ok-units.units;
+      grants = c.in_ok-grants.grants;
+      alarms = c.in_ok-alarms.alarms;
+      shelves = c.in_ok-shelves.shelves;
+      events = rows_seen u old.now.trees Events;
+      bands = c.in_ok-bands.bands;
+      cells = c.in_ok-cells.cells;
+      records = c.in_ok-records.records;
+      changes = c.in_ok-changes.changes;
+    } in
     let units_seen = c.in_ok-units.ensures.rows t1.0 k.books in
     let same : rows ≡ rows_in m u = λ i. record {
       units = (units_seen ∙ k.seen u Units) i;
@@ -50,7 +58,7 @@ returns-clause-found g c honest m k =
     } in
     let any : has_any c.in_ok-units.units ≡ true = search rules in
     ap (λ es. Some (record rows { events = es })) c.new.ensures
-        ∙ ap (option_map without_events) (ap Some same ∙ sym (kept_rows old m u k (ap has_any (sym units_seen) ∙ any)))
+    ∙ ap (option_map without_events) (ap Some same ∙ sym (kept_rows old m u k (ap has_any (sym units_seen) ∙ any)))
 
 pub returns-in_err-records-clause-reads : goal.returns-in_err-records-clause-reads
 returns-in_err-records-clause-reads g c =

@@ -20,9 +20,9 @@ loop-change-preserved g c =
           let at = c.loop-change.change-index in
           let x : RowEdit = c.change-item.result in
           let more : take (at + 1) xs ≡ take at xs ++ x ∷ [] = take_more xs at x (omega arith)
-              ∙ ap (λ (y : RowEdit). take at xs ++ y ∷ []) (sym c.change-item.is) in
+          ∙ ap (λ (y : RowEdit). take at xs ++ y ∷ []) (sym c.change-item.is) in
           subst (λ (l : List RowEdit). Applies c.args.unit.now l old.now now.now) (sym more)
-              (applies_then c.args.unit.now (take at xs) (x ∷ []) old.now mid.now now.now so_far one);
+          (applies_then c.args.unit.now (take at xs) (x ∷ []) old.now mid.now now.now so_far one);
       inside = λ clean. c.in_ok-change_one.ensures.stays.inside clean (c.loop-change.invariant.inside (early clean));
       kept = λ clean. keeps_then old mid now (c.loop-change.invariant.kept (early clean))
           (c.change_one.ensures.stays.kept clean (c.loop-change.invariant.inside (early clean)));

@@ -20,9 +20,9 @@ loop-event-preserved g c =
           let at = c.loop-event.event-index in
           let x : Event = c.event-item.result in
           let more : take (at + 1) xs ≡ take at xs ++ x ∷ [] = take_more xs at x (omega arith)
-              ∙ ap (λ (y : Event). take at xs ++ y ∷ []) (sym c.event-item.is) in
+          ∙ ap (λ (y : Event). take at xs ++ y ∷ []) (sym c.event-item.is) in
           subst (λ (l : List Event). Applies c.args.unit.now (PutEvents l ∷ []) old.now now.now) (sym more)
-              (applies_event c.args.unit.now (take at xs) x old.now mid.now now.now so_far one);
+          (applies_event c.args.unit.now (take at xs) x old.now mid.now now.now so_far one);
       stays = stays_then {W = Unit {0}} {result = Ok tt} c.loop-event.invariant.stays c.in_ok-insert.ensures.stays;
     }
 
@@ -30,5 +30,5 @@ pub returns-clause-made : goal.returns-clause-made
 returns-clause-made g c clean started books =
     let so_far = c.loop-event.invariant.made clean started books in
     let whole : take c.loop-event.event-index c.args.events.now ≡ c.args.events.now =
-        take_all c.loop-event.event-index c.args.events.now (omega arith) in
+    take_all c.loop-event.event-index c.args.events.now (omega arith) in
     rw whole at so_far

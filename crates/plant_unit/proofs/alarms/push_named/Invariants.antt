@@ -6,4 +6,4 @@ use Rattle.plant_unit.proofs.alarms.push_named.Given as goal
 
 abbrev pub invariant-loop-i : goal.invariant-loop-i
 invariant-loop-i l = (es fresh : List Event) → states.AreNamed l.named fresh → l.summaries ≡ states.summaries l.alarms es
-    → l.changes ≡ l.initial.changes ++ map (state_put es) (filter (states.is_named fresh) (take l.i l.alarms))
+    → l.changes ≡ l.initial.changes ++ map (state_put es) (filter (states.has_event_of fresh) (take l.i l.alarms))

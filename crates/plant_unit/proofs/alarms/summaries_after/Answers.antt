@@ -9,14 +9,14 @@ pub returns-then-branch-clause-value : goal.returns-then-branch-clause-value
 returns-then-branch-clause-value c order es is added so =
     let late = c.in_ok-has_late.ensures.value (needed_ordered c.args.kept.now es c.args.rows.now c.args.fresh.now is added) in
     let all : c.args.kept.now ≡ es =
-        late_all c.args.kept.now es c.args.rows.now c.args.fresh.now c.in_ok-has_late.field-0 is added late c.if-branch.true in
+    late_all c.args.kept.now es c.args.rows.now c.args.fresh.now c.in_ok-has_late.field-0 is added late c.if-branch.true in
     let rising : IsRising c.args.kept.now = subst (λ (l : List Event). IsRising l) (sym all) added.rise in
     subst (λ (l : List Event). IfOk c.summaries_from_events.result (λ s. s
-        ≡ states.summaries c.args.alarms.now (with_events l c.args.fresh.now))) all (c.summaries_from_events.ensures.value rising order)
+    ≡ states.summaries c.args.alarms.now (with_events l c.args.fresh.now))) all (c.summaries_from_events.ensures.value rising order)
 
 pub returns-else-branch-clause-value : goal.returns-else-branch-clause-value
 returns-else-branch-clause-value c order es is added so =
     let late = c.in_ok-has_late.ensures.value (needed_ordered c.args.kept.now es c.args.rows.now c.args.fresh.now is added) in
     let none = none_late c.args.kept.now es c.args.rows.now c.args.fresh.now c.in_ok-has_late.field-0 is added late c.if-branch.false in
     subst (λ l. IfOk c.summaries_from_rows.result (λ s. s ≡ l)) (go_on c.args.alarms.now es c.args.rows.now c.args.fresh.now added none)
-        (c.summaries_from_rows.ensures.value order es so)
+    (c.summaries_from_rows.ensures.value order es so)

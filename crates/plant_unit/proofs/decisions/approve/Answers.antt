@@ -28,7 +28,7 @@ returns-in-Some-2-clause-value c kept u is =
     let found : Some e ≡ change_found rows c.args.number = sym (ap option_copied c.in-Some.is) ∙ c.entry_of.ensures in
     let read = whole_read {part = c.args.part.now} c.args.number e change kept found (sym c.in-Some-2.is ∙ c.in_ok-change_from.ensures.value) in
     IfOk-weaker c.bring_into_force.result (IsApproved f p t change e) (IsJudgedOwn f c.args.call.now)
-        (λ v a. asked is (approved_here f p t u c.args.number change e
+    (λ v a. asked is (approved_here f p t u c.args.number change e
     (ap (λ (x : ChangeRow). Some x) read ∙ ap (option_map (change_read rows)) found)
     (ap change_entry read ∙ kept.changes_read c.args.number e (sym found))
     (sym c.in_default-decision_refusal.is ∙ c.decision_refusal.ensures rows

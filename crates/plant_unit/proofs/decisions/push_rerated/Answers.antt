@@ -12,16 +12,16 @@ loop-row-preserved c kept =
     let put : RecordEntry → RowEdit = λ e. Put (RecordPut e) in
     let rated : RecordRow → RecordEntry = rerated c.args.matrix.now in
     let all : list_all (has_its_sheet c.args.part.now.rows) items ≡ true =
-        ap (list_all (has_its_sheet c.args.part.now.rows)) c.as_slice-row-items.ensures ∙ kept.records_whole in
+    ap (list_all (has_its_sheet c.args.part.now.rows)) c.as_slice-row-items.ensures ∙ kept.records_whole in
     let whole =
-        each_passes (has_its_sheet c.args.part.now.rows) items c.loop-row.row-index c.row-item.result all c.loop-row-test.true c.row-item.is in
+    each_passes (has_its_sheet c.args.part.now.rows) items c.loop-row.row-index c.row-item.result all c.loop-row-test.true c.row-item.is in
     let next =
-        told_more read rated put items c.loop-row.row-index c.row-item.result c.in_ok-found.found c.loop-row-test.true
-        (c.in_ok-found.ensures.value kept whole) c.row-item.is in
+    told_more read rated put items c.loop-row.row-index c.row-item.result c.in_ok-found.found c.loop-row-test.true
+    (c.in_ok-found.ensures.value kept whole) c.row-item.is in
     let grows : (new : List RowEdit) → new ≡ c.loop-row.changes ++ map put (option_to_list c.in_ok-found.found)
-        → new ≡ c.args.changes.now ++ map (λ r. put (rated r)) (filter_map read (take (c.loop-row.row-index + 1) items)) =
+    → new ≡ c.args.changes.now ++ map (λ r. put (rated r)) (filter_map read (take (c.loop-row.row-index + 1) items)) =
     λ new pushed. grown c.args.changes.now c.loop-row.changes new (map (λ r. put (rated r)) (filter_map read (take c.loop-row.row-index items))) _ _
-        pushed (c.loop-row.invariant kept) next in
+    pushed (c.loop-row.invariant kept) next in
     elim c.match-found.branch [
       | in-Some+in_ok-push w ↦ grows c.match-found.changes (w.changes-is ∙ w.in_ok-push.ensures.ok
           ∙ ap (λ (o : Option RecordEntry). c.loop-row.changes ++ map put (option_to_list o)) (sym w.in-Some.is))

@@ -14,5 +14,5 @@ returns-clause-value c kept u =
     let rows = c.args.part.now.rows in
     let found : Some c.in-Some.entry.now ≡ change_found rows c.args.number = sym (ap option_copied c.in-Some.is) ∙ c.entry_of.ensures in
     decided_change _ _ _ (ap (option_map (change_read rows)) found)
-        (kept.changes_read _ _ (sym found)) _ _ _ _ _ c.in_ok-decision_put.ensures.value (sym c.in_default-withdrawal_refusal.is
-        ∙ c.withdrawal_refusal.ensures rows)
+    (kept.changes_read _ _ (sym found)) _ _ _ _ _ c.in_ok-decision_put.ensures.value (sym c.in_default-withdrawal_refusal.is
+    ∙ c.withdrawal_refusal.ensures rows)

@@ -23,7 +23,7 @@ returns-in_default-request c =
           let none : c.holder_refusal.result ≡ None = search rules in
           let plain : is_import c.args.call.now.request ≡ false = search rules in
           judged_among c.args.part.now es c.args.call.now c.judge_own.result plain
-              (seen (holder_holds (facts_in c.args.part.now) c.args.call.now c.holder_refusal.result c.holder_refusal.ensures none))
+          (seen (holder_holds (facts_in c.args.part.now) c.args.call.now c.holder_refusal.result c.holder_refusal.ensures none))
           (own_result (facts_in c.args.part.now) c.args.call.now c.judge_own.result c.holder_refusal.result c.holder_refusal.ensures none
           (c.judge_own.ensures.value kept));
       err = c.judge_own.ensures.err;

@@ -10,10 +10,10 @@ loop-place-preserved c =
     elim c.if-not-is_empty.branch [
       | then-not-is_empty+in_ok-push w ↦
           row_pushed (λ row. row.items)
-              (cells_at c.args.cells.now c.args.number) c.loop-place.rows.items c.if-not-is_empty.rows.items c.in_ok-row.row c.loop-place.place
+          (cells_at c.args.cells.now c.args.number) c.loop-place.rows.items c.if-not-is_empty.rows.items c.in_ok-row.row c.loop-place.place
           (ap (λ v. v.items) w.rows-is ∙ w.in_ok-push.ensures.items) (empty ∙ w.if-not-is_empty.true) c.in_ok-row.ensures.value c.loop-place.invariant
       | else-not-is_empty w ↦
           ap (λ v. map (λ row. row.items) v.items) w.rows-is
-              ∙ row_left (λ row. row.items) (cells_at c.args.cells.now c.args.number) c.loop-place.rows.items c.in_ok-row.row c.loop-place.place
+          ∙ row_left (λ row. row.items) (cells_at c.args.cells.now c.args.number) c.loop-place.rows.items c.in_ok-row.row c.loop-place.place
           (empty ∙ w.if-not-is_empty.false) c.in_ok-row.ensures.value c.loop-place.invariant
     ]

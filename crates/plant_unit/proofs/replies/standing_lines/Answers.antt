@@ -7,10 +7,11 @@ pub loop-alarm-preserved : goal.loop-alarm-preserved
 loop-alarm-preserved c kept =
     let line : AlarmRow → Option StandingLine = standing_line (facts_in c.args.part.now) c.args.now in
     let at : line (get_or c.as_slice-alarms.result.now c.loop-alarm.alarm-index c.alarm-item.result) ≡ c.in_ok-found.field-0 =
-        ap line (sym c.alarm-item.is) ∙ sym (c.in_ok-found.ensures.value kept) in
+    ap line (sym c.alarm-item.is) ∙ sym (c.in_ok-found.ensures.value kept) in
     let more =
-        filter_map_more line c.as_slice-alarms.result.now c.loop-alarm.alarm-index c.alarm-item.result c.in_ok-found.field-0
-        c.loop-alarm-test.true at in
-    elim c.match-branch-2.branch
-        [ in-Some+in_ok-push w ↦ grind (arith, common_steps, more, w.in_ok-push.ensures.ok, w.in-Some.is, c.loop-alarm.invariant kept, w.lines-is)
-        | in_default w ↦ grind (arith, common_steps, more, w.in_default.is, w.in_default.not-Some, c.loop-alarm.invariant kept, w.lines-is) ]
+    filter_map_more line c.as_slice-alarms.result.now c.loop-alarm.alarm-index c.alarm-item.result c.in_ok-found.field-0
+    c.loop-alarm-test.true at in
+    elim c.match-branch-2.branch [
+      | in-Some+in_ok-push w ↦ grind (arith, common_steps, more, w.in_ok-push.ensures.ok, w.in-Some.is, c.loop-alarm.invariant kept, w.lines-is)
+      | in_default w ↦ grind (arith, common_steps, more, w.in_default.is, w.in_default.not-Some, c.loop-alarm.invariant kept, w.lines-is)
+    ]

@@ -27,7 +27,7 @@ read_more-requires-clause-answered g c = c.reads.invariant.stands.idle
 pub answer_all-requires : goal.answer_all-requires
 answer_all-requires g c =
     waits_more c.reads.buffer.items c.in-More.ensures.0 c.deref.result.now c.reads.wanted (c.deref.ensures.value
-        ∙ c.in-More.ensures.2) c.reads.invariant.waits
+    ∙ c.in-More.ensures.2) c.reads.invariant.waits
 
 pub returns-in-Failed-clause-does : goal.returns-in-Failed-clause-does
 returns-in-Failed-clause-does g c = ends_failed c.reads.invariant.stands (g.I.Inlet.remaining c.read_more.new.inlet) c.in-Failed.ensures.0
@@ -52,9 +52,9 @@ returns-in-Finished-clause-does g c =
 pub returns-in-Err-WriteFailed-clause-does : goal.returns-in-Err-WriteFailed-clause-does
 returns-in-Err-WriteFailed-clause-does g c =
     let joins =
-        ran_joins (books_state g.B.Books c.args.office.now.books) (books_state g.B.Books c.reads.office.books)
-        (books_state g.B.Books c.answer_all.new.office.books) (g.B.Books.stores c.args.office.now.books) (g.B.Books.stores c.reads.office.books)
-        (g.B.Books.stores c.answer_all.new.office.books) c.in-Err-WriteFailed.ensures.honest in
+    ran_joins (books_state g.B.Books c.args.office.now.books) (books_state g.B.Books c.reads.office.books)
+    (books_state g.B.Books c.answer_all.new.office.books) (g.B.Books.stores c.args.office.now.books) (g.B.Books.stores c.reads.office.books)
+    (g.B.Books.stores c.answer_all.new.office.books) c.in-Err-WriteFailed.ensures.honest in
     let h = ends_part c.reads.invariant.stands (g.I.Inlet.remaining c.read_more.new.inlet) c.deref.result.now c.in-More.ensures.0 c.in-More.ensures.1
     (c.deref.ensures.value ∙ c.in-More.ensures.2) joins (g.O.Outlet.written c.answer_all.new.outlet) _ c.in-Err-WriteFailed.ensures.does in
     (h.0, h.1, h.2.0)
@@ -63,9 +63,9 @@ pub returns-in-Err-Fault-clause-does : goal.returns-in-Err-Fault-clause-does
 returns-in-Err-Fault-clause-does g c =
     let h = rw c.in-Err-Fault.field-0-is at c.in-Err-Fault.ensures.does in
     let joins =
-        ran_joins (books_state g.B.Books c.args.office.now.books) (books_state g.B.Books c.reads.office.books)
-        (books_state g.B.Books c.answer_all.new.office.books) (g.B.Books.stores c.args.office.now.books) (g.B.Books.stores c.reads.office.books)
-        (g.B.Books.stores c.answer_all.new.office.books) c.in-Err-Fault.ensures.honest in
+    ran_joins (books_state g.B.Books c.args.office.now.books) (books_state g.B.Books c.reads.office.books)
+    (books_state g.B.Books c.answer_all.new.office.books) (g.B.Books.stores c.args.office.now.books) (g.B.Books.stores c.reads.office.books)
+    (g.B.Books.stores c.answer_all.new.office.books) c.in-Err-Fault.ensures.honest in
     ends_part c.reads.invariant.stands (g.I.Inlet.remaining c.read_more.new.inlet) c.deref.result.now c.in-More.ensures.0 c.in-More.ensures.1
     (c.deref.ensures.value ∙ c.in-More.ensures.2) joins (g.O.Outlet.written c.answer_all.new.outlet) Fault h
 
@@ -73,9 +73,9 @@ pub returns-in-Ok-Broken-clause-does : goal.returns-in-Ok-Broken-clause-does
 returns-in-Ok-Broken-clause-does g c =
     let h = rw c.in-Ok-Broken.field-0-is at c.in-Ok-Broken.ensures.does in
     let joins =
-        ran_joins (books_state g.B.Books c.args.office.now.books) (books_state g.B.Books c.reads.office.books)
-        (books_state g.B.Books c.answer_all.new.office.books) (g.B.Books.stores c.args.office.now.books) (g.B.Books.stores c.reads.office.books)
-        (g.B.Books.stores c.answer_all.new.office.books) c.in-Ok-Broken.ensures.honest in
+    ran_joins (books_state g.B.Books c.args.office.now.books) (books_state g.B.Books c.reads.office.books)
+    (books_state g.B.Books c.answer_all.new.office.books) (g.B.Books.stores c.args.office.now.books) (g.B.Books.stores c.reads.office.books)
+    (g.B.Books.stores c.answer_all.new.office.books) c.in-Ok-Broken.ensures.honest in
     ends_broken c.reads.invariant.stands (g.I.Inlet.remaining c.read_more.new.inlet) c.deref.result.now c.in-More.ensures.0 c.in-More.ensures.1
     (c.deref.ensures.value ∙ c.in-More.ensures.2) joins (g.I.Inlet.ended c.read_more.new.inlet) (g.O.Outlet.written c.answer_all.new.outlet) h
 
@@ -83,9 +83,9 @@ pub returns-in-Err-clause-does : goal.returns-in-Err-clause-does
 returns-in-Err-clause-does g c =
     let h = rw c.in-Ok-Waits.field-0-is at c.in-Ok-Waits.ensures.does in
     let joins =
-        ran_joins (books_state g.B.Books c.args.office.now.books) (books_state g.B.Books c.reads.office.books)
-        (books_state g.B.Books c.answer_all.new.office.books) (g.B.Books.stores c.args.office.now.books) (g.B.Books.stores c.reads.office.books)
-        (g.B.Books.stores c.answer_all.new.office.books) c.in-Ok-Waits.ensures.honest in
+    ran_joins (books_state g.B.Books c.args.office.now.books) (books_state g.B.Books c.reads.office.books)
+    (books_state g.B.Books c.answer_all.new.office.books) (g.B.Books.stores c.args.office.now.books) (g.B.Books.stores c.reads.office.books)
+    (g.B.Books.stores c.answer_all.new.office.books) c.in-Ok-Waits.ensures.honest in
     ends_drop_fault c.reads.invariant.stands (g.I.Inlet.remaining c.read_more.new.inlet) c.deref.result.now c.in-More.ensures.0 c.in-More.ensures.1
     (c.deref.ensures.value ∙ c.in-More.ensures.2) joins (g.O.Outlet.written c.answer_all.new.outlet) _ h.2
 
@@ -93,9 +93,9 @@ pub reads-preserved : goal.reads-preserved
 reads-preserved g c =
     let h = rw c.in-Ok-Waits.field-0-is at c.in-Ok-Waits.ensures.does in
     let joins =
-        ran_joins (books_state g.B.Books c.args.office.now.books) (books_state g.B.Books c.reads.office.books)
-        (books_state g.B.Books c.answer_all.new.office.books) (g.B.Books.stores c.args.office.now.books) (g.B.Books.stores c.reads.office.books)
-        (g.B.Books.stores c.answer_all.new.office.books) c.in-Ok-Waits.ensures.honest in
+    ran_joins (books_state g.B.Books c.args.office.now.books) (books_state g.B.Books c.reads.office.books)
+    (books_state g.B.Books c.answer_all.new.office.books) (g.B.Books.stores c.args.office.now.books) (g.B.Books.stores c.reads.office.books)
+    (g.B.Books.stores c.answer_all.new.office.books) c.in-Ok-Waits.ensures.honest in
     record {
       stands = stands_next c.reads.invariant.stands (g.I.Inlet.remaining c.read_more.new.inlet) c.deref.result.now c.in-More.ensures.0
           c.in-More.ensures.1

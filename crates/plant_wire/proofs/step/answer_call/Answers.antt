@@ -6,10 +6,10 @@ use Rattle.plant_wire.proofs.step.answer_call.Goals as goal
 pub returns-clause-does : goal.returns-clause-does
 returns-clause-does g c =
     let ran =
-        ran_one (books_state g.B.Books c.args.office.now.books) (books_state g.B.Books c.serve-answer.new.self.books)
-        (g.B.Books.stores c.args.office.now.books) (g.B.Books.stores c.serve-answer.new.self.books)
+    ran_one (books_state g.B.Books c.args.office.now.books) (books_state g.B.Books c.serve-answer.new.self.books)
+    (g.B.Books.stores c.args.office.now.books) (g.B.Books.stores c.serve-answer.new.self.books)
     c.args.call.now c.serve-answer.result c.serve-answer.ensures.served c.serve-answer.ensures.fault c.serve-answer.ensures.count
-        c.serve-answer.ensures.endures in
+    c.serve-answer.ensures.endures in
     answer_put (g.O.Outlet.written c.args.outlet.now) (g.O.Outlet.written c.put_said-put.new.outlet)
     (Ran (books_state g.B.Books c.args.office.now.books) (books_state g.B.Books c.serve-answer.new.self.books)
     (g.B.Books.stores c.args.office.now.books) (g.B.Books.stores c.serve-answer.new.self.books))

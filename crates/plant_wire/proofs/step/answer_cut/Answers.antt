@@ -16,7 +16,7 @@ returns-in-More-clause-does g c bytes front waits = record {
 pub returns-in-Fault-clause-does : goal.returns-in-Fault-clause-does
 returns-in-Fault-clause-does g c bytes front waits =
     part_none bytes (g.O.Outlet.written c.args.outlet.now)
-        (ran_none (books_state g.B.Books c.args.office.now.books) (g.B.Books.stores c.args.office.now.books))
+    (ran_none (books_state g.B.Books c.args.office.now.books) (g.B.Books.stores c.args.office.now.books))
 
 pub returns-in-Ok-clause-does : goal.returns-in-Ok-clause-does
 returns-in-Ok-clause-does g c bytes front waits = record {
@@ -29,7 +29,7 @@ returns-in-Ok-clause-does g c bytes front waits = record {
 pub returns-in-Err-clause-does : goal.returns-in-Err-clause-does
 returns-in-Err-clause-does g c bytes front waits =
     part_broken bytes _ _ _ c.in-Err.ensures.does.0 _ (rw c.in-Broken.is at front) c.in-Err.ensures.does.1
-        (ran_none (books_state g.B.Books c.args.office.now.books) (g.B.Books.stores c.args.office.now.books))
+    (ran_none (books_state g.B.Books c.args.office.now.books) (g.B.Books.stores c.args.office.now.books))
 
 pub returns-in-Ok-put_cause-clause-does : goal.returns-in-Ok-put_cause-clause-does
 returns-in-Ok-put_cause-clause-does g c bytes front waits = (
@@ -46,7 +46,7 @@ returns-in-Ok-put_cause-clause-does g c bytes front waits = (
 pub returns-in-Err-put_cause-clause-does : goal.returns-in-Err-put_cause-clause-does
 returns-in-Err-put_cause-clause-does g c bytes front waits =
     part_one bytes _ _ (malformed c.in-Malformed.cause) _ c.in-Err-put_cause.ensures.does.0 _ (rw c.in-Malformed.is at front)
-        c.in-Err-put_cause.ensures.does.1
+    c.in-Err-put_cause.ensures.does.1
     (ran_none (books_state g.B.Books c.args.office.now.books) (g.B.Books.stores c.args.office.now.books))
     (stops_for (begun (malformed c.in-Malformed.cause)) _ tt)
 

@@ -1,12 +1,12 @@
 use Rattle.std.proofs.Common.{sym, subst}
-use Rattle.plant_answer.specs.Answers.{text_of}
+use Rattle.plant_answer.specs.Answers.{answer_bytes}
 use Rattle.plant_wire.{specs.{Marks.{said, begun}, Step.{IsPut}}, proofs.Serving.{said_unless, stops_faultless, stops_writing}}
 use Rattle.plant_wire.proofs.step.put_said.Goals as goal
 
 pub returns-in-Fault-clause-does : goal.returns-in-Fault-clause-does
 returns-in-Fault-clause-does g c =
-    subst (λ a. IsPut (g.O.Outlet.written c.args.outlet.now) (g.O.Outlet.written c.put_fault.new.outlet) (text_of a) c.put_fault.result)
-        (sym c.in-Fault.is) c.put_fault.ensures.does
+    subst (λ a. IsPut (g.O.Outlet.written c.args.outlet.now) (g.O.Outlet.written c.put_fault.new.outlet) (answer_bytes a) c.put_fault.result)
+    (sym c.in-Fault.is) c.put_fault.ensures.does
 
 pub returns-in-Fault-clause-why : goal.returns-in-Fault-clause-why
 returns-in-Fault-clause-why g c = λ call. stops_writing (begun (said call c.args.answer.now)) c.put_fault.result c.put_fault.ensures.only

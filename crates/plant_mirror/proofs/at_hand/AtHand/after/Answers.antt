@@ -5,5 +5,7 @@ use Rattle.plant_mirror.proofs.at_hand.AtHand.after.Goals as goal
 pub returns-in-Ok : goal.returns-in-Ok
 returns-in-Ok c = λ m u h.
     let none : c.misses.result ≡ false = search rules in
-    changed_there m u c.args.changes.now c.args.self (record { rows = c.in-Ok.rows;
-        has_events = c.args.self.has_events }) h refl (c.in-Ok.ensures.value h.ordered) (sym c.misses.ensures ∙ none)
+    changed_there m u c.args.changes.now c.args.self (record {
+      rows = c.in-Ok.rows;
+      has_events = c.args.self.has_events;
+    }) h refl (c.in-Ok.ensures.value h.ordered) (sym c.misses.ensures ∙ none)

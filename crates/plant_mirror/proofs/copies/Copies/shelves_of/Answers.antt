@@ -15,4 +15,4 @@ loop-unit-preserved g there copies =
     let pushed = g.in_ok-push_shelves.ensures.pushed found.ordered in
     let seen = ap (λ xs. xs ++ f (drop (i + 1) us)) (shelves_seen u copy.has_events (there u) rows found.same) in
     more_listed f g.loop-unit.mine _ us i (map (mine_row u rows) rows.shelves) _ u g.loop-unit-test.true g.unit-item.is seen pushed
-        (g.loop-unit.invariant there copies)
+    (g.loop-unit.invariant there copies)

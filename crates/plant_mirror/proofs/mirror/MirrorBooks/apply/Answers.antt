@@ -14,7 +14,7 @@ returns-in-Some-after-clause-made g c = λ m h known.
       copied = λ honest.
           let old = rw (sym c.in_ok-change_below.ensures.kept) at (h.copied (c.in_ok-change_below.ensures.honest honest)) in
           let it = taken_there u (get m.units) c.change_below.new.self.copies.units.entries (c.in-Some.unit, c.in-Some.copy) old
-              c.in-Some.ensures.taken in
+          c.in-Some.ensures.taken in
           let rest = c.take.ensures.rest (get m.units) (get after.units) (others_stay m u cs) old in
           let copy = c.in-Some-after.ensures m u it.1 in
           c.keep.ensures.kept (get after.units) (subst (λ (v : Name). IsCopy (get after.units) (v, c.in-Some-after.copy)) it.0 copy) rest;

@@ -4,5 +4,5 @@ use Rattle.plant_mirror.proofs.mirror.MirrorBooks.events.Goals as goal
 
 pub returns-in-Some-clause-found : goal.returns-in-Some-clause-found
 returns-in-Some-clause-found g c = λ m h honest.
-    subst (λ o. IfOk c.duplicate.result (λ events. events ≡ (unwrap_or o no_rows).events))
-    (sym (c.in-Some.ensures (get m.units) (h.copied honest))) c.duplicate.ensures.value
+    subst (λ o. IfOk c.copy.result (λ events. events ≡ (unwrap_or o no_rows).events))
+    (sym (c.in-Some.ensures (get m.units) (h.copied honest))) c.copy.ensures.value

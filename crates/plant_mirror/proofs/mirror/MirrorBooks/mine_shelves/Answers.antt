@@ -9,4 +9,4 @@ returns-in-Some-clause-found g c = λ m h honest.
     let found = c.in_ok-shelves.ensures.found (get m.units) copies in
     let shelves = subst (λ o. IfSome o (λ mine. mine ≡ flat_map (λ u. shelves_there u (get m.units u)) c.as_slice.result.now)) c.in-Some.is found in
     shelves ∙ ap (flat_map (λ u. shelves_there u (get m.units u))) (c.as_slice.ensures ∙ units)
-        ∙ held_shelves (get m.units) c.args.now c.args.person.now (keys m.units)
+    ∙ held_shelves (get m.units) c.args.now c.args.person.now (keys m.units)

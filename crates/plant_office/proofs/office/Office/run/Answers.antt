@@ -31,7 +31,7 @@ loop-call-preserved g c =
     let said = c.serve-answer.ensures in
     let before = c.loop-call.invariant in
     let more : take (i + 1) calls ≡ take i calls ++ call ∷ [] = take_more calls i call c.loop-call-test.true
-        ∙ ap (λ (x : Call). take i calls ++ x ∷ []) (sym c.call-item.is) in
+    ∙ ap (λ (x : Call). take i calls ++ x ∷ []) (sym c.call-item.is) in
     record {
       honest = λ t. before.honest (said.honest t);
       ran = λ m k w legal h honest.
@@ -68,7 +68,7 @@ loop-call-preserved g c =
       room = omega (arith, before.room, c.push_answer.ensures.room);
       count = λ room.
           stores_more _ _ _ (length calls) i c.loop-call.answers.items c.serve-answer.result (sym before.long) c.loop-call-test.true room
-              (before.count room) (few_stores c.loop-call.answers.items) said.count
+          (before.count room) (few_stores c.loop-call.answers.items) said.count
           ∙ ap (λ xs. g.B.Books.stores c.args.self.now.books + stores_in xs) (sym c.push_answer.ensures.items);
     }
 
@@ -76,29 +76,29 @@ pub returns-clause-ran : goal.returns-clause-ran
 returns-clause-ran g c = λ m k w legal h honest.
     let all : length c.args.calls.now ≡ c.loop-call.call-index = omega (arith, c.loop-call-test.false, c.loop-call.auto.call-index-end) in
     let whole : take c.loop-call.call-index c.args.calls.now ≡ c.args.calls.now = ap (λ n. take n c.args.calls.now) (sym all)
-        ∙ take-length c.args.calls.now in
+    ∙ take-length c.args.calls.now in
     subst (λ (xs : List Call). IsRun w xs c.loop-call.answers.items (g.B.Books.represents c.loop-call.self.books)) whole
-        (c.loop-call.invariant.ran m k w legal h honest)
+    (c.loop-call.invariant.ran m k w legal h honest)
 
 pub returns-clause-unchanged : goal.returns-clause-unchanged
 returns-clause-unchanged g c = λ m k quiet.
     let all : length c.args.calls.now ≡ c.loop-call.call-index = omega (arith, c.loop-call-test.false, c.loop-call.auto.call-index-end) in
     let whole : take c.loop-call.call-index c.args.calls.now ≡ c.args.calls.now = ap (λ n. take n c.args.calls.now) (sym all)
-        ∙ take-length c.args.calls.now in
+    ∙ take-length c.args.calls.now in
     c.loop-call.invariant.unchanged m k (subst (λ (xs : List Call). AllChangeNothing xs c.loop-call.answers.items) (sym whole) quiet)
 
 pub returns-clause-kept : goal.returns-clause-kept
 returns-clause-kept g c =
     let all : length c.args.calls.now ≡ c.loop-call.call-index = omega (arith, c.loop-call-test.false, c.loop-call.auto.call-index-end) in
     let whole : take c.loop-call.call-index c.args.calls.now ≡ c.args.calls.now = ap (λ n. take n c.args.calls.now) (sym all)
-        ∙ take-length c.args.calls.now in
+    ∙ take-length c.args.calls.now in
     subst (λ (xs : List Call). EachKeepsUnchanged g.B.Books.represents xs c.loop-call.answers.items c.args.self.now.books c.loop-call.self.books)
-        whole c.loop-call.invariant.kept
+    whole c.loop-call.invariant.kept
 
 pub returns-clause-endures : goal.returns-clause-endures
 returns-clause-endures g c =
     let all : length c.args.calls.now ≡ c.loop-call.call-index = omega (arith, c.loop-call-test.false, c.loop-call.auto.call-index-end) in
     let whole : take c.loop-call.call-index c.args.calls.now ≡ c.args.calls.now = ap (λ n. take n c.args.calls.now) (sym all)
-        ∙ take-length c.args.calls.now in
+    ∙ take-length c.args.calls.now in
     subst (λ (xs : List Call). EnduresAll (books_state g.B.Books c.args.self.now.books) (books_state g.B.Books c.loop-call.self.books) xs
-        c.loop-call.answers.items) whole c.loop-call.invariant.endures
+    c.loop-call.answers.items) whole c.loop-call.invariant.endures

@@ -13,9 +13,9 @@ returns-in-Refused g c =
       serves = serves_same (λ m k w legal h honest.
           let mid = c.taken.ensures.same m k in
           let v = opening_of m w call u _ _ _ h (c.administrator.ensures m mid) (c.in_ok-taken.ensures.found m k honest)
-              (subst (IsOpening _ _ _) c.in-Refused.is c.in_ok-refused.ensures.value) in
+          (subst (IsOpening _ _ _) c.in-Refused.is c.in_ok-refused.ensures.value) in
           leaves w call _ m (g.B.Books.represents c.taken.new.self) legal c.note_matrix.ensures
-              (refused_opening m w call u c.in-Refused.refused h c.requires.named c.requires.opening v) mid)
+          (refused_opening m w call u c.in-Refused.refused h c.requires.named c.requires.opening v) mid)
           c.taken.ensures.honest c.taken.ensures.same c.in_ok-taken.ensures.count tt c.taken.ensures.crash;
     }
 
@@ -33,11 +33,11 @@ returns g c =
             writes = failed.ensures.crash;
             known = λ m k w legal h honest.
                 let v = opening_of m w call u _ _ _ h (c.administrator.ensures m (c.taken.ensures.same m k)) (c.in_ok-taken.ensures.found m k honest)
-                    (subst (IsOpening _ _ _) c.in-Accepted.is c.in_ok-refused.ensures.value) in
+                (subst (IsOpening _ _ _) c.in-Accepted.is c.in_ok-refused.ensures.value) in
                 known_opening m w call u c.in-Accepted.reply _ v;
             meant = λ m k w legal h honest.
                 let v = opening_of m w call u _ _ _ h (c.administrator.ensures m (c.taken.ensures.same m k)) (c.in_ok-taken.ensures.found m k honest)
-                    (subst (IsOpening _ _ _) c.in-Accepted.is c.in_ok-refused.ensures.value) in
+                (subst (IsOpening _ _ _) c.in-Accepted.is c.in_ok-refused.ensures.value) in
                 holds_opened m w call u c.in-Accepted.reply _ legal h c.note_matrix.ensures c.requires.named c.requires.opening v;
             legal = λ w legal. next_legal w call legal c.note_matrix.ensures;
           });
@@ -52,10 +52,10 @@ returns-in-Ok g c =
           let mid = c.taken.ensures.same m k in
           let early = c.apply.ensures.honest honest in
           let v = opening_of m w call u _ _ _ h (c.administrator.ensures m mid) (c.in_ok-taken.ensures.found m k early)
-              (subst (IsOpening _ _ _) c.in-Accepted.is c.in_ok-refused.ensures.value) in
+          (subst (IsOpening _ _ _) c.in-Accepted.is c.in_ok-refused.ensures.value) in
           leaves w call _ (after_changes m u c.in-Accepted.changes)
-              (g.B.Books.represents c.apply.new.self) legal c.note_matrix.ensures
-              (accepted_opening m w call u c.in-Accepted.reply _ h c.requires.named c.requires.opening v)
+          (g.B.Books.represents c.apply.new.self) legal c.note_matrix.ensures
+          (accepted_opening m w call u c.in-Accepted.reply _ h c.requires.named c.requires.opening v)
           (c.in-Ok.ensures.made m mid (known_opening m w call u c.in-Accepted.reply _ v)))
           (λ honest. c.taken.ensures.honest (c.apply.ensures.honest honest)) (opening_changes call.request c.requires.opening)
           (c.in-Ok.ensures.count ∙ c.in_ok-taken.ensures.count)
@@ -65,11 +65,11 @@ returns-in-Ok g c =
             writes = c.in-Ok.ensures.crash;
             known = λ m k w legal h honest.
                 let v = opening_of m w call u _ _ _ h (c.administrator.ensures m (c.taken.ensures.same m k)) (c.in_ok-taken.ensures.found m k honest)
-                    (subst (IsOpening _ _ _) c.in-Accepted.is c.in_ok-refused.ensures.value) in
+                (subst (IsOpening _ _ _) c.in-Accepted.is c.in_ok-refused.ensures.value) in
                 known_opening m w call u c.in-Accepted.reply _ v;
             meant = λ m k w legal h honest.
                 let v = opening_of m w call u _ _ _ h (c.administrator.ensures m (c.taken.ensures.same m k)) (c.in_ok-taken.ensures.found m k honest)
-                    (subst (IsOpening _ _ _) c.in-Accepted.is c.in_ok-refused.ensures.value) in
+                (subst (IsOpening _ _ _) c.in-Accepted.is c.in_ok-refused.ensures.value) in
                 holds_opened m w call u c.in-Accepted.reply _ legal h c.note_matrix.ensures c.requires.named c.requires.opening v;
             legal = λ w legal. next_legal w call legal c.note_matrix.ensures;
           }) c.in-Ok.ensures.kept;

@@ -13,7 +13,7 @@ returns-in-Refused g c =
           let found = c.in_ok-part.ensures.found m k honest u c.requires.named in
           let v = on_history m w call u _ _ _ _ legal h found c.as_ref.ensures.value c.in_ok-refused.ensures.value c.in-Refused.is in
           leaves w call _ m (g.B.Books.represents c.part.new.self) legal c.note_matrix.ensures
-              (refused_call m w call u c.in-Refused.refused h c.requires.named c.requires.plain v) (c.part.ensures.same m k))
+          (refused_call m w call u c.in-Refused.refused h c.requires.named c.requires.plain v) (c.part.ensures.same m k))
           c.part.ensures.honest c.part.ensures.same c.in_ok-part.ensures.count tt c.part.ensures.crash;
     }
 
@@ -26,7 +26,7 @@ returns-then-is_read g c =
           let found = c.in_ok-part.ensures.found m k honest u c.requires.named in
           let v = on_history m w call u _ _ _ _ legal h found c.as_ref.ensures.value c.in_ok-refused.ensures.value c.in-Accepted.is in
           leaves w call _ m (g.B.Books.represents c.part.new.self) legal c.note_matrix.ensures
-              (read_call m w call u c.in-Accepted.reply _ h c.requires.named c.requires.plain (sym c.if-is_read.ensures) v) (c.part.ensures.same m k))
+          (read_call m w call u c.in-Accepted.reply _ h c.requires.named c.requires.plain (sym c.if-is_read.ensures) v) (c.part.ensures.same m k))
           c.part.ensures.honest c.part.ensures.same c.in_ok-part.ensures.count (sym c.if-is_read.ensures) c.part.ensures.crash;
     }
 
@@ -46,13 +46,13 @@ returns g c =
             writes = failed.ensures.crash;
             known = λ m k w legal h honest.
                 let v = on_history m w call u _ _ _ _ legal h (c.in_ok-part.ensures.found m k honest u c.requires.named) c.as_ref.ensures.value
-                    c.in_ok-refused.ensures.value c.in-Accepted.is in
+                c.in_ok-refused.ensures.value c.in-Accepted.is in
                 known_call m w call u c.in-Accepted.reply _ left h changes v;
             meant = λ m k w legal h honest.
                 let found = c.in_ok-part.ensures.found m k honest u c.requires.named in
                 let v = on_history m w call u _ _ _ _ legal h found c.as_ref.ensures.value c.in_ok-refused.ensures.value c.in-Accepted.is in
                 holds_meant m w call u c.in-Accepted.reply _ left legal h c.note_matrix.ensures c.requires.named c.requires.plain changes v
-                    (same_changes m call u c.in_ok-part.part c.in-Accepted.changes left found c.leave_out_same.ensures);
+                (same_changes m call u c.in_ok-part.part c.in-Accepted.changes left found c.leave_out_same.ensures);
             legal = λ w legal. next_legal w call legal c.note_matrix.ensures;
           });
     }
@@ -70,8 +70,8 @@ returns-in-Ok g c =
           let known = known_call m w call u c.in-Accepted.reply _ left h changes v in
           let same = same_changes m call u c.in_ok-part.part c.in-Accepted.changes left found c.leave_out_same.ensures in
           leaves w call _ (after_changes m u c.in-Accepted.changes)
-              (g.B.Books.represents c.apply.new.self) legal c.note_matrix.ensures
-              (changing_call m w call u c.in-Accepted.reply _ h c.requires.named c.requires.plain changes v)
+          (g.B.Books.represents c.apply.new.self) legal c.note_matrix.ensures
+          (changing_call m w call u c.in-Accepted.reply _ h c.requires.named c.requires.plain changes v)
           (subst (g.B.Books.represents c.apply.new.self) same (c.in-Ok.ensures.made m (c.part.ensures.same m k) known)))
           (λ honest. c.part.ensures.honest (c.apply.ensures.honest honest)) changes (c.in-Ok.ensures.count ∙ c.in_ok-part.ensures.count)
           (record {
@@ -80,13 +80,13 @@ returns-in-Ok g c =
             writes = c.in-Ok.ensures.crash;
             known = λ m k w legal h honest.
                 let v = on_history m w call u _ _ _ _ legal h (c.in_ok-part.ensures.found m k honest u c.requires.named) c.as_ref.ensures.value
-                    c.in_ok-refused.ensures.value c.in-Accepted.is in
+                c.in_ok-refused.ensures.value c.in-Accepted.is in
                 known_call m w call u c.in-Accepted.reply _ left h changes v;
             meant = λ m k w legal h honest.
                 let found = c.in_ok-part.ensures.found m k honest u c.requires.named in
                 let v = on_history m w call u _ _ _ _ legal h found c.as_ref.ensures.value c.in_ok-refused.ensures.value c.in-Accepted.is in
                 holds_meant m w call u c.in-Accepted.reply _ left legal h c.note_matrix.ensures c.requires.named c.requires.plain changes v
-                    (same_changes m call u c.in_ok-part.part c.in-Accepted.changes left found c.leave_out_same.ensures);
+                (same_changes m call u c.in_ok-part.part c.in-Accepted.changes left found c.leave_out_same.ensures);
             legal = λ w legal. next_legal w call legal c.note_matrix.ensures;
           }) c.in-Ok.ensures.kept;
     }

@@ -6,6 +6,8 @@ use Rattle.plant_store.proofs.tables.Tables.create.Goals as goal
 
 pub returns-in-Ok-clause-made : goal.returns-in-Ok-clause-made
 returns-in-Ok-clause-made g c =
-    let blank : (state g.S.Store c.args.conn).now.schema ≡ no_schema = search rules in
-    (c.of.ensures.admin, rw c.of.ensures.same
-    (λ honest. keeps_new (state g.S.Store c.make_all.new.conn) c.args.admin (c.in-Ok.ensures.made honest blank)))
+    let blank : (state g.S.Store c.args.conn).now.schema ≡ no_schema = search rules in (
+      c.of.ensures.admin,
+      rw c.of.ensures.same
+          (λ honest. keeps_new (state g.S.Store c.make_all.new.conn) c.args.admin (c.in-Ok.ensures.made honest blank)),
+    )

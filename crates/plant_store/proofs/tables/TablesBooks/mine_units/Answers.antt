@@ -5,7 +5,7 @@ pub returns-clause-found : goal.returns-clause-found
 returns-clause-found g c = λ m. rw (← c.self.view_is) (λ h honest.
     let then = c.heard.ensures.reads.honest honest in
     again_ok _ c.mine_units-said.result c.heard.result c.heard.ensures.said (c.mine_units-said.ensures.found then
-        m (h.1 (c.mine_units-said.ensures.reads.honest then))))
+    m (h.1 (c.mine_units-said.ensures.reads.honest then))))
 
 pub returns-clause-crash : goal.returns-clause-crash
 returns-clause-crash g c =

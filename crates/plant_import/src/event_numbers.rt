@@ -1,0 +1,184 @@
+//! Events by their numbers: how many of a file are new, and all events with those of a file.
+
+ghost use Rattle.std.specs.List.{list_all, list_any};
+ghost use Rattle.std.specs.Prelude.{◌≡◌, ◌↔◌, ◌++◌, [], IfOk, IsTrue, List, OnOk, false, length, option_map, slice_get, unwrap_or};
+ghost use Rattle.plant_alarm.specs.declared.event.Event.{Event as TheEvent};
+ghost use Rattle.plant_types.specs.Results.{OnlyMemory};
+ghost use Rattle.plant_import.specs.{Merging.{IsRising}, Needed.{is_before_all}};
+ghost use Rattle.plant_import.specs.Numbers.{AreByNumber, new_numbers, with_events, AreNumbered, with_event};
+ghost use Rattle.plant_import.specs.Numbers as numbers;
+
+use crate::relation::place_of;
+use plant_alarm::{Event, Number};
+use plant_types::{Fault, List, copy_all};
+use std::alloc::Global;
+use std::collections::BTreeMap;
+
+/// Whether the event at a place, if there is one, has this number.
+fn is_at(events: &[Event], place: usize, number: Number) -> bool
+    ensures { result ≡ unwrap_or
+        (option_map (numbers.has_number number) (slice_get events.now place)) false }
+{
+    events.get(place).is_some_and(|event| event.seq == number)
+}
+
+/// Whether one of the events, which stand in rising number, has this number.
+pub fn has_number(events: &[Event], number: Number) -> bool
+    ensures { AreNumbered events.now → result ≡ list_any (numbers.has_number number) events.now }
+{
+    is_at(events, place_of(events, number), number)
+}
+
+/// Whether the numbers of the events rise.
+pub fn rise(events: &[Event]) -> bool
+    ensures { IsTrue result ↔ AreNumbered events.now }
+{
+    events.is_sorted_by(|event, next| event.seq < next.seq)
+}
+
+/// How many numbers a file in rising number has that no kept event has. The kept events are in rising number too.
+fn count_rising(kept: &[Event], file: &[Event]) -> usize
+    ensures { AreNumbered kept.now → AreNumbered file.now
+        → result ≡ length (new_numbers kept.now file.now) }
+{
+    if come_after(file, kept) {
+        return file.len();
+    }
+    let mut count = 0;
+    for event in file {
+        if !has_number(kept, event.seq) {
+            count += 1;
+        }
+    }
+    count
+}
+
+/// How many numbers the file has that no kept event has, each counted once. The kept events are in rising number.
+pub fn count_new(alloc: Global, kept: &[Event], file: &[Event]) -> Result<usize, Fault>
+    ensures value { IsRising kept.now
+        → IfOk result (λ count. count ≡ length (new_numbers kept.now file.now)) }
+    ensures err { OnlyMemory result }
+{
+    if rise(file) {
+        return Ok(count_rising(kept, file));
+    }
+    let rising = in_rising_number(alloc, copy_all(alloc, file)?)?;
+    Ok(count_rising(kept, rising.as_slice()))
+}
+
+/// Puts an event among others by their numbers, over the one of its number if any.
+pub fn put(events: &mut BTreeMap<Number, Event>, event: Event) -> Result<(), Fault>
+    ensures value { (es : List TheEvent) → AreByNumber events.old es
+        → OnOk result (AreByNumber events.new (with_event event es)) }
+    ensures err { OnlyMemory result }
+{
+    events.insert(event.seq, event)?;
+    Ok(())
+}
+
+/// The events by their numbers. Of two with the same number the last counts.
+fn by_number(alloc: Global, events: List<Event>) -> Result<BTreeMap<Number, Event>, Fault>
+    ensures value { IfOk result (λ rising. AreByNumber rising (with_events [] events)) }
+    ensures err { OnlyMemory result }
+{
+    let mut rising = BTreeMap::new(alloc);
+    for event in events.into_vec() {
+        put(&mut rising, event)?;
+    }
+    Ok(rising)
+}
+
+/// The events in rising number; of two with the same number the last. Events that rise already stay as they stand.
+pub fn in_rising_number(alloc: Global, events: List<Event>) -> Result<List<Event>, Fault>
+    ensures value { IfOk result (λ rising. rising ≡ with_events [] events) }
+    ensures err { OnlyMemory result }
+{
+    if rise(events.as_slice()) {
+        return Ok(events);
+    }
+    let mut rising = List::new(alloc);
+    for event in by_number(alloc, events)?.into_values() {
+        rising.push(event)?;
+    }
+    Ok(rising)
+}
+
+/// Adds copies of the events.
+fn push_all(alloc: Global, all: &mut List<Event>, events: &[Event]) -> Result<(), Fault>
+    ensures value { OnOk result (all.new ≡ all.old ++ events.now) }
+    ensures err { OnlyMemory result }
+{
+    for event in events {
+        all.push(event.copy(alloc)?)?;
+    }
+    Ok(())
+}
+
+/// The events without the first, where it has this number.
+fn without_first(events: &[Event], number: Number) -> &[Event]
+    ensures { result.now ≡ numbers.behind_number number events.now }
+{
+    if is_at(events, 0, number) {
+        &events[1..]
+    } else {
+        events
+    }
+}
+
+/// Two lists of events in rising number as one. Of two with the same number that of the second counts.
+fn joined(alloc: Global, kept: &[Event], more: &[Event]) -> Result<List<Event>, Fault>
+    ensures value { AreNumbered kept.now → AreNumbered more.now
+        → IfOk result (λ all. all ≡ with_events kept.now more.now) }
+    ensures err { OnlyMemory result }
+{
+    let mut all = List::new(alloc);
+    let mut rest = kept;
+    for event in more {
+        let (below, above) = rest.split_at(place_of(rest, event.seq));
+        push_all(alloc, &mut all, below)?;
+        all.push(event.copy(alloc)?)?;
+        rest = without_first(above, event.seq);
+    }
+    push_all(alloc, &mut all, rest)?;
+    Ok(all)
+}
+
+/// The kept events and more of them, in any order, in rising number. The kept events are in rising number.
+pub fn events_after(alloc: Global, kept: &[Event], more: &[Event]) -> Result<List<Event>, Fault>
+    ensures value { IsRising kept.now → IfOk result (λ all. all ≡ with_events kept.now more.now) }
+    ensures err { OnlyMemory result }
+{
+    let rising = in_rising_number(alloc, copy_all(alloc, more)?)?;
+    if kept.is_empty() {
+        return Ok(rising);
+    }
+    joined(alloc, kept, rising.as_slice())
+}
+
+/// Whether events, in rising number, all come after others, in rising number too.
+fn come_after(events: &[Event], others: &[Event]) -> bool
+    ensures { AreNumbered others.now → AreNumbered events.now
+        → result ≡ list_all (is_before_all events.now) others.now }
+{
+    let Some(last) = others.last() else {
+        return true;
+    };
+    let Some(first) = events.first() else {
+        return true;
+    };
+    last.seq < first.seq
+}
+
+/// Puts events, in any order, among the kept ones, which are in rising number. Its time is that of the new events
+/// where these rise and come after all others, else that of going over the kept events once.
+pub fn put_events(alloc: Global, kept: &mut List<Event>, more: &[Event]) -> Result<(), Fault>
+    ensures value { AreNumbered kept.old → OnOk result (kept.new ≡ with_events kept.old more.now) }
+    ensures err { OnlyMemory result }
+{
+    if rise(more) && come_after(more, kept.as_slice()) {
+        return push_all(alloc, kept, more);
+    }
+    let rising = in_rising_number(alloc, copy_all(alloc, more)?)?;
+    *kept = joined(alloc, kept.as_slice(), rising.as_slice())?;
+    Ok(())
+}

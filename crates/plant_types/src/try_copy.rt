@@ -1,0 +1,46 @@
+ghost use Rattle.std.specs.Prelude.{◌≡◌, IfOk};
+ghost use Rattle.plant_types.specs.Results.{OnlyMemory};
+
+use crate::{Alphabet, Fault, List, Text};
+use std::alloc::Global;
+
+/// Values that can be copied, if there is memory for it.
+pub trait TryCopy: Drop {
+    /// The same value again. An error is of memory alone.
+    fn copy(&self, alloc: Global) -> Result<Self, Fault>
+        ensures value { IfOk result (λ x. x ≡ self.now) }
+        ensures err { OnlyMemory result };
+}
+
+impl<C: Alphabet> TryCopy for Text<C> {
+    fn copy(&self, alloc: Global) -> Result<Text<C>, Fault> {
+        self.copy(alloc)
+    }
+}
+
+impl<T: TryCopy> TryCopy for Option<T> {
+    fn copy(&self, alloc: Global) -> Result<Option<T>, Fault> {
+        match self {
+            None => Ok(None),
+            Some(value) => Ok(Some(value.copy(alloc)?)),
+        }
+    }
+}
+
+impl<T: TryCopy> TryCopy for List<T> {
+    fn copy(&self, alloc: Global) -> Result<List<T>, Fault> {
+        copy_all(alloc, self.as_slice())
+    }
+}
+
+/// The list of the same values again.
+pub fn copy_all<T: TryCopy>(alloc: Global, rows: &[T]) -> Result<List<T>, Fault>
+    ensures value { IfOk result (λ t. t ≡ rows.now) }
+    ensures err { OnlyMemory result }
+{
+    let mut copies = Vec::with_capacity(alloc, rows.len())?;
+    for row in rows {
+        copies.push(row.copy(alloc)?)?;
+    }
+    Ok(List::from_vec(copies))
+}
