@@ -38,8 +38,8 @@ opened_after opened u cs = record { unit = u; rows = changed_by cs (unwrap_or (r
 abbrev pub listed_after : List OpenedUnit → Name → List RowEdit → List OpenedUnit
 listed_after opened u cs = put_row unit_cmp (λ o. o) (opened_after opened u cs) opened
 
--- the administrator is that of the content, and the units are its codes with their rows, in the order of codes; the rows of each
--- are in the order of their keys
+-- the administrator is that of the content, and the units are its codes with their rows, in the order of codes; the
+-- rows of each are in the order of their keys
 pub record IsListed (administrator : Name) (opened : List OpenedUnit) (m : Content) : Type 0 where
   pub admin : administrator ≡ m.admin
   pub units : map (λ o. (o.unit, o.rows)) opened ≡ entries m.units

@@ -36,8 +36,8 @@ pub trait Books {
     /// How many answers were `Store`.
     ghost stores: { Self → ℕ };
 
-    /// The keeper's premise on a crash: that its store's disk has returned what was written to it, whether or not a failure
-    /// has shut the store. Where it holds after a call, it held before.
+    /// The keeper's premise on a crash: that its store's disk has returned what was written to it, whether or not a
+    /// failure has shut the store. Where it holds after a call, it held before.
     ghost is_clean: { Self → Type 0 };
 
     /// The next opening after a crash at this moment may find books with this content.
@@ -50,7 +50,8 @@ pub trait Books {
     fn settle(&self)
         ensures { IsSettled represents is_honest is_clean leaves_books may_leave self.now };
 
-    /// Whether a failure has shut the store behind these books, which are never honest again then. It asks no store and takes no memory.
+    /// Whether a failure has shut the store behind these books, which are never honest again then. It asks no store and
+    /// takes no memory.
     fn is_shut(&self) -> bool
         ensures { IsTrue result → ¬ is_honest self.now };
 
@@ -112,8 +113,8 @@ pub trait Books {
         ensures crash { LosesNothing represents is_honest is_clean leaves_books may_leave self.old self.new }
         ensures count { CountsBy stores self.old self.new result };
 
-    /// The units in which the person holds a role at the moment, in the order of their codes, each once, with the roles in
-    /// the order of their numbers.
+    /// The units in which the person holds a role at the moment, in the order of their codes, each once, with the roles
+    /// in the order of their numbers.
     fn mine_units(&mut self, person: &Person, now: Moment) -> Result<List<MineUnit>, Fault>
         ensures found { Finds represents is_honest self.old self.new result
             (λ m. mine_units m now person.now) }
@@ -122,8 +123,8 @@ pub trait Books {
         ensures crash { LosesNothing represents is_honest is_clean leaves_books may_leave self.old self.new }
         ensures count { CountsBy stores self.old self.new result };
 
-    /// Every shelf of the units in which the person holds a role at the moment, in the order of units and tags, each once.
-    /// Shelves whose time has passed are among them.
+    /// Every shelf of the units in which the person holds a role at the moment, in the order of units and tags, each
+    /// once. Shelves whose time has passed are among them.
     fn mine_shelves(&mut self, person: &Person, now: Moment) -> Result<List<MineRow>, Fault>
         ensures found { Finds represents is_honest self.old self.new result
             (λ m. mine_shelves m now person.now) }
@@ -133,8 +134,8 @@ pub trait Books {
         ensures count { CountsBy stores self.old self.new result };
 
     /// Makes the changes to this unit's rows in their order: all of them, or none. Where the caller has seen the unit's
-    /// rows of the keys that are put, a row whose key is not among them may be put as a new one, which spares a search; if
-    /// there is one nevertheless, that is a fault of the store.
+    /// rows of the keys that are put, a row whose key is not among them may be put as a new one, which spares a search;
+    /// if there is one nevertheless, that is a fault of the store.
     fn apply(
         &mut self,
         unit: &UnitCode,

@@ -47,8 +47,8 @@ pub fn put<T: Keyed>(rows: &mut List<T>, row: T) -> Result<(), Fault>
     }
 }
 
-/// The place of the row of the same key, or else the place where the row belongs, found by halving: the rows stand in the
-/// order of their keys.
+/// The place of the row of the same key, or else the place where the row belongs, found by halving: the rows stand in
+/// the order of their keys.
 fn sorted_place<T: Keyed>(rows: &[T], row: &T) -> Result<usize, usize>
     ensures { IfSorted T.order rows.now (IsPlaceFor T.order row.now rows.now result) }
 {

@@ -35,8 +35,8 @@ fn counted<T: Drop>(stores: &mut u64, said: Result<T, Fault>) -> Result<T, Fault
     }
 }
 
-/// A keeper of books in lists, in the order of the units' codes. It answers `Store` only where a unit has more rows than a part can
-/// count.
+/// A keeper of books in lists, in the order of the units' codes. It answers `Store` only where a unit has more rows
+/// than a part can count.
 #[derive(Drop)]
 pub struct Plain {
     administrator: Person,

@@ -55,8 +55,8 @@ fn sources(
     Ok(numbers)
 }
 
-/// The numbers of the changes that the scope takes in of a unit with these records. Records that it does not take in may
-/// be missing.
+/// The numbers of the changes that the scope takes in of a unit with these records. Records that it does not take in
+/// may be missing.
 pub fn change_numbers(
     alloc: Global,
     records: &[RecordEntry],

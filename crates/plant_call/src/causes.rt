@@ -6,7 +6,8 @@ use plant_ration::MatrixFault;
 use plant_types::Fault;
 use std::alloc::AllocError;
 
-/// What is wrong with a malformed request. The first five end the session, since it isn't known where the next request begins.
+/// What is wrong with a malformed request. The first five end the session, since it isn't known where the next request
+/// begins.
 #[derive(Clone, Copy, Debug, PartialEq, Eq)]
 pub enum Cause {
     /// What was received can't be the beginning of a head.

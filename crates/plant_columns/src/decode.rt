@@ -1,4 +1,5 @@
-//! Typed rows from the rows that a query shows. A value outside its column's set is an error other than that memory ran out.
+//! Typed rows from the rows that a query shows. A value outside its column's set is an error other than that memory ran
+//! out.
 
 ghost use Rattle.std.specs.Prelude.{◌≡◌, ℕ, map, IfErr, IfOk, IsTrue};
 ghost use Rattle.sqlite_value.specs.{Order.{column, Row as SqlRow}, declared.value.Value.TheVariants.{Text as TextValue}};

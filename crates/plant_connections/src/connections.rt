@@ -37,7 +37,8 @@ pub trait Listener {
     fn linger(requests: Self::Requests, answers: Self::Answers);
 }
 
-/// Whether the client may still be sending after this end: the office ended the session, and not because of a read or a write.
+/// Whether the client may still be sending after this end: the office ended the session, and not because of a read or a
+/// write.
 fn may_send(end: End) -> bool {
     match end {
         End::BrokenInput | End::Fault => true,

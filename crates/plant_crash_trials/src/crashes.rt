@@ -87,7 +87,8 @@ fn found_in<D: Crash + Drop>(
     Tables::open(rt.alloc(), conn, root).ok()
 }
 
-/// How many exchanges at the front were answered as expected, by the bytes that were written. Behind them no change was confirmed.
+/// How many exchanges at the front were answered as expected, by the bytes that were written. Behind them no change was
+/// confirmed.
 fn answered(rt: &(impl Abort + AllocGlobal), wanted: &Exchanges, written: &[u8]) -> usize {
     let mut rest = written;
     let mut count = 0usize;
@@ -123,8 +124,8 @@ fn hold_first(
     hold_alike(found, &mut lists, &wanted.units).expect(rt, "rows")
 }
 
-/// One session on these disks, with rows at hand, and then a power cut. The next start finds what was answered, or that and the call
-/// that was being served; nothing was lost if all was answered. Gives how many were answered.
+/// One session on these disks, with rows at hand, and then a power cut. The next start finds what was answered, or that
+/// and the call that was being served; nothing was lost if all was answered. Gives how many were answered.
 fn survives<D: Crash + Drop>(
     rt: &(impl Abort + AllocGlobal),
     wanted: &Exchanges,
@@ -151,7 +152,8 @@ fn survives<D: Crash + Drop>(
     count
 }
 
-/// At how many calls of the log's disk something is cut off: it stops at each in turn, until all exchanges are answered.
+/// At how many calls of the log's disk something is cut off: it stops at each in turn, until all exchanges are
+/// answered.
 fn cut_at_the_log(rt: &(impl Abort + AllocGlobal), wanted: &Exchanges) -> u64 {
     for calls in 0..10_000u64 {
         let count = survives(rt, wanted, fused(rt, calls), fused(rt, u64::MAX));

@@ -1,5 +1,6 @@
-//! Calls that run out of memory and are made again. `scripts/refuse-each` runs a test here once for each of its allocations, and
-//! refuses that one. Ours are the books that are tested; theirs are lists that have had every call but the next one of ours.
+//! Calls that run out of memory and are made again. `scripts/refuse-each` runs a test here once for each of its
+//! allocations, and refuses that one. Ours are the books that are tested; theirs are lists that have had every call but
+//! the next one of ours.
 
 use plant_books::Plain;
 use plant_examples::{BASE, Exchanges, IMPORTED_TWICE, RECORDED, REVIEWED, STAFFED, THREE_ROWS};
@@ -50,7 +51,8 @@ fn hold_the_same(
     assert!(rt; is_alike, "{title}");
 }
 
-/// Our answer to a call, and our books after it. Where it runs out of memory ours hold what they held, and it is made again.
+/// Our answer to a call, and our books after it. Where it runs out of memory ours hold what they held, and it is made
+/// again.
 fn our_answer<B: Books + Drop>(
     rt: &(impl Abort + AllocGlobal + Eprint),
     ours: B,
@@ -121,8 +123,8 @@ fn serves_at_hand<B: Books + Drop>(
     hold_the_same(rt, &mut below, &mut theirs, &wanted.units, "below");
 }
 
-/// Makes the calls in one run and returns their answers and our books. If there is no memory for the answers, our books must be
-/// unchanged; the run is then made again.
+/// Makes the calls in one run and returns their answers and our books. If there is no memory for the answers, our books
+/// must be unchanged; the run is then made again.
 fn our_run<B: Books + Drop>(
     rt: &(impl Abort + AllocGlobal + Eprint),
     ours: B,
@@ -178,8 +180,8 @@ fn place_of_fault(rt: &impl Eprint, answers: &[Answer]) -> usize {
     answers.len()
 }
 
-/// Where a call of a run lacks memory, the other calls are answered as if it had not been made, and so are the rows that they
-/// leave. The calls from that one on are then made again.
+/// Where a call of a run lacks memory, the other calls are answered as if it had not been made, and so are the rows
+/// that they leave. The calls from that one on are then made again.
 fn runs_through_faults<B: Books + Drop>(
     rt: &(impl Abort + AllocGlobal + Eprint),
     ours: B,

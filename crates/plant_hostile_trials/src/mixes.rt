@@ -1,5 +1,5 @@
-//! Weeks of 100,000 events in three mixes, over tables behind rows at hand: the floods of each are listed within a second, and
-//! in under 100 ms once the events are at hand.
+//! Weeks of 100,000 events in three mixes, over tables behind rows at hand: the floods of each are listed within a
+//! second, and in under 100 ms once the events are at hand.
 
 use plant_examples::{BASE, Exchanges, add_answer, add_request};
 use plant_office::Books;
@@ -135,8 +135,8 @@ fn floods<B: Books + Drop>(
     (answers, taken, books)
 }
 
-/// The floods of the week are listed below this heading, and the first has this line. The first answer, which reads the events
-/// from the tables, takes less than a second, and the next, from memory, less than 100 ms.
+/// The floods of the week are listed below this heading, and the first has this line. The first answer, which reads the
+/// events from the tables, takes less than a second, and the next, from memory, less than 100 ms.
 fn lists_floods(
     rt: &(impl Abort + AllocGlobal + Clock + Eprint),
     mix: Mix,

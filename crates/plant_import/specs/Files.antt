@@ -1,4 +1,5 @@
--- Files that are merged one after another: which file has which rows, and in which order they come, makes no difference.
+-- Files that are merged one after another: which file has which rows, and in which order they come, makes no
+-- difference.
 use Rattle.std.specs.{List.{list_all, list_any}, Prelude.{flat_map, Bool, List, [], is_none, length, nat_lt, not, true, ℕ, ◌&&◌, ◌++◌, ◌+◌, ◌∷◌, ◌≡◌}}
 use Rattle.plant_alarm.specs.declared.event.Event.{Event}
 use Rattle.plant_import.specs.Merging.{clashes, first_fault, fresh, out_of_order, same_event}
@@ -42,8 +43,8 @@ are_known tags rows = list_all (λ e. list_any (same_name e.tag) tags) rows
 abbrev pub none_ahead : List Event → List Brought → Bool
 none_ahead rows files = list_all (λ b. list_all (λ e. not (nat_lt b.0 e.moment)) rows) files
 
--- two lists of files with the same rows, repeats and order aside, which fit together and with the kept events: all are taken,
--- the same events are kept after both, and as many rows are new, which are those that were not kept
+-- two lists of files with the same rows, repeats and order aside, which fit together and with the kept events: all are
+-- taken, the same events are kept after both, and as many rows are new, which are those that were not kept
 pub record Agree (tags : List Name) (kept : List Event) (xs ys : List Brought) : Type 0 where
   pub first_taken : are_taken tags kept xs ≡ true
   pub second_taken : are_taken tags kept ys ≡ true

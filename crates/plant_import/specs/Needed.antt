@@ -1,5 +1,6 @@
--- The kept events that an import needs. A row's neighbours by number show whether it is faulty, and whether it is kept already. An
--- alarm's state can be brought forward from its last event, as long as no new row has a smaller number than that event.
+-- The kept events that an import needs. A row's neighbours by number show whether it is faulty, and whether it is kept
+-- already. An alarm's state can be brought forward from its last event, as long as no new row has a smaller number than
+-- that event.
 use Rattle.std.specs.List.{list_all, list_any}
 use Rattle.std.specs.Prelude.{Bool, List, None, [], drop, false, filter, if◌then◌else◌, length, nat_lt, not, ℕ, ◌&&◌, ◌++◌, ◌-◌, ◌≡◌}
 use Rattle.plant_alarm.specs.declared.event.Event.{Event}

@@ -71,7 +71,8 @@ fn first_from(events: &BTreeMap<Number, Event>, seq: Number) -> Option<&Event>
     }
 }
 
-/// How an event relates to events in rising number whose moments don't fall, of which these are the nearest to its number.
+/// How an event relates to events in rising number whose moments don't fall, of which these are the nearest to its
+/// number.
 pub fn relation_of(nearest: Nearest<'_>, event: &Event) -> Relation
     ensures { (es : List TheEvent) → IsRising es → AreNearest es event.now.seq nearest.entry
         → IsRelated es event.now result }

@@ -21,9 +21,9 @@ fn answered(rt: &(impl Abort + AllocGlobal), answer: &Answer) -> Option<Vec<u8>>
     Some(bytes_of(rt.alloc(), answer).expect(rt, "memory"))
 }
 
-/// What a call answers whose statements may each take so many steps, or nothing where that is a fault of the store; and the books
-/// after it, without that limit. The answer is dropped by its own name: at the end of a scope the prover goes through every kind of
-/// answer.
+/// What a call answers whose statements may each take so many steps, or nothing where that is a fault of the store; and
+/// the books after it, without that limit. The answer is dropped by its own name: at the end of a scope the prover goes
+/// through every kind of answer.
 fn limited(
     rt: &(impl Abort + AllocGlobal),
     mut books: Tables<MemStore>,
@@ -81,8 +81,8 @@ fn is_wanted(
     assert_eq!(rt; text(answer), text(due));
 }
 
-/// The books hold what they held before the call between these marks, as lists do; the call is then answered as expected, and leaves
-/// the same rows as over lists.
+/// The books hold what they held before the call between these marks, as lists do; the call is then answered as
+/// expected, and leaves the same rows as over lists.
 fn goes_on(
     rt: &(impl Abort + AllocGlobal),
     mut books: Tables<MemStore>,
@@ -98,8 +98,8 @@ fn goes_on(
     check_rows(&mut ours, &mut books, &wanted.units).expect(rt, "after the call");
 }
 
-/// Whether the call passes with so many steps, answered as expected. Otherwise it is a fault that leaves the rows as they
-/// were, and the same call without a limit is then answered as expected and leaves the same rows as over lists.
+/// Whether the call passes with so many steps, answered as expected. Otherwise it is a fault that leaves the rows as
+/// they were, and the same call without a limit is then answered as expected and leaves the same rows as over lists.
 fn passes(
     rt: &(impl Abort + AllocGlobal),
     wanted: &Exchanges,
@@ -146,8 +146,8 @@ fn changes_nothing_where_a_call_is_interrupted(rt: HostRuntime) {
     }
 }
 
-/// Tables after the call between these marks, which is made with no step, with one, and so on until it is answered as expected. Each
-/// fault leaves the rows as they were, which are those of the lists.
+/// Tables after the call between these marks, which is made with no step, with one, and so on until it is answered as
+/// expected. Each fault leaves the rows as they were, which are those of the lists.
 fn after_interruptions(
     rt: &(impl Abort + AllocGlobal),
     mut books: Tables<MemStore>,

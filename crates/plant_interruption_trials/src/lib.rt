@@ -1,5 +1,5 @@
-//! Offices that are interrupted, as tests alone: calls whose statements may take only so many steps, and disks on which a sync
-//! fails.
+//! Offices that are interrupted, as tests alone: calls whose statements may take only so many steps, and disks on which
+//! a sync fails.
 #![tactic(auto)]
 
 #[cfg(test)]

@@ -120,7 +120,8 @@ fn books_over<D: Disk + Drop>(
     Tables::create(rt.alloc(), conn, root(rt.alloc()).expect(rt, "a person")).ok()
 }
 
-/// Whether the call is answered by a fault of the store. Any other answer is the one that is expected between these marks.
+/// Whether the call is answered by a fault of the store. Any other answer is the one that is expected between these
+/// marks.
 fn is_faulty<B: Books>(
     rt: &(impl Abort + AllocGlobal),
     office: &mut Office<B>,

@@ -1,4 +1,5 @@
-//! The lowest crates, as tests alone: moments, tables, roles and faults; copies of changes; floods; and what import files add.
+//! The lowest crates, as tests alone: moments, tables, roles and faults; copies of changes; floods; and what import
+//! files add.
 #![tactic(auto)]
 
 #[cfg(test)]

@@ -9,8 +9,8 @@ pub record IsHeld (held : Held) : Type 0 where
   pub lines : AreOpenLines held.count held.lines.items
   pub few : held.count ≤ held.n
 
--- One turn, from one state of the books, of what is seen and of the lines to another. Where `left` is false, it leaves no
--- request that can be answered now, if there was none before.
+-- One turn, from one state of the books, of what is seen and of the lines to another. Where `left` is false, it leaves
+-- no request that can be answered now, if there was none before.
 pub record IsTurn {B : Type 0} (b : Ghosts B) (x y : B) (s t : Seen) (before after : Held) (left : Bool) : Type 0 where
   pub happened : Happened b x y s t before.count after.count before.lines.items after.lines.items
   pub held : IsHeld after

@@ -337,8 +337,8 @@ fn added(faults: Faults, those: Faults) -> Faults
     }
 }
 
-/// Writes a line for each kind of fault that the office has answered since it was last asked, unless one was written for
-/// this line. What can't be written is passed over.
+/// Writes a line for each kind of fault that the office has answered since it was last asked, unless one was written
+/// for this line. What can't be written is passed over.
 fn report_faults<B: Books, E: Write>(errors: &mut E, line: &mut Line, office: &mut Office<B>)
     ensures same { line.new ≡ reporting line.old line.new.faults }
     ensures books { office.new.books ≡ office.old.books }

@@ -303,8 +303,8 @@ fn is_over<B: Books>(while_open: bool, office: &Office<B>) -> bool
 /// but through the office.
 ///
 /// If it is to go on only `while_open`, it halts once a failure has shut the store: after the turn in which that was
-/// answered, and in which the ports took what they could of the answer. Then it also writes to the errors which kinds of
-/// faults each connection was answered.
+/// answered, and in which the ports took what they could of the answer. Then it also writes to the errors which kinds
+/// of faults each connection was answered.
 pub fn serve_lines<P: Ports, B: Books, W: Write, E: Write>(
     alloc: Global,
     ports: &mut P,

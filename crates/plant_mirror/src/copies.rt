@@ -153,8 +153,8 @@ impl Copies {
         }
     }
 
-    /// Keeps a copy of a unit's rows, in the place of those that were longest not used. Nothing is kept of a unit that has
-    /// more rows than may be at hand, nor if memory runs out.
+    /// Keeps a copy of a unit's rows, in the place of those that were longest not used. Nothing is kept of a unit that
+    /// has more rows than may be at hand, nor if memory runs out.
     pub fn keep(&mut self, unit: UnitCode, copy: AtHand)
         ensures kept { StayCopiesWith (unit, copy) self.old.units.entries self.new.units.entries }
         ensures limit { self.new.limit ≡ self.old.limit }

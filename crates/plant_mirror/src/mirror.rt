@@ -15,8 +15,8 @@ use plant_types::limits::MAX_ROWS_AT_HAND;
 use plant_types::{Fault, List, Moment, Person, TryCopy, UnitCode};
 use std::alloc::Global;
 
-/// A keeper over another, with the rows of the units that were last used at hand. The events of a unit are brought to hand at
-/// the first call that looks at them.
+/// A keeper over another, with the rows of the units that were last used at hand. The events of a unit are brought to
+/// hand at the first call that looks at them.
 #[derive(Drop)]
 pub struct Mirror<B: Books> {
     books: B,
@@ -31,7 +31,8 @@ fn is_among(unit: &UnitCode, units: &[UnitCode]) -> bool
     units.iter().any(|other| *unit == *other)
 }
 
-/// The part that was made of rows at hand. None where they are more than a part can count: the books below are to say so.
+/// The part that was made of rows at hand. None where they are more than a part can count: the books below are to say
+/// so.
 fn made(said: Result<UnitPart, Fault>) -> Result<Option<UnitPart>, Fault>
     ensures same { IfOk result (λ made. IfSome made (λ part. said ≡ Ok part)) }
     ensures memory { OnlyMemory result }
@@ -159,8 +160,8 @@ impl<B: Books> Mirror<B> {
         Ok(is_among(unit, units.as_slice()))
     }
 
-    /// Brings the rows of a unit to hand, with the events if the call looks at them. For a caller who holds no role in the
-    /// unit nothing is read.
+    /// Brings the rows of a unit to hand, with the events if the call looks at them. For a caller who holds no role in
+    /// the unit nothing is read.
     fn bring_for(&mut self, unit: &UnitCode, call: &Call) -> Result<(), Fault>
         ensures leaves { Leaves B.Books result self.old self.new }
     {
@@ -181,7 +182,8 @@ impl<B: Books> Mirror<B> {
         }
     }
 
-    /// Makes the changes below. Where that fails, nothing stays at hand: books that have shut are to be asked, and to say so.
+    /// Makes the changes below. Where that fails, nothing stays at hand: books that have shut are to be asked, and to
+    /// say so.
     fn change_below(
         &mut self,
         unit: &UnitCode,
@@ -205,8 +207,8 @@ impl<B: Books> Mirror<B> {
         changed
     }
 
-    /// The part of a call on this unit from what is at hand; none where that does not serve the call, or has more rows than a part
-    /// can count.
+    /// The part of a call on this unit from what is at hand; none where that does not serve the call, or has more rows
+    /// than a part can count.
     fn ready_part(&self, unit: &UnitCode, call: &Call) -> Result<Option<UnitPart>, Fault>
         ensures found { (m : Content) → Mirrors B.Books self.now m → B.is_honest self.now.books
             → unit_named call.now.request ≡ Some unit.now

@@ -1,4 +1,5 @@
--- Alarms: their registration, the limit MaxTimeShelved of OPC 10000-9 that is in force, and the unit's quota of shelves.
+-- Alarms: their registration, the limit MaxTimeShelved of OPC 10000-9 that is in force, and the unit's quota of
+-- shelves.
 use Rattle.std.specs.Prelude.{Bool, List, None, Option, Some, option_map, unwrap_or, ℕ}
 use Rattle.plant_model.specs.{Changes.{approved_limit}, Histories.{latest}, Kinds.{Registration, says}, declared.call.Call.{Call}}
 use Rattle.plant_model.specs.declared.call.Request.{Request}

@@ -1,4 +1,5 @@
--- What each call does to a unit: its refusals in their order, its reply and its changes, with one line a kind in each table.
+-- What each call does to a unit: its refusals in their order, its reply and its changes, with one line a kind in each
+-- table.
 use Rattle.std.specs.Prelude.{Bool, List, None, Option, Some, [], false, is_none, is_some, nat_le, nat_lt, not, true, ℕ, ◌&&◌, ◌++◌, ◌+◌, ◌∷◌}
 use Rattle.plant_alarm.specs.Shelves.{is_one_shot, is_timed, is_unshelved}
 use Rattle.plant_model.specs.{Changes.{change_as}, Events.{flood_lines, is_aligned, rows_of_file}, Facts.{Facts, is_out, limit_of, shelf_now}}

@@ -71,8 +71,8 @@ new_counted h (c ∷ calls) = new_in (verdict h c) + new_counted (c ∷ h) calls
 abbrev pub but_last : UnitRows → UnitRows
 but_last rows = record rows { units = map (λ (r : UnitRow). record r { last_s = 0 }) rows.units }
 
--- all imports of both lists are accepted, the rows after both are the same but for the last moment, and their answers say that as
--- many rows were new, which are those that were not kept
+-- all imports of both lists are accepted, the rows after both are the same but for the last moment, and their answers
+-- say that as many rows were new, which are those that were not kept
 pub record AreAlike (h : List Call) (xs ys : List Call) : Type 0 where
   pub first_accepted : AreAccepted h xs
   pub second_accepted : AreAccepted h ys
@@ -80,8 +80,8 @@ pub record AreAlike (h : List Call) (xs ys : List Call) : Type 0 where
   pub counted : new_counted h xs ≡ length (fresh (events h) (rows_imported xs))
   pub same_counted : new_counted h xs ≡ new_counted h ys
 
--- two lists of imports into the unit of a legal history that have the same rows, repeats and order aside, which fit together with
--- the kept events and are at most 100,000 with them
+-- two lists of imports into the unit of a legal history that have the same rows, repeats and order aside, which fit
+-- together with the kept events and are at most 100,000 with them
 abbrev pub ImportsAgree : Type 0
 ImportsAgree =
     (h : List Call) (u : Name) (xs ys : List Call)

@@ -1,5 +1,5 @@
--- The kinds of calls: what all calls of a kind have in common, and what a request of each kind is about, says and looks at.
--- Each table has one line a kind.
+-- The kinds of calls: what all calls of a kind have in common, and what a request of each kind is about, says and looks
+-- at. Each table has one line a kind.
 use Rattle.std.specs.Prelude.{Bool, Err, List, None, Ok, Option, Result, Some, [], false, true, ℕ}
 use Rattle.plant_alarm.specs.declared.event.Event.{Event}
 use Rattle.plant_import.specs.declared.bad_file.BadFile.{BadFile}
@@ -37,7 +37,8 @@ kind_of (request.Floods u begin until) = kind.Floods
 kind_of request.MyUnits = kind.MyUnits
 kind_of request.MyShelves = kind.MyShelves
 
--- what a request is about: one unit, or the units in which its caller holds a role, as a list of them or of their shelves
+-- what a request is about: one unit, or the units in which its caller holds a role, as a list of them or of their
+-- shelves
 pub data Subject : Type 0 where
   OneUnit : Name → Subject
   OwnUnits : Subject
@@ -77,7 +78,8 @@ unit_of OwnShelves = None
 abbrev pub unit_named : Request → Option Name
 unit_named r = unit_of (subject_of r)
 
--- what calls of a kind do to their unit's history, the role that they need, where they need one in particular, and the count that they need
+-- what calls of a kind do to their unit's history, the role that they need, where they need one in particular, and the
+-- count that they need
 abbrev pub traits_of : CallKind → Effect × Option Role × Counted
 traits_of kind.OpenUnit = (Opens, None, count.Nothing)
 traits_of kind.Grant = (Changes, Some Steward, count.Nothing)
@@ -183,7 +185,8 @@ silent = record {
   decision = None;
 }
 
--- what a request says once it is an entry. An opening also makes its first steward a Steward, for good; a request that only reads says nothing
+-- what a request says once it is an entry. An opening also makes its first steward a Steward, for good; a request that
+-- only reads says nothing
 abbrev pub says : Request → Sayings
 says (request.OpenUnit u s m q) =
     record silent {

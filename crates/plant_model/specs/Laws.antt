@@ -11,7 +11,8 @@ use Rattle.plant_model.specs.{Worlds.{mine_line, mine_lines, next, unit_named, u
 use Rattle.plant_model.specs.declared.reply.{AlarmLine.{AlarmLine}, ShelfLine.{ShelfLine}, StandingLine.{StandingLine}}
 use Rattle.plant_alarm.specs.{Shelves.{is_unshelved, shelf_of}, declared.shelf.ShelfState.{ShelfState}}
 
--- a call that names no unit that the person sees, and grants the person nothing, changes nothing that the person sees of the units
+-- a call that names no unit that the person sees, and grants the person nothing, changes nothing that the person sees
+-- of the units
 abbrev pub UnseenCallsChangeNothing : Type 0
 UnseenCallsChangeNothing =
     (w : World) (p : Name) (t : ℕ) (c : Call)
@@ -42,7 +43,8 @@ CallsToSeenUnits =
     → holds_any (history w u) t p ≡ true
     → (answer w c ≡ answer v c) × (view t p (next w c) ≡ view t p (next v c))
 
--- a person's calls get the answers that they would get had no one else called on units in which the person never had a pair
+-- a person's calls get the answers that they would get had no one else called on units in which the person never had a
+-- pair
 abbrev pub OthersCallsCanGo : Type 0
 OthersCallsCanGo =
     (admin p : Name) (units : Name → Bool) (calls : List Call)
@@ -77,7 +79,8 @@ QuotaOf2000RefusesNothing =
     (h : List Call) → IsLegal h → (a : Name) (t : ℕ) → is_some (alarm_row h a) ≡ true
     → others_shelved (facts h) a t < max_quota
 
--- the shelf of an alarm at a moment, as all its events leave it: a one-shot shelf holds until some return after its start
+-- the shelf of an alarm at a moment, as all its events leave it: a one-shot shelf holds until some return after its
+-- start
 abbrev pub shelf_in_history : List Call → Name → ℕ → ShelfState
 shelf_in_history h a t = shelf_of (shelf_left (shelf h a)) (events_of h a) t
 
@@ -90,8 +93,8 @@ abbrev pub others_in_history : List Call → Name → ℕ → ℕ
 others_in_history h a t =
     count_by (λ s. not (same_name a s.tag) && not (is_unshelved (shelf_in_history h s.tag t))) (shelf_rows h)
 
--- all that a verdict and its reply say of shelves at a moment is that: the state of one alarm, the lines of shelves, of alarms and of
--- standing alarms, and what is counted for the quota
+-- all that a verdict and its reply say of shelves at a moment is that: the state of one alarm, the lines of shelves, of
+-- alarms and of standing alarms, and what is counted for the quota
 pub record SaysShelves (h : List Call) (t : ℕ) : Type 0 where
   pub state : (a : Name) → shelf_now (facts h) a t ≡ shelf_in_history h a t
   pub lines : shelf_lines (facts h) t ≡ lines_in_history h t

@@ -25,7 +25,8 @@ pub record IsEntryOf (u : Name) (c : Call) : Type 0 where
   pub own : unit_named c.request ≡ Some u
   pub values : has_values c.request ≡ true
 
--- a history begins with its unit's opening by the administrator, and all later entries are the unit's own and no openings
+-- a history begins with its unit's opening by the administrator, and all later entries are the unit's own and no
+-- openings
 abbrev pub IsHistoryOf : Name → Name → List Call → Type 0
 IsHistoryOf admin u [] = ⊥
 IsHistoryOf admin u (c ∷ []) = IsEntryOf u c × (is_opening c.request ≡ true) × (c.person ≡ admin)

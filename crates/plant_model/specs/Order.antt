@@ -17,8 +17,8 @@ EventsRise es = IsInOrder nat_cmp event_number es
 abbrev pub ChangesRise : List ChangeEntry → Type 0
 ChangesRise changes = IsInOrder nat_cmp change_number changes
 
--- alarms, shelves and records rise by their tags, events and changes by their numbers; limits rise by their matrix and band, cells by
--- their matrix, severity and band
+-- alarms, shelves and records rise by their tags, events and changes by their numbers; limits rise by their matrix and
+-- band, cells by their matrix, severity and band
 pub record AreInOrder (rows : UnitRows) : Type 0 where
   pub alarms : IsInOrder name_cmp alarm_tag rows.alarms
   pub shelves : IsInOrder name_cmp shelf_tag rows.shelves

@@ -12,7 +12,8 @@ use Rattle.plant_model.specs.declared.rows.ChangeTopic.TheVariants.{Limit as Lim
 use Rattle.plant_model.specs.declared.rows.{ShelfRow.{ShelfRow}, UnitPart.{UnitPart}, UnitRows.{UnitRows}}
 use Rattle.plant_types.specs.{Names.{Name, same_name}, Roles.{Pair}}
 
--- the rows of a scope, beside the unit's own row and the caller's grants: by pair, tag, number of a matrix, number of a change
+-- the rows of a scope, beside the unit's own row and the caller's grants: by pair, tag, number of a matrix, number of a
+-- change
 pub record Selection : Type 0 where
   pub pair : Pair → Bool
   pub alarm : Name → Bool

@@ -1,5 +1,5 @@
--- When a call on a unit is refused, and why: the conditions that several calls share, and the first refusal whose condition
--- holds. Results of shelving are named as in OPC 10000-9.
+-- When a call on a unit is refused, and why: the conditions that several calls share, and the first refusal whose
+-- condition holds. Results of shelving are named as in OPC 10000-9.
 use Rattle.std.specs.List.{list_any}
 use Rattle.std.specs.Prelude.{Bool, Err, List, None, Ok, Option, Result, Some, [], false, if◌then◌else◌, is_none, is_some, length, map, nat_le, nat_lt, not, true, ℕ, ◌+◌, ◌∷◌}
 use Rattle.plant_model.specs.{Facts.{Facts, limit_revision_of, matrix_revision_of, others_shelved, quota_of}, Histories.{same_number}}
@@ -56,7 +56,8 @@ is_not_needed (Some P4) = false
 abbrev pub has_row : Grid → ℕ → Bool
 has_row m severity = is_some (row_of m severity)
 
--- a record has its severity in the matrix in force, and a priority there; a matrix has the severities of all records in force
+-- a record has its severity in the matrix in force, and a priority there; a matrix has the severities of all records in
+-- force
 abbrev pub kind_refusals : Facts → ℕ → ChangeKind → List (Bool × Refused)
 kind_refusals f base (Rationale a s) =
     base_changed base (f.revision a) ∷ (not (has_row f.matrix s.severity), OutsideMatrix)

@@ -8,7 +8,8 @@ use Rattle.plant_alarm.specs.{Shelves.{is_unshelved}, declared.{event.Event.{Eve
 use Rattle.plant_alarm.specs.declared.shelf.ShelfState.TheVariants.{OneShotShelved, TimedShelved, Unshelved}
 use Rattle.plant_import.specs.Merging.{fresh}
 
--- an alarm's state (ISA-18.2, IEC 62682): SuppressedOrShelved holds where it is shelved, suppressed by design or out of service
+-- an alarm's state (ISA-18.2, IEC 62682): SuppressedOrShelved holds where it is shelved, suppressed by design or out of
+-- service
 abbrev pub status_of : AlarmRow → ShelfState → StatusRow
 status_of r shelf =
     record {

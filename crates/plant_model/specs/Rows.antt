@@ -30,7 +30,8 @@ grant_rows h = filter_map (grant_row h) (in_order pair_cmp (all_named (λ c befo
 abbrev pub tags_registered : Request → List Name
 tags_registered r = option_to_list (option_map (λ x. x.tag) (says r).registration)
 
--- an alarm's row: state, suppression by design and the moments of the last activation and return follow from all its kept events
+-- an alarm's row: state, suppression by design and the moments of the last activation and return follow from all its
+-- kept events
 abbrev pub alarm_as : Name → ℕ → ℕ → List Event → Option Outage → Bool → AlarmRow
 alarm_as a max revision es out latches =
     record {

@@ -10,8 +10,8 @@ abbrev pub shelf_row_as : Bool → ℕ → ℕ → Name → Name → Name → Sh
 shelf_row_as one_shot s until p words a =
     record { tag = a; one_shot = one_shot; start_s = s; until_s = until; person = p; words = words }
 
--- what a shelving or its end says of an alarm: nothing where it is of another alarm. A timed shelf lasts its own time, a
--- one-shot shelf at most the limit in force just before the entry
+-- what a shelving or its end says of an alarm: nothing where it is of another alarm. A timed shelf lasts its own time,
+-- a one-shot shelf at most the limit in force just before the entry
 abbrev pub shelf_by : Name → Name → ℕ → List Call → Option (Name × Said NewShelf) → Option (Said ShelfRow)
 shelf_by a p s before None = None
 shelf_by a p s before (Some (b, Begins (TimedShelf d words))) =
@@ -33,7 +33,7 @@ abbrev pub shelf_left : Option ShelfRow → Shelf
 shelf_left None = Clear
 shelf_left (Some s) = if s.one_shot then OneShot s.start_s s.until_s else Timed s.start_s s.until_s
 
--- the shelved state at a moment, by the shelf that the last method left and the moment of the alarm's last return to normal: every
--- answer and the quota say their shelf by it
+-- the shelved state at a moment, by the shelf that the last method left and the moment of the alarm's last return to
+-- normal: every answer and the quota say their shelf by it
 abbrev pub state_of_shelf : Option ShelfRow → Option ℕ → ℕ → ShelfState
 state_of_shelf shelf returned t = shelf_state (shelf_left shelf) returned t

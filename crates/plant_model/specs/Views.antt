@@ -9,8 +9,8 @@ use Rattle.plant_types.specs.{Names.{Name, same_name}, Roles.{Pair, all_roles}}
 abbrev pub codes_seen : World → Name → List Name
 codes_seen w p = if same_name p w.admin then keys w.units else []
 
--- what a person sees of a world at a moment: the units in which the person holds a role, each with its history, and, as the
--- administrator, all codes
+-- what a person sees of a world at a moment: the units in which the person holds a role, each with its history, and, as
+-- the administrator, all codes
 abbrev pub view : ℕ → Name → World → List (Name × List Call) × List Name
 view t p w = (units_held w t p, codes_seen w p)
 

@@ -55,7 +55,8 @@ answer_of_units units c = if nat_lt c.moment (greatest_last units) then
 abbrev pub opening : Bool → Bool → Result Reply Refused
 opening by_admin taken = if not by_admin then Err NotAdministrator else (if taken then Err UnitTaken else Ok Done)
 
--- what a unit's own machine answers: whether the caller is the administrator, whether the unit is there, its history, the call
+-- what a unit's own machine answers: whether the caller is the administrator, whether the unit is there, its history,
+-- the call
 abbrev pub unit_answer : Bool → Bool → List Call → Call → Result Reply Refused
 unit_answer by_admin taken h c = if is_opening c.request then opening by_admin taken else verdict h c
 

@@ -47,15 +47,15 @@ pub fn imports_agree()
     ensures { ImportsAgree }
 {}
 
-/// A verdict looks at an alarm's last return alone. What every answer and the quota say of a shelf is what all returns of its alarm
-/// leave of it.
+/// A verdict looks at an alarm's last return alone. What every answer and the quota say of a shelf is what all returns
+/// of its alarm leave of it.
 pub fn shelves_end_by_returns()
     ensures unit { ShelvesEndByReturns }
     ensures units { AllShelvesEndByReturns }
 {}
 
-/// Each row that an accepted call puts over another is among the rows that the call looks at, so a keeper that looks for it there
-/// finds it.
+/// Each row that an accepted call puts over another is among the rows that the call looks at, so a keeper that looks
+/// for it there finds it.
 #[tactic(auto, using(crate::proofs::KeyLaws::puts_over_seen))]
 pub fn changes_lie_in_what_is_seen()
     ensures { PutsOverWhatIsSeen }

@@ -143,8 +143,8 @@ pub struct MineLine {
     pub line: ShelfLine,
 }
 
-/// The rationalisation record of an alarm that is in force: what the last approved change of it said, with that change's
-/// number, how many changes of it were approved, and the priority by the matrix in force.
+/// The rationalisation record of an alarm that is in force: what the last approved change of it said, with that
+/// change's number, how many changes of it were approved, and the priority by the matrix in force.
 #[derive(Drop)]
 pub struct RecordRow {
     pub tag: Tag,

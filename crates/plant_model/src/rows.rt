@@ -162,8 +162,8 @@ pub struct UnitRows {
     pub changes: List<ChangeEntry>,
 }
 
-/// The rows that one call looks at, and how many alarms, changes or events the unit has, whichever the call needs. A unit that has
-/// more than a count can say has no part; no unit of a legal history has.
+/// The rows that one call looks at, and how many alarms, changes or events the unit has, whichever the call needs. A
+/// unit that has more than a count can say has no part; no unit of a legal history has.
 #[derive(Drop)]
 pub struct UnitPart {
     pub rows: UnitRows,

@@ -63,8 +63,8 @@ pub record EnduresSettled (c : Call) (a : Answer) (before after : BooksState) : 
   pub endures : Endures c a before after
   pub settled : after.honest → (m : Content) → after.held m → (x : Content) → after.leaves x → Alike x m
 
--- the books after calls with these answers, which began at this world: they hold the confirmed calls, and a crash leaves
--- these, or these and one that is in doubt
+-- the books after calls with these answers, which began at this world: they hold the confirmed calls, and a crash
+-- leaves these, or these and one that is in doubt
 pub record AreAfter (w : World) (calls : List Call) (answers : List Answer) (books : BooksState) : Type 0 where
   pub long : length answers ≡ length calls
   pub now : HoldsWorld (after_calls w (confirmed calls answers)) books

@@ -9,15 +9,16 @@ pub record Life : Type 0 where
   pub calls : List Call
   pub answers : List Answer
 
--- Each start found what the crash before it may leave: from books with the content `first` these lives, in order, lead to books
--- with the content `last`.
+-- Each start found what the crash before it may leave: from books with the content `first` these lives, in order, lead
+-- to books with the content `last`.
 abbrev pub LeadTo : Content → List Life → Content → Type 0
 LeadTo first [] last = last ≡ first
 LeadTo first (life ∷ lives) last =
     (found : Content) × ((w : World) → IsLegalWorld w → Holds first w → IsOutcome w life.calls life.answers found)
     × LeadTo found lives last
 
--- the calls that the lives made, life by life: those that were confirmed, and after each life at most one that was in doubt
+-- the calls that the lives made, life by life: those that were confirmed, and after each life at most one that was in
+-- doubt
 abbrev pub AreMadeInAll : List Life → List Call → Type 0
 AreMadeInAll [] made = made ≡ []
 AreMadeInAll (life ∷ lives) made = (own later : List Call) × AreMade life.calls life.answers own
@@ -34,8 +35,8 @@ IsWithin [] ys = Unit {0}
 IsWithin (x ∷ xs) [] = ⊥
 IsWithin (x ∷ xs) (y ∷ ys) = ((x ≡ y) × IsWithin xs ys) ⊎ IsWithin (x ∷ xs) ys
 
--- Whatever number of crashes: the books that are found last hold the world after some calls, made one after the other. All that
--- were confirmed are among them, each in its order, and beside them at most one for each life.
+-- Whatever number of crashes: the books that are found last hold the world after some calls, made one after the other.
+-- All that were confirmed are among them, each in its order, and beside them at most one for each life.
 abbrev pub CrashesLeaveAWorld : Type 0
 CrashesLeaveAWorld =
     (first last : Content) (lives : List Life) (w : World) → IsLegalWorld w → Holds first w → LeadTo first lives last

@@ -22,7 +22,8 @@ is_fault (Replied r) = false
 is_fault (WasRefused r) = false
 is_fault (Faulted f) = true
 
--- the call is in doubt: its answer was a fault, so the caller does not know whether it was made, and no later call was confirmed
+-- the call is in doubt: its answer was a fault, so the caller does not know whether it was made, and no later call was
+-- confirmed
 abbrev pub IsInDoubt : Call → List Call → List Answer → Type 0
 IsInDoubt c (d ∷ calls) (a ∷ answers) = ((d ≡ c) × (is_fault a ≡ true) × (confirmed calls answers ≡ []))
     ⊎ IsInDoubt c calls answers

@@ -10,7 +10,8 @@ pub record Holds (m : Content) (w : World) : Type 0 where
   pub same_admin : m.admin ≡ w.admin
   pub rows : (u : Name) → get m.units u ≡ option_map rows_of (get w.units u)
 
--- a call was answered as the world answers it, and the books hold the rows of the world after it, whose histories are legal
+-- a call was answered as the world answers it, and the books hold the rows of the world after it, whose histories are
+-- legal
 pub record IsServed (w : World) (c : Call) (a : Result Reply Refused) (left : Content → Type 0) : Type 0 where
   pub answered : a ≡ answer w c
   pub after : Content

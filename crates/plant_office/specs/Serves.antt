@@ -6,8 +6,8 @@ use Rattle.plant_model.specs.declared.reply.Reply.{Reply}
 use Rattle.plant_office.specs.{Answers.{answer_as}, Enduring.{Endures, books_state}, Served.{Holds, IsServed}}
 use Rattle.plant_types.specs.declared.fault.Fault.{Fault}
 
--- the answer is that of the world whose rows the books hold; after a fault, a refusal or a reply to a read the books are
--- unchanged
+-- the answer is that of the world whose rows the books hold; after a fault, a refusal or a reply to a read the books
+-- are unchanged
 pub record Serves {B : Type 0} (books : Ghosts B) (c : Call) (said : Result (Result Reply Refused) Fault)
     (before after : B) : Type 0 where
   pub served : (m : Content) → books.represents before m → (w : World) → IsLegalWorld w → Holds m w

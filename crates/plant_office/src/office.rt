@@ -52,8 +52,8 @@ fn leave_out_same(part: &Option<UnitPart>, changes: &mut List<RowEdit>)
     }
 }
 
-/// Gives the proof what holds of each value of the type `Matrix`: the matrix of a request is an ordered one. It checks nothing when it
-/// runs.
+/// Gives the proof what holds of each value of the type `Matrix`: the matrix of a request is an ordered one. It checks
+/// nothing when it runs.
 fn note_matrix(request: &Request)
     ensures { has_matrix request.now ≡ true }
 {
@@ -137,7 +137,8 @@ impl<B: Books> Office<B> {
         faults
     }
 
-    /// Whether a failure has shut the store behind the books, which are never honest again then. It asks no store and takes no memory.
+    /// Whether a failure has shut the store behind the books, which are never honest again then. It asks no store and
+    /// takes no memory.
     pub fn is_shut(&self) -> bool
         ensures { IsTrue result → ¬ B.is_honest self.now.books }
     {
@@ -260,14 +261,14 @@ impl<B: Books> Office<B> {
 
     /// Answers a call, as the world of the units' histories answers it.
     ///
-    /// The headline is the clause `isolated`. Take any other office of the same administrator that looks the same to the caller
-    /// at the call's moment. It would give the same answer, if this one is not a fault, and the units in which the caller
-    /// holds a role before or after the call would have the same rows there. A fault leaves the books as they were, and so
-    /// do a refusal and a reply to a call that only asks, whatever the books hold.
+    /// The headline is the clause `isolated`. Take any other office of the same administrator that looks the same to
+    /// the caller at the call's moment. It would give the same answer, if this one is not a fault, and the units in
+    /// which the caller holds a role before or after the call would have the same rows there. A fault leaves the books
+    /// as they were, and so do a refusal and a reply to a call that only asks, whatever the books hold.
     ///
-    /// The clause `endures` is about a crash, at this moment or at any before it: the next start finds the books before the call,
-    /// or those with the call; after a reply to a call that changes something only the latter, and after any other reply or a
-    /// refusal only the former. After a fault the caller does not know.
+    /// The clause `endures` is about a crash, at this moment or at any before it: the next start finds the books before
+    /// the call, or those with the call; after a reply to a call that changes something only the latter, and after any
+    /// other reply or a refusal only the former. After a fault the caller does not know.
     pub fn serve(&mut self, call: &Call) -> Answer
         ensures served { (m : Content) → B.represents self.old.books m → (w : World)
             → IsLegalWorld w → Holds m w → B.is_honest self.new.books
@@ -294,10 +295,10 @@ impl<B: Books> Office<B> {
         answer_of(said)
     }
 
-    /// Answers the calls in their order, each as `serve` does. Room for all answers is made first: a fault of its own is Memory,
-    /// and then no call was made. A fault, a refusal and a reply to a call that only asks leave the books as they were, call by
-    /// call and whatever the books hold. A crash leaves the books with all calls that were confirmed, or with these and one that
-    /// was answered by a fault after which none was confirmed.
+    /// Answers the calls in their order, each as `serve` does. Room for all answers is made first: a fault of its own
+    /// is Memory, and then no call was made. A fault, a refusal and a reply to a call that only asks leave the books as
+    /// they were, call by call and whatever the books hold. A crash leaves the books with all calls that were
+    /// confirmed, or with these and one that was answered by a fault after which none was confirmed.
     pub fn run(&mut self, calls: &[Call]) -> Result<Vec<Answer>, Fault>
         ensures ran { (m : Content) → B.represents self.old.books m → (w : World)
             → IsLegalWorld w → Holds m w
@@ -361,7 +362,8 @@ fn latest(now: Moment, units: &[MineUnit]) -> Moment
     latest
 }
 
-/// The line of a shelf with its unit; none where the shelf has ended: its time has passed, or it was a one-shot and its alarm returned.
+/// The line of a shelf with its unit; none where the shelf has ended: its time has passed, or it was a one-shot and its
+/// alarm returned.
 fn mine_line(alloc: Global, mine: &MineRow, now: Moment) -> Result<Option<MineLine>, Fault>
     ensures value { IfOk result (λ line. line ≡ line_of_shelf now mine.now) }
     ensures err { OnlyMemory result }

@@ -1,5 +1,5 @@
--- Rationalisation, after ISA-18.2 and IEC 62682: the priority comes from the severity of the consequence and the time to
--- respond. Which tables are such matrices is this office's own rule.
+-- Rationalisation, after ISA-18.2 and IEC 62682: the priority comes from the severity of the consequence and the time
+-- to respond. Which tables are such matrices is this office's own rule.
 use Rattle.std.specs.List.{list_all}
 use Rattle.std.specs.Prelude.{ℕ, ◌+◌, ◌-◌, ◌≤◌, ◌≡◌, Bool, true, ◌&&◌, not, nat_lt, nat_le, ◌==◌, if◌then◌else◌, List, [], ◌∷◌, length, Option, Some, None, Result, Ok, Err, option_and_then, unwrap_or, slice_get, position, zip}
 use Rattle.plant_types.specs.Numbers.{is_seconds}
@@ -83,7 +83,8 @@ priority_of t severity response = option_and_then (λ row. slice_get row (band t
 abbrev pub cell_at : List (List Cell) → ℕ → ℕ → Option Cell
 cell_at rows i j = option_and_then (λ row. slice_get row j) (slice_get rows i)
 
--- the order of a matrix, cell by cell: no cell is lower than its neighbour in the next longer band, or in the next less severe row
+-- the order of a matrix, cell by cell: no cell is lower than its neighbour in the next longer band, or in the next less
+-- severe row
 pub record IsOrdered (rows : List (List Cell)) : Type 0 where
   pub bands : (i j : ℕ) (shorter longer : Cell) → cell_at rows i j ≡ Some shorter → cell_at rows i (j + 1) ≡ Some longer
       → rank shorter ≤ rank longer

@@ -578,8 +578,8 @@ fn obey<S: AsStr, I: Inlet, O: Outlet + Write, E: Write>(
 /// or for help; 2 where the command line is wrong; 3 where the file keeps no books of this administrator or can't be
 /// opened, or can't be migrated, or memory ran out as books were opened, or a failure shut the store of a service that
 /// was to serve all connections that come; 4, 5, 6 or 7 where the session over the streams ended by broken input, a
-/// failed read, a failed write, or for lack of memory, and 7 where memory ran out as the command line was read or before
-/// any of many connections was accepted; 8 where listening on the port or accepting a connection failed.
+/// failed read, a failed write, or for lack of memory, and 7 where memory ran out as the command line was read or
+/// before any of many connections was accepted; 8 where listening on the port or accepting a connection failed.
 pub fn command<S: AsStr, I: Read + Drop, O: Write + Drop, E: Write + Drop>(
     rt: &HostRuntime,
     words: &[S],

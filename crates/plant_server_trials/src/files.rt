@@ -200,7 +200,8 @@ fn make(stop: &impl Abort, rt: &HostRuntime, path: &str, statements: &str) {
     conn.close().expect(stop, "a closed file");
 }
 
-/// A database of another program, one without tables, and one of the older schema: none is opened, and none is written to.
+/// A database of another program, one without tables, and one of the older schema: none is opened, and none is written
+/// to.
 #[test]
 fn refuses_databases_of_others(rt: HostRuntime) {
     for (path, statements) in [

@@ -1,5 +1,5 @@
-//! The command over a port. It writes its lines to a writer that connects the clients at the first of them, which says where the port
-//! listens: so clients and office run in one thread.
+//! The command over a port. It writes its lines to a writer that connects the clients at the first of them, which says
+//! where the port listens: so clients and office run in one thread.
 
 use crate::commands::is_text;
 use plant_examples::{BASE, Exchanges, LOOKED_AT, SHELVED, numbered};
@@ -72,7 +72,8 @@ fn free_port(stop: &impl Abort, rt: &HostRuntime) -> u16 {
     port.address().expect(stop, "an address").port()
 }
 
-/// Runs the command over this port with these further words and clients, and gives its status, the clients and what it said of errors.
+/// Runs the command over this port with these further words and clients, and gives its status, the clients and what it
+/// said of errors.
 fn served<'a>(
     stop: &(impl Abort + AllocGlobal),
     rt: &'a HostRuntime,

@@ -185,8 +185,8 @@ fn alarms(rt: &(impl Abort + AllocGlobal)) -> Plain {
     .expect(rt, "lists")
 }
 
-/// A client that asks for some 21 megabytes of answers, more than the buffers of both sockets hold, and takes none is given up, and the next
-/// one served.
+/// A client that asks for some 21 megabytes of answers, more than the buffers of both sockets hold, and takes none is
+/// given up, and the next one served.
 #[test]
 fn gives_up_a_client_that_takes_no_answer(rt: HostRuntime) {
     let mut requests = String::new(rt.alloc());

@@ -112,7 +112,8 @@ ste 09:00:00 GET /units/U2/standing
 ste 09:00:00 GET /units/U1/standing
 200 STANDING U1 AT 2026-03-01T09:00:00Z COUNT 0"#;
 
-/// How often rows, parts and shelves were asked for, how often all events of a unit among them, and how often they were changed.
+/// How often rows, parts and shelves were asked for, how often all events of a unit among them, and how often they were
+/// changed.
 #[derive(Clone, Copy, PartialEq, Eq, Debug)]
 struct Count {
     asked: u64,
@@ -120,8 +121,8 @@ struct Count {
     changed: u64,
 }
 
-/// Books that count what they are asked for, and that lack the memory for the rows of one unit. Questions about a person's grants
-/// are not counted.
+/// Books that count what they are asked for, and that lack the memory for the rows of one unit. Questions about a
+/// person's grants are not counted.
 #[derive(Drop)]
 struct Counting<B: Books> {
     books: B,
@@ -249,7 +250,8 @@ fn unasked(rt: &(impl Abort + AllocGlobal)) -> Counting<Plain> {
     }
 }
 
-/// These books once the exchanges are answered over them as expected, with no rows at hand at first and at most so many then.
+/// These books once the exchanges are answered over them as expected, with no rows at hand at first and at most so many
+/// then.
 fn asked<B: Books + Drop>(
     rt: &(impl Abort + AllocGlobal),
     below: Counting<B>,
@@ -302,8 +304,8 @@ fn a_unit_is_read_once_and_for_no_stranger(rt: HostRuntime) {
     assert_eq!(rt; after.count.events, count.events);
 }
 
-/// Where there is room for two units, the third takes the place of the one that was longest not used, even if a stranger has
-/// asked for it since.
+/// Where there is room for two units, the third takes the place of the one that was longest not used, even if a
+/// stranger has asked for it since.
 #[test]
 fn a_strangers_call_uses_no_unit(rt: HostRuntime) {
     let before = asked(&rt, unasked(&rt), TWO_UNITS, &[OPENED]);
@@ -312,7 +314,8 @@ fn a_strangers_call_uses_no_unit(rt: HostRuntime) {
     assert_eq!(rt; after.count.asked, count.asked.saturating_add(3));
 }
 
-/// Where the memory for the rows of a unit is lacking, its call is answered from the books below, and the rows of other units go.
+/// Where the memory for the rows of a unit is lacking, its call is answered from the books below, and the rows of other
+/// units go.
 #[test]
 fn a_unit_that_finds_no_memory_is_answered(rt: HostRuntime) {
     let mut before = asked(&rt, unasked(&rt), MAX_ROWS_AT_HAND, &[OPENED]);

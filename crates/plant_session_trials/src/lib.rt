@@ -1,5 +1,5 @@
-//! Whole sessions over both keepers, as tests alone: the worked examples, with the rows that both keepers hold, and what is asked
-//! of the books below rows at hand.
+//! Whole sessions over both keepers, as tests alone: the worked examples, with the rows that both keepers hold, and
+//! what is asked of the books below rows at hand.
 #![tactic(auto)]
 
 #[cfg(test)]

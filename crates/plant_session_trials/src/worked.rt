@@ -207,7 +207,8 @@ fn no_more_than_10000_rows(rt: HostRuntime) {
     is_worked(&rt, "10,001 rows", &too_many_rows(&rt));
 }
 
-/// The base office, and from the first of these numbers to before the last one exchange each, of the number between two texts.
+/// The base office, and from the first of these numbers to before the last one exchange each, of the number between two
+/// texts.
 fn many(
     rt: &(impl Abort + AllocGlobal),
     numbers: Range<usize>,

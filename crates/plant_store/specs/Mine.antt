@@ -1,4 +1,5 @@
--- A person's grants in all units: by themselves, beside the last moment of their unit, and beside the shelves of their unit.
+-- A person's grants in all units: by themselves, beside the last moment of their unit, and beside the shelves of their
+-- unit.
 use Rattle.std.specs.{BTreeSet.{IsFromIterResult}, FinMap.{keys}, Ordering.{nat_cmp, ordering_then}, declared.cmp.Ordering.{Ordering}}
 use Rattle.std.specs.Prelude.{flat_map, Bool, List, None, Option, Some, [], filter, if◌then◌else◌, map, not, ℕ, ◌&&◌, ◌++◌, ◌∷◌, ◌≡◌}
 use Rattle.sqlite_value.specs.{Order.{Row}, declared.value.Value.TheVariants.{Text}}

@@ -1,5 +1,6 @@
--- The rules of schema 1, by themselves: no quota limits the shelved alarms, no grant has an end, and a role is held as long as its
--- grant stands. They share the facts of a history with today's rules, and the replies, but no refusal and no limit.
+-- The rules of schema 1, by themselves: no quota limits the shelved alarms, no grant has an end, and a role is held as
+-- long as its grant stands. They share the facts of a history with today's rules, and the replies, but no refusal and
+-- no limit.
 use Rattle.std.specs.List.{AllByRecursion, list_any}
 use Rattle.std.specs.Prelude.{Bool, Err, IsTrue, List, None, Ok, Option, Result, Some, [], false, is_none, is_some, length, map, nat_le, nat_lt, not, true, ℕ, ◌%◌, ◌&&◌, ◌+◌, ◌++◌, ◌-◌, ◌==◌, ◌∷◌, ◌≡◌}
 use Rattle.plant_alarm.specs.{Shelves.{is_one_shot, is_timed, is_unshelved}, declared.event.Event.{Event}}
@@ -72,7 +73,8 @@ was_not_needed (Some P2) = false
 was_not_needed (Some P3) = false
 was_not_needed (Some P4) = false
 
--- a record has its severity in the matrix in force, and a priority there; a matrix has the severities of all records in force
+-- a record has its severity in the matrix in force, and a priority there; a matrix has the severities of all records in
+-- force
 abbrev pub old_kind_refusals : Facts → ℕ → ChangeKind → List (Bool × Refused)
 old_kind_refusals f base (Rationale a s) =
     old_base_changed base (f.revision a) ∷ (not (is_some (row_of f.matrix s.severity)), refused.OutsideMatrix)

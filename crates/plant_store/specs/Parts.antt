@@ -45,7 +45,8 @@ LoadsGrants g before after unit own all said =
     → IfOk said (λ rows. (p : Name) → own ≡ grants_of p unit (state g before).now.trees
     → rows ≡ filter (λ r. same_name p r.person || all) (rows_seen unit (state g before).now.trees Grants))
 
--- the result is the count that the request needs in the unit, if the events are the unit's where the request looks at them
+-- the result is the count that the request needs in the unit, if the events are the unit's where the request looks at
+-- them
 abbrev pub LoadsCount : {S E : Type 0} → Ghosts S → Held S → Held S → Name → Request → List Event → Result ℕ E → Type 0
 LoadsCount g before after unit request events said =
     HasCleanDisk (state g after) → AreBooks (state g before).now

@@ -1,5 +1,5 @@
--- What a read returns, and what it leaves of the tables. Each word takes the connection before and after. A disk is clean
--- if it has returned what was written, and honest if besides no failure has shut the database.
+-- What a read returns, and what it leaves of the tables. Each word takes the connection before and after. A disk is
+-- clean if it has returned what was written, and honest if besides no failure has shut the database.
 use Rattle.std.specs.Prelude.{IfOk, List, Result, false, filter, map, ℕ, ◌≡◌}
 use Rattle.sqlite.specs.{Held.{Held, state}, Listing.{understood}, Schema.{Schema}, State.{CommitsShowing, HasCleanDisk, Shown as IsShown, Survives}, Tree.{Trees}}
 use Rattle.sqlite.{specs.Values.{bound}, proofs.Callers.{IsPlain}}

@@ -1,4 +1,5 @@
--- What of a store of schema 1 is written into the books, read from one connection and written by a transaction of another.
+-- What of a store of schema 1 is written into the books, read from one connection and written by a transaction of
+-- another.
 use Rattle.std.specs.Prelude.{IsTrue, List, OnOk, Result, [], map, ◌≡◌}
 use Rattle.sqlite.specs.{Held.{Held, state}, State.{HasCleanDisk, State}, Tree.{Trees}, declared.transaction.Transaction.{Transaction}}
 use Rattle.sqlite_trees.specs.declared.store.Store.{Ghosts}
@@ -27,7 +28,8 @@ abbrev pub TakesUnit : {S N V E : Type 0} → Ghosts S → Held S → Held S →
 TakesUnit g from from_after h tx tx_after unit said =
     OfOldTables g from from_after (λ trees. Writes h tx tx_after unit (puts_all (upgraded_rows unit trees)) said)
 
--- if the lines are the codes of all units, the rows of all units are taken over into books without rows, and the office stays
+-- if the lines are the codes of all units, the rows of all units are taken over into books without rows, and the office
+-- stays
 abbrev pub TakesUnits : {S N V E : Type 0} → Ghosts S → Held S → Held S → Ghosts N → Transaction N → Transaction N
     → List CodeLine → Result V E → Type 0
 TakesUnits g from from_after h tx tx_after lines said =

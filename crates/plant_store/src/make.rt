@@ -28,7 +28,8 @@ fn make_office<S: Alter>(tx: &mut Transaction<'_, S>) -> Result<(), Error>
     )
 }
 
-/// The text that makes the table. They stand in the order in which the tables are made: scripts/check-schema reads them so.
+/// The text that makes the table. They stand in the order in which the tables are made: scripts/check-schema reads them
+/// so.
 fn table_text(kind: &TableKind) -> &'static str
     ensures { result.now ≡ texts.table_text kind.now }
 {

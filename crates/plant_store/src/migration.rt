@@ -200,8 +200,8 @@ fn take_into_blank<O: Alter, N: Alter>(
 }
 
 /// Copies a plant's store of schema 1 into a database that has no table: all its rows, with the greatest quota for each
-/// unit and no end for any grant. The old database is only read, whatever it holds. The new one is written in one transaction, so that a
-/// crash leaves what it had before or the whole copy.
+/// unit and no end for any grant. The old database is only read, whatever it holds. The new one is written in one
+/// transaction, so that a crash leaves what it had before or the whole copy.
 ///
 /// Refused as `NotThisStore` where the old database is no store of schema 1 with this administrator; the new one is not
 /// looked at then. A fault of the store where the new database has a table, where a row of the old store cannot be read

@@ -88,7 +88,8 @@ fn has_its_row<S: Alter>(
     Ok(is_office_row(rows.as_slice(), schema, admin))
 }
 
-/// Whether the database has the office's table with its columns, and there one row, of this schema's number and this person's name.
+/// Whether the database has the office's table with its columns, and there one row, of this schema's number and this
+/// person's name.
 pub fn is_office_of<S: Alter>(
     conn: &mut Connection<S>,
     schema: u32,

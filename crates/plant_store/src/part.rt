@@ -136,8 +136,8 @@ fn events_for(alloc: Global, events: List<Event>, scope: Scope<'_>) -> Result<Li
     events_asked(alloc, &events, wanted).map_err(|_| Error::SqliteFailure(ErrorCode::OutOfMemory))
 }
 
-/// How many alarms the unit has, how many events, or the number of its last change, for a call that needs it. The events were read
-/// where the request looks at them.
+/// How many alarms the unit has, how many events, or the number of its last change, for a call that needs it. The
+/// events were read where the request looks at them.
 #[tactic(auto, using(crate::proofs::Selected::counts_events))]
 fn count_for<S: Alter>(
     conn: &mut Connection<S>,

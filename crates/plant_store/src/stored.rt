@@ -48,7 +48,8 @@ pub trait Stored: Shown {
         true
     }
 
-    /// Puts the row over the one with the same key, and returns how many rows were written. Rows of some tables never change: 0.
+    /// Puts the row over the one with the same key, and returns how many rows were written. Rows of some tables never
+    /// change: 0.
     #[tactic(auto, using(crate::proofs::Writes::applies_none))]
     fn update<S: Alter>(&self, tx: &mut Transaction<'_, S>, unit: &UnitCode) -> Result<usize, Error>
         ensures same_reference { SameReference tx.old tx.new }

@@ -58,7 +58,8 @@ fn note_shut<S: Alter>(conn: &mut Connection<S>, shut: &mut bool)
     }
 }
 
-/// What a statement said. Where it failed that is a fault: one of the store is counted, and it is noted if the store is shut now.
+/// What a statement said. Where it failed that is a fault: one of the store is counted, and it is noted if the store is
+/// shut now.
 fn heard<T: Drop, S: Alter>(
     conn: &mut Connection<S>,
     stores: &mut u64,
@@ -129,8 +130,8 @@ impl<S: Alter> Model for Tables<S> {
 }
 
 impl<S: Alter> Tables<S> {
-    /// Makes all tables, with no unit, in a database that has none: in another it is a fault of the store. They are made in one
-    /// transaction, so that a crash leaves what was there before or all of them.
+    /// Makes all tables, with no unit, in a database that has none: in another it is a fault of the store. They are
+    /// made in one transaction, so that a crash leaves what was there before or all of them.
     pub fn create(
         alloc: Global,
         mut conn: Connection<S>,
@@ -168,8 +169,9 @@ impl<S: Alter> Tables<S> {
         }
     }
 
-    /// Opens a database that `create` made for this administrator. One is refused as `NotThisStore` where the office's table or
-    /// a column of it is missing, or where its one row is not this schema's and this administrator's. It is only read, whatever it holds.
+    /// Opens a database that `create` made for this administrator. One is refused as `NotThisStore` where the office's
+    /// table or a column of it is missing, or where its one row is not this schema's and this administrator's. It is
+    /// only read, whatever it holds.
     #[tactic(auto, using(crate::proofs::ReadsOnly::keeps_read))]
     pub fn open(
         alloc: Global,

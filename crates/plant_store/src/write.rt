@@ -61,8 +61,8 @@ fn put_over<T: Stored, S: Alter>(
     }
 }
 
-/// Puts a row: over the one of its key, or as a new one. In a table whose rows do not change it fails if there is one, and so
-/// it does where the rows that were seen of the unit have none of its key.
+/// Puts a row: over the one of its key, or as a new one. In a table whose rows do not change it fails if there is one,
+/// and so it does where the rows that were seen of the unit have none of its key.
 #[tactic(auto, using(crate::proofs::WritesOver::one_put))]
 pub fn put<T: Stored, S: Alter>(
     tx: &mut Transaction<'_, S>,
@@ -212,7 +212,8 @@ fn change_all<S: Alter>(
     Ok(())
 }
 
-/// Fails where a failure has shut the store, so that nothing is written to one that is shut: as closed, where that is all it can mean. It changes nothing.
+/// Fails where a failure has shut the store, so that nothing is written to one that is shut: as closed, where that is
+/// all it can mean. It changes nothing.
 fn find_open<S: Alter>(conn: &mut Connection<S>) -> Result<(), Error>
     requires { HasNoTransaction conn.old }
     ensures mode { HasNoTransaction conn.new }
@@ -265,7 +266,8 @@ fn commit_all<S: Alter>(
     Ok(())
 }
 
-/// Makes all the changes of one unit, or none. A crash, at any moment, leaves all of them or none, and after a success all.
+/// Makes all the changes of one unit, or none. A crash, at any moment, leaves all of them or none, and after a success
+/// all.
 pub fn apply<S: Alter>(
     conn: &mut Connection<S>,
     unit: &UnitCode,

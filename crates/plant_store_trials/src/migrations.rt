@@ -267,8 +267,8 @@ fn copies_nothing_of_a_store_that_is_spoiled(rt: HostRuntime) {
     }
 }
 
-/// Whether this store is migrated where each statement on it may take so many steps. If not, it is a fault of the store after
-/// which the new database has no table, and without a limit the same call migrates it.
+/// Whether this store is migrated where each statement on it may take so many steps. If not, it is a fault of the store
+/// after which the new database has no table, and without a limit the same call migrates it.
 fn passes(rt: &impl Abort, alloc: Global, mut old: Connection<MemStore>, steps: u64) -> bool
     requires { HasNoTransaction old }
 {
@@ -335,8 +335,8 @@ fn over_a_fuse(alloc: Global, calls: u64) -> Option<Connection<FileStore<Fuse<Me
     Connection::open_files(alloc, files, Options::new(7)).ok()
 }
 
-/// Whether a store of schema 1 is migrated to this database. If not, it is a fault of the store after which this has no table,
-/// and the older one can be migrated to another.
+/// Whether a store of schema 1 is migrated to this database. If not, it is a fault of the store after which this has no
+/// table, and the older one can be migrated to another.
 fn passes_to<S: Alter + Drop>(rt: &impl Abort, alloc: Global, new: Connection<S>) -> bool
     requires { HasNoTransaction new }
 {
@@ -370,8 +370,8 @@ fn copies_nothing_where_the_new_disk_fails(rt: HostRuntime) {
     rt.panic("no end")
 }
 
-/// A migration that runs out of memory and is made again: nothing was written then. `scripts/refuse-each` runs this test
-/// once for each of its allocations, and refuses that one.
+/// A migration that runs out of memory and is made again: nothing was written then. `scripts/refuse-each` runs this
+/// test once for each of its allocations, and refuses that one.
 #[test]
 fn migrates_again_without_memory(rt: HostRuntime) {
     let alloc = rt.alloc();

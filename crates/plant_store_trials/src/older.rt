@@ -23,8 +23,8 @@ CREATE TABLE records (unit TEXT NOT NULL, tag TEXT NOT NULL, change_no INTEGER N
 CREATE TABLE changes (unit TEXT NOT NULL, number INTEGER NOT NULL, proposer TEXT NOT NULL, proposed_s INTEGER NOT NULL, kind_no INTEGER NOT NULL, tag TEXT, base INTEGER NOT NULL, cause TEXT, consequence TEXT, remedy TEXT, severity INTEGER, response_s INTEGER, max_s INTEGER, state_no INTEGER NOT NULL, decider TEXT, decided_s INTEGER, PRIMARY KEY (unit, number)) STRICT;
 CREATE INDEX grants_by_person ON grants (person, unit)"#;
 
-/// A unit with its staff, two alarms, a shelf that holds and one that is over, a matrix and a proposed one, events, and a
-/// record with its change; and a unit with its steward alone.
+/// A unit with its staff, two alarms, a shelf that holds and one that is over, a matrix and a proposed one, events, and
+/// a record with its change; and a unit with its steward alone.
 pub(crate) const ROWS: &str = r#"INSERT INTO office VALUES (1, 1, 'root');
 INSERT INTO units VALUES ('U1', 825674400, 0, 0), ('U2', 825667200, 0, 0);
 INSERT INTO grants VALUES ('U1', 'ste', 6), ('U1', 'ann', 2), ('U1', 'eve', 4), ('U1', 'abe', 5), ('U1', 'moe', 3), ('U1', 'vic', 1), ('U2', 'ste', 6);

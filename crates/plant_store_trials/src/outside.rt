@@ -102,8 +102,8 @@ const OF_RECORDS: [Asked; 3] = [Asked::Rows, Asked::Record, Asked::Approval];
 
 const OF_CHANGES: [Asked; 4] = [Asked::Rows, Asked::Record, Asked::Change, Asked::Approval];
 
-/// Each statement that puts a value outside its column's set into the tables of `opened`, with what reads that column; but
-/// for records and changes.
+/// Each statement that puts a value outside its column's set into the tables of `opened`, with what reads that column;
+/// but for records and changes.
 const OUTSIDE: [(&str, &[Asked]); 49] = [
     // a unit's code
     (
@@ -316,7 +316,8 @@ fn spoiled(rt: &impl Abort, alloc: Global, statements: &str) -> Tables<MemStore>
     books.ok().expect(rt, "books")
 }
 
-/// What does not answer as is due after these statements: each of the readers a fault of the store, and each other none.
+/// What does not answer as is due after these statements: each of the readers a fault of the store, and each other
+/// none.
 fn amiss(rt: &impl Abort, alloc: Global, statements: &str, readers: &[Asked]) -> Option<Asked> {
     let mut books = spoiled(rt, alloc, statements);
     for asked in ALL.iter() {

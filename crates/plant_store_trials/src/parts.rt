@@ -9,8 +9,8 @@ use sqlite::MemStore;
 use std::alloc::Global;
 use std::process::Abort;
 
-/// What a call that asks so sees of these books. The call is dropped by its own name: at the end of a scope the prover goes through
-/// every kind of request.
+/// What a call that asks so sees of these books. The call is dropped by its own name: at the end of a scope the prover
+/// goes through every kind of request.
 fn part_of(
     rt: &impl Abort,
     alloc: Global,

@@ -271,7 +271,8 @@ pub fn check_keepers<A: Books + Drop, B: Books + Drop>(
     Ok(())
 }
 
-/// Whether both keepers hold the same rows, one after these exchanges and the other after those, each answered as expected.
+/// Whether both keepers hold the same rows, one after these exchanges and the other after those, each answered as
+/// expected.
 pub fn are_left_alike<A: Books + Drop, B: Books + Drop>(
     alloc: Global,
     ours: A,

@@ -1,5 +1,5 @@
-//! What the trials of whole sessions share: sessions over an office of their own, the calls of a session in one run, and the
-//! comparison of what two keepers hold. What does not pass is an `Err`: a test ends there, nothing here does.
+//! What the trials of whole sessions share: sessions over an office of their own, the calls of a session in one run,
+//! and the comparison of what two keepers hold. What does not pass is an `Err`: a test ends there, nothing here does.
 #![tactic(auto)]
 
 mod keepers;

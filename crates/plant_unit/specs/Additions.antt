@@ -29,8 +29,8 @@ addition f t rows = decided_or (first_refusal (file_refusals f t (Ok rows))) (ro
 abbrev pub AreCountable : List Event → Type 0
 AreCountable es = length es ≤ 4294967295
 
--- the part of an import: of these events it has those that the file's rows need, and how many there are; the states of its alarms
--- are computed from them
+-- the part of an import: of these events it has those that the file's rows need, and how many there are; the states of
+-- its alarms are computed from them
 pub record AreEventsOf (part : UnitPart) (rows es : List Event) : Type 0 where
   pub rise : IsRising es
   pub needed_are : part.rows.events ≡ needed es rows
@@ -79,7 +79,8 @@ GivesImport part t rows added said =
 
 -- what the parts of a legal history keep
 pub record AreKept (part : UnitPart) : Type 0 where
-  -- events and changes in rising number, events not too many to be counted; alarms, shelves and records in the order of their tags
+  -- events and changes in rising number, events not too many to be counted; alarms, shelves and records in the order of
+  -- their tags
   pub events_rise : IsRising part.rows.events
   pub events_few : length part.rows.events ≤ 4294967295
   pub alarms_in_order : IsInOrder name_cmp alarm_tag part.rows.alarms

@@ -22,7 +22,8 @@ abbrev pub GivesAnew : {E : Type 0} → List AlarmRow → List Event → List Ev
 GivesAnew alarms kept fresh said = IsRising kept → IsInOrder name_cmp alarm_tag alarms
     → Gives said (summaries alarms (with_events kept fresh))
 
--- of alarms in the order of their tags, whose columns are those of some events: their summaries, of these events and the new ones
+-- of alarms in the order of their tags, whose columns are those of some events: their summaries, of these events and
+-- the new ones
 abbrev pub GivesOn : {E : Type 0} → List AlarmRow → List Event → Result (List Summary) E → Type 0
 GivesOn alarms fresh said = IsInOrder name_cmp alarm_tag alarms → (es : List Event) → HaveSummaries alarms es
     → Gives said (summaries alarms (es ++ with_events [] fresh))
@@ -42,8 +43,8 @@ abbrev pub PushesNamed : {A E : Type 0} → BTreeSet Name → List AlarmRow → 
 PushesNamed named alarms of_alarms before after said = (es fresh : List Event) → AreNamed named fresh
     → of_alarms ≡ summaries alarms es → OnOk said (after ≡ before ++ states_put es fresh alarms)
 
--- the fact holds of all events before the import: its file needs the kept ones and adds the new ones; the alarms are in the
--- order of their tags, and their columns are computed from all events
+-- the fact holds of all events before the import: its file needs the kept ones and adds the new ones; the alarms are in
+-- the order of their tags, and their columns are computed from all events
 abbrev pub ForImport : List AlarmRow → List Event → List Event → List Event → (List Event → Type 0) → Type 0
 ForImport alarms kept rows fresh fact = IsInOrder name_cmp alarm_tag alarms → (es : List Event) → kept ≡ needed es rows
     → AreAdded es rows fresh → HaveSummaries alarms es → fact es

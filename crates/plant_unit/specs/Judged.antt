@@ -19,8 +19,8 @@ use Rattle.plant_unit.specs.Additions.{AreEventsFor, decided_or}
 abbrev pub is_import : Request → Bool
 is_import r = is_some (says r).file
 
--- what is decided about a request of one who may make it: its first refusal, else the changes that it makes beside that of the
--- unit's row
+-- what is decided about a request of one who may make it: its first refusal, else the changes that it makes beside that
+-- of the unit's row
 abbrev pub own_decision : Facts → Name → ℕ → Request → Result (List RowEdit) Refused
 own_decision f p t r = decided_or (first_refusal (own_refusals f p t r)) (own_changes f p t r)
 
@@ -124,7 +124,8 @@ holder_refusals f c =
     ∷ (lacks_role f c.moment c.person (role_needed c.request) ++ (nat_lt c.moment (last_of f), MomentBehind (last_of f))
     ∷ [])
 
--- the verdict on a unit of this history; the changes turn its rows into those of the history with the call, and put the unit's row
+-- the verdict on a unit of this history; the changes turn its rows into those of the history with the call, and put the
+-- unit's row
 pub record IsVerdictOn (h : List Call) (c : Call) (v : Verdict) : Type 0 where
   pub answer : answer_in v ≡ verdict h c
   pub changes : changed_by (changes_in v) (rows_of h) ≡ rows_of (after h c)

@@ -98,8 +98,8 @@ fn summaries_from_events(
     Ok(summaries)
 }
 
-/// Brings the summaries of alarms, which stand in the order of their tags, forward by more events in rising number, however
-/// they stand here.
+/// Brings the summaries of alarms, which stand in the order of their tags, forward by more events in rising number,
+/// however they stand here.
 #[tactic(auto, using(plant_import::proofs::public::Placed::puts_none, plant_import::proofs::public::Placed::rises_of))]
 fn add_rising(
     alloc: Global,

@@ -64,8 +64,8 @@ fn import_reply(fresh: usize, repeated: u64) -> Reply
     }
 }
 
-/// The changes of an import of a file that adds these of its rows. Its events are put in rising number, whatever their order in
-/// the file: a table that gets its rows at the end moves none.
+/// The changes of an import of a file that adds these of its rows. Its events are put in rising number, whatever their
+/// order in the file: a table that gets its rows at the end moves none.
 fn import_changes(
     alloc: Global,
     unit: &UnitRow,

@@ -6,7 +6,8 @@ use Rattle.plant_office.specs.{Enduring.{EnduresAll, BooksState}, Runs.{IsRun, s
 
 -- From any world whose rows the books held, the calls got these answers, and the books hold the rows of the world
 -- after them, if the keeper's premise holds at the end. A call that was answered by a fault counts as never made. The
--- books counted each answer Store, from `count` to `counted_to`, while the count has room. What is true of a crash stays true.
+-- books counted each answer Store, from `count` to `counted_to`, while the count has room. What is true of a crash
+-- stays true.
 pub record Ran (before after : BooksState) (count counted_to : ℕ) (calls : List Call)
     (answers : List Answer) : Type 0 where
   pub run : (m : Content) → before.held m → (w : World) → IsLegalWorld w → Holds m w → after.honest

@@ -1,6 +1,6 @@
--- What a session did, by how it ended. `unread` is what the reader has left, where that is known, and `written` what the
--- writer holds; `failed` counts failed reads, `lost` failed writes, `reads` all reads, each before and after. `ended` says
--- whether the input's end was seen.
+-- What a session did, by how it ended. `unread` is what the reader has left, where that is known, and `written` what
+-- the writer holds; `failed` counts failed reads, `lost` failed writes, `reads` all reads, each before and after.
+-- `ended` says whether the input's end was seen.
 use Rattle.std.specs.{Io.KnownBytes.{Consumes, IsAtEnd}, Prelude.{◌≡◌, ◌⊎◌, ◌<◌, ◌≤◌, ◌+◌, ℕ, List, [], ◌++◌, length, Bool, IsTrue, Option}}
 use Rattle.plant_types.specs.Limits.{max_reads}
 use Rattle.plant_model.specs.declared.{call.Call.{Call}, reply.Answer.{Answer}}
@@ -38,9 +38,9 @@ pub record IsCutShort (bytes : List ℕ) (unread_after : Option (List ℕ)) (end
   pub serves : AnswersFront bytes written written_after ran rest
 
 -- Closed: the input ended, and its requests use it up. BrokenInput: they end in a cause that breaks the stream, or the
--- input ended within a request. ReadFailed: each whole request was answered. WriteFailed, Fault: the requests at the front
--- were answered whole, and of at most one more a part of its answer was written; those behind it were not answered. At
--- Fault that one is not a call that got a fault of the office.
+-- input ended within a request. ReadFailed: each whole request was answered. WriteFailed, Fault: the requests at the
+-- front were answered whole, and of at most one more a part of its answer was written; those behind it were not
+-- answered. At Fault that one is not a call that got a fault of the office.
 abbrev pub EndsAs : List ℕ → Option (List ℕ) → Bool → Option (List ℕ) → Option (List ℕ)
     → (List Call → List Answer → Type 0) → End → Type 0
 EndsAs bytes unread_after ended written written_after ran Closed =
@@ -60,8 +60,8 @@ IsSession unread unread_after ended written written_after ran end =
     (bytes : List ℕ) × Consumes unread unread_after bytes
     × EndsAs bytes unread_after ended written written_after ran end
 
--- which reads and writes failed, by the end: none but at ReadFailed, where one did or 1,000,000 were made, of which none saw the
--- input's end, and at WriteFailed
+-- which reads and writes failed, by the end: none but at ReadFailed, where one did or 1,000,000 were made, of which
+-- none saw the input's end, and at WriteFailed
 abbrev pub StopsAs : Bool → Bool → ℕ → ℕ → ℕ → ℕ → ℕ → ℕ → End → Type 0
 StopsAs ended ended_after failed failed_after reads reads_after lost lost_after Closed = (failed_after ≡ failed)
     × (lost_after ≡ lost)

@@ -16,7 +16,8 @@ use std::alloc::{AllocError, Global};
 pub enum End {
     /// The input ended, and all of it was answered.
     Closed,
-    /// The input ended within a request, which is not answered, or can't be read as requests, which is answered with the cause.
+    /// The input ended within a request, which is not answered, or can't be read as requests, which is answered with
+    /// the cause.
     BrokenInput,
     /// A read failed, or as many were made as a session makes; all whole requests were answered.
     ReadFailed,

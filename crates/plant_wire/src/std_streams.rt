@@ -38,8 +38,8 @@ fn write_on<W: Write>(writer: &mut W, bytes: &[u8]) -> io::Result<usize>
     Err(ErrorKind::TimedOut.into())
 }
 
-/// A reader of std as an inlet. What it claims of its bytes is what the reader claims. It fails with the reader's error,
-/// with `TimedOut` where signals interrupted one read a thousand times, or where no more reads can be counted.
+/// A reader of std as an inlet. What it claims of its bytes is what the reader claims. It fails with the reader's
+/// error, with `TimedOut` where signals interrupted one read a thousand times, or where no more reads can be counted.
 #[derive(Drop)]
 pub struct FromRead<R: Read> {
     reader: R,
@@ -110,7 +110,8 @@ impl<R: Read> Inlet for FromRead<R> {
 }
 
 /// A writer of std as an outlet. What it claims of its bytes is what the writer claims. It fails with the writer's
-/// error, with `TimedOut` where signals interrupted one write a thousand times, or with `WriteZero` where the writer took nothing of some bytes.
+/// error, with `TimedOut` where signals interrupted one write a thousand times, or with `WriteZero` where the writer
+/// took nothing of some bytes.
 #[derive(Drop)]
 pub struct ToWrite<W: Write> {
     writer: W,

@@ -20,8 +20,8 @@ use plant_route::Routes;
 use plant_types::Fault;
 use std::alloc::Global;
 
-/// What the bytes at the front were: a request that is not whole and cannot be with fewer bytes than these (`Waits`), one
-/// of so many bytes that was answered (`Took`), or none at all (`Broken`).
+/// What the bytes at the front were: a request that is not whole and cannot be with fewer bytes than these (`Waits`),
+/// one of so many bytes that was answered (`Took`), or none at all (`Broken`).
 #[derive(Clone, Copy, Debug)]
 pub enum Step {
     Waits(usize),
@@ -113,7 +113,8 @@ fn answer_call<O: Outlet, B: Books>(
     put
 }
 
-/// Answers the request that was cut off the front, if one was. If none was, it is not whole with fewer than `wanted` bytes.
+/// Answers the request that was cut off the front, if one was. If none was, it is not whole with fewer than `wanted`
+/// bytes.
 fn answer_cut<O: Outlet, B: Books>(
     alloc: Global,
     cut: &Cut,

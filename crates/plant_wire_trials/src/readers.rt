@@ -45,7 +45,8 @@ impl Write for Narrow {
     }
 }
 
-/// What was written to a writer of so many bytes a write, where the input comes byte by byte, and how the session ended.
+/// What was written to a writer of so many bytes a write, where the input comes byte by byte, and how the session
+/// ended.
 fn written(rt: &impl Abort, alloc: Global, bytes: Vec<u8>, most: usize) -> (Vec<u8>, End) {
     let mut inlet = FromRead::new(ByByte { bytes, at: 0 });
     let mut writer = Narrow {
