@@ -44,7 +44,8 @@ absent k (x ∷ ls) (suc at) l none is same = go (nat_eq x.number k) refl (λ h.
     go false e before = before (sym (later x k ls (eqb-false x.number k e)) ∙ none)
 
 -- another line than an earlier one
-differs : (count : ℕ) (x : Line) (ls : List Line) (at : ℕ) (l : Line) → AreOpenLines count (x ∷ ls) → slice_get ls at ≡ Some l → x.number ≢ l.number
+differs : (count : ℕ) (x : Line) (ls : List Line) (at : ℕ) (l : Line) → AreOpenLines count (x ∷ ls) → slice_get ls at ≡ Some l
+    → x.number ≢ l.number
 differs count x ls at l ok is same = absent x.number ls at l ok.1 is (sym same)
 
 pub found : (count : ℕ) (ls : List Line) (at : ℕ) (l : Line) → AreOpenLines count ls → slice_get ls at ≡ Some l → line_with l.number ls ≡ Some l
@@ -128,7 +129,8 @@ remove_own count [] at l ok is = cc
 remove_own count (x ∷ ls) zero l ok is = let e : x ≡ l = cc in ap (λ (t : Line). line_with t.number ls) (sym e) ∙ ok.1
 remove_own count (x ∷ ls) (suc at) l ok is = later x l.number (remove ls at) (differs count x ls at l ok is) ∙ remove_own count ls at l ok.3 is
 
-remove_other : (ls : List Line) (at : ℕ) (l : Line) (k : ℕ) → slice_get ls at ≡ Some l → l.number ≢ k → line_with k (remove ls at) ≡ line_with k ls
+remove_other : (ls : List Line) (at : ℕ) (l : Line) (k : ℕ) → slice_get ls at ≡ Some l → l.number ≢ k
+    → line_with k (remove ls at) ≡ line_with k ls
 remove_other [] at l k is not = cc
 remove_other (x ∷ ls) zero l k is not = let e : x ≡ l = cc in sym (later x k ls (λ w. not (sym (ap (λ (t : Line). t.number) e) ∙ w)))
 remove_other (x ∷ ls) (suc at) l k is not = go (nat_eq x.number k) refl (remove_other ls at l k is not)
@@ -137,7 +139,8 @@ remove_other (x ∷ ls) (suc at) l k is not = go (nat_eq x.number k) refl (remov
     go true e h = rw e refl
     go false e h = rw e h
 
-pub remove_lines : (count : ℕ) (ls : List Line) (at : ℕ) (l : Line) → AreOpenLines count ls → slice_get ls at ≡ Some l → AreOpenLines count (remove ls at)
+pub remove_lines : (count : ℕ) (ls : List Line) (at : ℕ) (l : Line) → AreOpenLines count ls → slice_get ls at ≡ Some l
+    → AreOpenLines count (remove ls at)
 remove_lines count [] at l ok is = cc
 remove_lines count (x ∷ ls) zero l ok is = ok.3
 remove_lines count (x ∷ ls) (suc at) l ok is =
@@ -163,7 +166,8 @@ over_so l none = go l.end refl
     go None is = tt
     go (Some e) is = ends_so l e is none
 
-pub lifted_closed : (count : ℕ) (ls : List Line) (at : ℕ) (l : Line) (end : End) → AreOpenLines count ls → slice_get ls at ≡ Some l → MayClose l end
+pub lifted_closed : (count : ℕ) (ls : List Line) (at : ℕ) (l : Line) (end : End) → AreOpenLines count ls → slice_get ls at ≡ Some l
+    → MayClose l end
     → (k : ℕ) → Leads k (stage_of k count ls) (closed l.number end ∷ []) (stage_of k count (remove ls at))
 lifted_closed count ls at l end ok is may k = go (nat_eq l.number k) refl
   where
@@ -198,7 +202,8 @@ pushed_other : (ls : List Line) (l : Line) (k : ℕ) → l.number ≢ k → line
 pushed_other [] l k not = later l k [] not
 pushed_other (x ∷ ls) l k not = go (nat_eq x.number k) refl (pushed_other ls l k not)
   where
-    go : (b : Bool) → nat_eq x.number k ≡ b → line_with k (ls ++ l ∷ []) ≡ line_with k ls → line_with k (x ∷ (ls ++ l ∷ [])) ≡ line_with k (x ∷ ls)
+    go : (b : Bool) → nat_eq x.number k ≡ b → line_with k (ls ++ l ∷ []) ≡ line_with k ls
+        → line_with k (x ∷ (ls ++ l ∷ [])) ≡ line_with k (x ∷ ls)
     go true e h = rw e refl
     go false e h = rw e h
 
@@ -274,17 +279,20 @@ prompt_start (x ∷ ls) e = cc
 pub none_yet : (k : ℕ) → stage_of k 0 [] ≡ fresh
 none_yet k = stage_fresh_at k 0 [] (omega arith)
 
-pub waits_at : (count : ℕ) (ls : List Line) (at : ℕ) (l : Line) → AreOpenLines count ls → slice_get ls at ≡ Some l → WaitsBelow l.unread.items l.wanted
+pub waits_at : (count : ℕ) (ls : List Line) (at : ℕ) (l : Line) → AreOpenLines count ls → slice_get ls at ≡ Some l
+    → WaitsBelow l.unread.items l.wanted
 waits_at count [] at l ok is = cc
 waits_at count (x ∷ ls) zero l ok is = let e : x ≡ l = cc in subst (λ (t : Line). WaitsBelow t.unread.items t.wanted) e ok.2
 waits_at count (x ∷ ls) (suc at) l ok is = waits_at count ls at l ok.3 is
 
-pub prompt_more : (ls : List Line) (at : ℕ) (l : Line) → slice_get ls at ≡ Some l → ArePrompt (take at ls) → IsPrompt l → ArePrompt (take (suc at) ls)
+pub prompt_more : (ls : List Line) (at : ℕ) (l : Line) → slice_get ls at ≡ Some l → ArePrompt (take at ls) → IsPrompt l
+    → ArePrompt (take (suc at) ls)
 prompt_more [] at l is before now = cc
 prompt_more (x ∷ ls) zero l is before now = let e : x ≡ l = cc in (subst IsPrompt (sym e) now, tt)
 prompt_more (x ∷ ls) (suc at) l is before now = (before.0, prompt_more ls at l is before.1 now)
 
-pub prompt_next : (ls : List Line) (at : ℕ) (l : Line) → slice_get ls at ≡ Some l → ArePrompt (take at ls) → IsPrompt l → ArePrompt (take (at + 1) ls)
+pub prompt_next : (ls : List Line) (at : ℕ) (l : Line) → slice_get ls at ≡ Some l → ArePrompt (take at ls) → IsPrompt l
+    → ArePrompt (take (at + 1) ls)
 prompt_next ls at l is before now =
     let e : suc at ≡ at + 1 = omega arith in
     subst (λ (n : ℕ). ArePrompt (take n ls)) e (prompt_more ls at l is before now)

@@ -36,7 +36,8 @@ pub record IsGoing (c : List ℕ) (m : List Mark) (x : List ℕ) (d : List Call)
   pub waiting : ((p ≡ []) × (t ≡ out_of m)) ⊎ IsBehind m t p
 
 -- its input ended
-pub record HasEnded (c h : List ℕ) (m : List Mark) (x : List ℕ) (d : List Call) (b : List Answer) (t : List ℕ) (e : End) (p : List ℕ) : Type 0 where
+pub record HasEnded (c h : List ℕ) (m : List Mark) (x : List ℕ) (d : List Call) (b : List Answer) (t : List ℕ) (e : End)
+    (p : List ℕ) : Type 0 where
   pub rest : List ℕ
   pub parses : Parsed c (map marked_item m) rest
   pub idle : IsIdle rest
@@ -49,7 +50,8 @@ pub record HasEnded (c h : List ℕ) (m : List Mark) (x : List ℕ) (d : List Ca
   pub end : e ≡ end_for rest
 
 -- what came cannot be read
-pub record HasBroken (c : List ℕ) (m : List Mark) (x : List ℕ) (d : List Call) (b : List Answer) (t : List ℕ) (e : End) (p : List ℕ) : Type 0 where
+pub record HasBroken (c : List ℕ) (m : List Mark) (x : List ℕ) (d : List Call) (b : List Answer) (t : List ℕ) (e : End)
+    (p : List ℕ) : Type 0 where
   pub rest : List ℕ
   pub cause : Cause
   pub before : List ℕ
@@ -63,7 +65,8 @@ pub record HasBroken (c : List ℕ) (m : List Mark) (x : List ℕ) (d : List Cal
   pub end : e ≡ BrokenInput
 
 -- an answer stopped
-pub record HasStopped (c : List ℕ) (m : List Mark) (x : List ℕ) (d : List Call) (b : List Answer) (t : List ℕ) (e : End) (p : List ℕ) : Type 0 where
+pub record HasStopped (c : List ℕ) (m : List Mark) (x : List ℕ) (d : List Call) (b : List Answer) (t : List ℕ) (e : End)
+    (p : List ℕ) : Type 0 where
   pub rest : List ℕ
   pub last : Last
   pub part : ℕ
@@ -99,9 +102,11 @@ Parsed-trans : (a b r : List ℕ) (xs ys : List Item) → Parsed a xs b → Pars
 Parsed-trans a b r [] ys is later = subst (λ (t : List ℕ). Parsed t ys r) (sym is) later
 Parsed-trans a b r (x ∷ xs) ys (n, front, rest) later = (n, front, Parsed-trans (drop n a) b r xs ys rest later)
 
-parsed_more : (a b r : List ℕ) (ms ns : List Mark) → Parsed a (map marked_item ms) b → Parsed b (map marked_item ns) r → Parsed a (map marked_item (ms ++ ns)) r
+parsed_more : (a b r : List ℕ) (ms ns : List Mark) → Parsed a (map marked_item ms) b → Parsed b (map marked_item ns) r
+    → Parsed a (map marked_item (ms ++ ns)) r
 parsed_more a b r ms ns first later =
-    subst (λ (x : List Item). Parsed a x r) (sym (map-append marked_item ms ns)) (Parsed-trans a b r (map marked_item ms) (map marked_item ns) first later)
+    subst (λ (x : List Item). Parsed a x r) (sym (map-append marked_item ms ns))
+    (Parsed-trans a b r (map marked_item ms) (map marked_item ns) first later)
 
 pub out_last : (ms : List Mark) (m : Mark) → out_of (ms ++ m ∷ []) ≡ out_of ms ++ mark_text m
 out_last ms m = flat_map-append mark_text ms (m ∷ []) ∙ ap (λ (l : List ℕ). out_of ms ++ l) (append-nil (mark_text m))
@@ -192,7 +197,8 @@ texts_cut o x before p t split sent = ap (λ (l : List ℕ). o ++ l) split ∙ s
 texts_whole : (o x t p : List ℕ) → x ≡ [] → p ≡ [] → t ≡ o → o ++ x ≡ t ++ p
 texts_whole o x t p uncut none sent = rw (uncut, none, sent) refl
 
-account_waiting : (m : List Mark) (x t p : List ℕ) → x ≡ [] → ((p ≡ []) × (t ≡ out_of m)) ⊎ IsBehind m t p → (out_of m ++ x ≡ t ++ p) × AreOfOne p m x
+account_waiting : (m : List Mark) (x t p : List ℕ) → x ≡ [] → ((p ≡ []) × (t ≡ out_of m)) ⊎ IsBehind m t p
+    → (out_of m ++ x ≡ t ++ p) × AreOfOne p m x
 account_waiting m x t p uncut (inl (none, sent)) = (texts_whole (out_of m) x t p uncut none sent, ([], inl (uncut ∙ sym none)))
 account_waiting m x t p uncut (inr w) =
     let whole : out_of m ≡ out_of w.earlier ++ mark_text w.last = ap out_of w.are ∙ out_last w.earlier w.last in
@@ -244,7 +250,8 @@ account c h m x d b t gone a = a
 seen_more : (h : List ℕ) (k : ℕ) → nat_lt 0 (length (h ++ k ∷ [])) ≡ true
 seen_more h k = lt-ltb 0 (length (h ++ k ∷ [])) (omega (arith, length-append h (k ∷ [])))
 
-moves : (s s' : Stage) (e : Event) (c h : List ℕ) (m : List Mark) (x : List ℕ) (d : List Call) (b : List Answer) (t : List ℕ) → IsAt c h m x d b t s
+moves : (s s' : Stage) (e : Event) (c h : List ℕ) (m : List Mark) (x : List ℕ) (d : List Call) (b : List Answer) (t : List ℕ)
+    → IsAt c h m x d b t s
     → Moves s e s'
     → IsAt (c ++ bytes_in e) (h ++ ends_in e) (m ++ marks_in e) (x ++ cut_in e) (d ++ calls_in e) (b ++ answers_in e) (t ++ sent_in e) s'
 moves fresh s' (opened k) c h m x d b t (rc, rm, rx, rd, rb, rt) is =
@@ -277,8 +284,14 @@ moves (served u p) s' (answered k mark) c h m x d b t g (empty, (n, stands, is))
       calls = ap (λ (l : List Call). l ++ calls_of (mark ∷ [])) g.calls ∙ sym (filter_map-append call_in m (mark ∷ []));
       answers = ap (λ (l : List Answer). l ++ answers_of (mark ∷ [])) g.answers ∙ sym (filter_map-append marked_answer m (mark ∷ []));
       waiting =
-          inr record
-          { earlier = m; last = mark; before = []; are = refl; text = refl; sent = sent_all m t p g.waiting empty ∙ sym (append-nil (out_of m)) };
+          inr record {
+            earlier = m;
+            last = mark;
+            before = [];
+            are = refl;
+            text = refl;
+            sent = sent_all m t p g.waiting empty ∙ sym (append-nil (out_of m));
+          };
     }
 moves (served u p) s' (broke k cause) c h m x d b t g (empty, front, is) =
     rw (is, append-nil c, append-nil m, append-nil d, append-nil b, append-nil t) (inr (inl record {
@@ -307,7 +320,8 @@ moves (served u p) s' (stopped k last part stop) c h m x d b t g (empty, stands,
       cut = ap (λ (l : List ℕ). l ++ take part (last_text last)) g.uncut;
       split = ap (λ (l : List ℕ). l ++ take part (last_text last)) g.uncut;
       calls = ap (λ (l : List Call). l ++ calls_of (last_marks last)) g.calls ∙ sym (filter_map-append call_in m (last_marks last));
-      answers = ap (λ (l : List Answer). l ++ answers_of (last_marks last)) g.answers ∙ sym (filter_map-append marked_answer m (last_marks last));
+      answers = ap (λ (l : List Answer). l ++ answers_of (last_marks last)) g.answers
+          ∙ sym (filter_map-append marked_answer m (last_marks last));
       sent = sent_all m t p g.waiting empty ∙ sym (append-nil (out_of m));
       end = refl;
     }))

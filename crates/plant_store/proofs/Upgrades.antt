@@ -70,7 +70,8 @@ puts_into i apart [] rows = refl
 puts_into i apart (x ∷ xs) rows = puts_into i apart xs (with_rows i (put_row (shape i).order (shape i).key x (rows_of_table i rows)) rows)
 
 -- into one without rows
-puts_rising : (i : TableKind) → i ≢ Units → (xs : List (RowOf i)) → Rise (shape i).order (shape i).key xs → (rows : UnitRows) → rows_of_table i rows ≡ []
+puts_rising : (i : TableKind) → i ≢ Units → (xs : List (RowOf i)) → Rise (shape i).order (shape i).key xs → (rows : UnitRows)
+    → rows_of_table i rows ≡ []
     → changed_by (map (λ r. Put (as_row i r)) xs) rows ≡ with_rows i xs rows
 puts_rising i apart xs up rows none =
     puts_into i apart xs rows
@@ -146,7 +147,8 @@ module _ (db : Database) (books : AreOldBooks db) where
       → is_among (map code rs) u ≡ has_any (map old_unit_shape.read (filter (is_of u) rs))
   among u [] all = refl
   among u (r ∷ rs) all =
-      let same : is_of u r ≡ same_name (code r) u = ap (λ v. is_eq (value_cmp v (Text u))) (name_at r all.0) ∙ ap is_eq (value_cmp-Text (code r) u) in
+      let same : is_of u r ≡ same_name (code r) u = ap (λ v. is_eq (value_cmp v (Text u))) (name_at r all.0)
+      ∙ ap is_eq (value_cmp-Text (code r) u) in
       go (same_name (code r) u) (is_of u r) same (among u rs all.1)
     where
       go : (b c : Bool) → c ≡ b → is_among (map code rs) u ≡ has_any (map old_unit_shape.read (filter (is_of u) rs))
@@ -159,9 +161,11 @@ module _ (db : Database) (books : AreOldBooks db) where
   pub code_known : (u : Name) → is_among (old_codes db.trees) u ≡ has_any (old_rows u db.trees Units)
   code_known u =
       ap (λ cs. is_among cs u) codes_are ∙ among u sorted well_formed
-      ∙ ap (λ rs. has_any (map old_unit_shape.read rs)) (sym (sort-filter (by_columns unit_key) (by_columns_total unit_key) (is_of u) (db.trees 1)))
+      ∙ ap (λ rs. has_any (map old_unit_shape.read rs))
+      (sym (sort-filter (by_columns unit_key) (by_columns_total unit_key) (is_of u) (db.trees 1)))
 
-  less_code : (a b : Row) → IsRowIn old_unit_shape a → IsRowIn old_unit_shape b → by_columns unit_key a b ≡ Less → name_cmp (code a) (code b) ≡ Less
+  less_code : (a b : Row) → IsRowIn old_unit_shape a → IsRowIn old_unit_shape b → by_columns unit_key a b ≡ Less
+      → name_cmp (code a) (code b) ≡ Less
   less_code a b p q h = sym (then-Equal _ ∙ ap₂ value_cmp (name_at a p) (name_at b q) ∙ value_cmp-Text (code a) (code b)) ∙ h
 
   codes_up : (rs : List Row) → AllByRecursion (IsRowIn old_unit_shape) rs → IsAscending (λ a b. by_columns unit_key a b ≡ Less) rs

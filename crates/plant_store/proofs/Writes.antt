@@ -51,7 +51,8 @@ edits_apply i u change cs old new it here elsewhere database = record {
   database = database;
 }
   where
-    one : (rows : UnitRows) → AreSeen u old rows → (j : TableKind) → (j ≡ i) ⊎ (j ≢ i) → rows_seen u new.trees j ≡ rows_of_table j (changed_by cs rows)
+    one : (rows : UnitRows) → AreSeen u old rows → (j : TableKind) → (j ≡ i) ⊎ (j ≢ i)
+        → rows_seen u new.trees j ≡ rows_of_table j (changed_by cs rows)
     one rows seen j (inl e) =
         subst (λ k. rows_seen u new.trees k ≡ rows_of_table k (changed_by cs rows)) (sym e) (it.mine ∙ ap change (seen i) ∙ sym (here rows seen))
     one rows seen j (inr apart) = ap (rows_in (shape j) u) (it.other_tables j apart) ∙ seen j ∙ sym (elsewhere rows j apart)
@@ -73,7 +74,8 @@ put_in_table : (i : TableKind) (u : Name) (x : RowOf i) (old new : State) → Ar
     → Edits RowOf KeyOf shape books_schema i u (put_row (shape i).order (shape i).key x) old.now new.now
 put_in_table i u x old new books count h =
     edits RowOf KeyOf shape books_schema all_listed i u _ old.now new.now books (put_changes (shape i) (good i) books_schema u x old.now new.now
-    (adds_row (shape i) (good i) books_schema (listed i) free (put_text i) (put_terms i) (put_width i) (puts i).is (puts i).plain u x (values i u x)
+    (adds_row (shape i) (good i) books_schema (listed i) free (put_text i) (put_terms i) (put_width i) (puts i).is (puts i).plain u x
+    (values i u x)
     old new books.same_schema (books.tidy i).are count h) (books.tidy i))
 
 -- which leaves a database
@@ -104,7 +106,8 @@ with_rows Records xs rows = record rows { records = xs }
 with_rows Changes xs rows = record rows { changes = xs }
 
 -- the rows of all other tables stay
-away : (i : TableKind) (xs : List (RowOf i)) (rows : UnitRows) (j : TableKind) → j ≢ i → rows_of_table j (with_rows i xs rows) ≡ rows_of_table j rows
+away : (i : TableKind) (xs : List (RowOf i)) (rows : UnitRows) (j : TableKind) → j ≢ i
+    → rows_of_table j (with_rows i xs rows) ≡ rows_of_table j rows
 away Units xs rows Units h = absurd (h refl)
 away Grants xs rows Grants h = absurd (h refl)
 away Alarms xs rows Alarms h = absurd (h refl)
@@ -123,7 +126,8 @@ pub edited : (i : TableKind) (u : Name) (x : RowOf i) (old new : Database) → A
 edited Units u x old new books it database =
     edits_apply Units u (put_row nat_cmp own_key x) (Put (UnitPut x) ∷ []) old new it
     (λ rows seen. sym
-    (one_at_most x rows.units (subst (IsInOrder nat_cmp own_key) (seen Units) (rises unit_shape (good Units) u (old.trees 1) (books.tidy Units)))))
+    (one_at_most x rows.units
+    (subst (IsInOrder nat_cmp own_key) (seen Units) (rises unit_shape (good Units) u (old.trees 1) (books.tidy Units)))))
     (λ rows. away Units (x ∷ []) rows) database
 edited i u x old new books it database =
     edits_apply i u (put_row (shape i).order (shape i).key x) (Put (as_row i x) ∷ []) old new it (λ rows seen. refl)
@@ -160,7 +164,8 @@ remove_grant_applies u p r old new books count h =
     edits_apply Grants u _ (Remove (GrantKey p r) ∷ []) old.now new.now
     (edits RowOf KeyOf shape books_schema all_listed Grants u _ old.now new.now books
     (remove_changes (shape Grants) (good Grants) books_schema u (grant_with p r) old.now new.now
-    (removes_row (shape Grants) (good Grants) books_schema free (listed Grants) remove_grant_text by_three remove_grant.is remove_grant.plain (Text u
+    (removes_row (shape Grants) (good Grants) books_schema free (listed Grants) remove_grant_text by_three remove_grant.is remove_grant.plain
+    (Text u
     ∷ Text p ∷ role r ∷ []) u (grant_with p r) (λ row. refl) old new books.same_schema (books.tidy Grants).are count h) (books.tidy Grants)))
     (λ rows seen. refl) (λ rows. away Grants _ rows)
     (λ _. (runs_as remove_grant_text (Text u ∷ Text p ∷ role r
@@ -174,7 +179,8 @@ remove_shelf_applies u a old new books count h =
     edits_apply Shelves u _ (Remove (ShelfKey a) ∷ []) old.now new.now
     (edits RowOf KeyOf shape books_schema all_listed Shelves u _ old.now new.now books
     (remove_changes (shape Shelves) (good Shelves) books_schema u (shelf_with a) old.now new.now
-    (removes_row (shape Shelves) (good Shelves) books_schema free (listed Shelves) remove_shelf_text by_two remove_shelf.is remove_shelf.plain (Text u
+    (removes_row (shape Shelves) (good Shelves) books_schema free (listed Shelves) remove_shelf_text by_two remove_shelf.is remove_shelf.plain
+    (Text u
     ∷ Text a ∷ []) u (shelf_with a) (λ row. refl) old new books.same_schema (books.tidy Shelves).are count h) (books.tidy Shelves)))
     (λ rows seen. refl) (λ rows. away Shelves _ rows)
     (λ _. (runs_as remove_shelf_text (Text u ∷ Text a

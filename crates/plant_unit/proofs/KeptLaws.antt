@@ -119,12 +119,14 @@ module _ (h : List Call) (n : ℕ) (m : Grid) (is : kind_of_change h n ≡ Some 
   no_source_named : (tags : Name → Bool) (A : Type 0) → is_source (rows_of h) tags n ≡ true → A
   no_source_named tags A e = absurd (let no : true ≡ false = sym e ∙ no_source tags in cc)
 
-  topic_matrix : (tag : Option Name) (k : ChangeTopic) → (of_topic (rows_of h) tag k).change n ≡ true → (of_topic (rows_of h) tag k).matrix n ≡ true
+  topic_matrix : (tag : Option Name) (k : ChangeTopic) → (of_topic (rows_of h) tag k).change n ≡ true
+      → (of_topic (rows_of h) tag k).matrix n ≡ true
   topic_matrix tag MatrixTopic e = no_source_named every _ e
   topic_matrix (Some a) _ e = cc
   topic_matrix None _ e = no_source_named every _ e
 
-  approved_matrix : (k : ℕ) (o : Option ChangeEntry) → (of_approved (rows_of h) k o).change n ≡ true → (of_approved (rows_of h) k o).matrix n ≡ true
+  approved_matrix : (k : ℕ) (o : Option ChangeEntry) → (of_approved (rows_of h) k o).change n ≡ true
+      → (of_approved (rows_of h) k o).matrix n ≡ true
   approved_matrix k None e = e
   approved_matrix k (Some c) e = elim (or_cases ((of_topic (rows_of h) c.tag c.kind_no).change n) (same_number k n) e) [
     | inl source ↦ or_left _ _ (topic_matrix c.tag c.kind_no source)
@@ -165,17 +167,20 @@ module _ (h : List Call) (legal : IsLegal h) (p : Name) (t : ℕ) (q : Request) 
   cells_gone n out severity =
       ap (map (λ (c : CellRow). c.cell_no))
       (filter-none (λ (c : CellRow). same_number n c.matrix_no && same_number severity c.severity) (λ (c : CellRow). s.matrix c.matrix_no)
-      (λ c e. ap s.matrix (sym (same_number_of n c.matrix_no (and_parts (same_number n c.matrix_no) (same_number severity c.severity) e).0)) ∙ out)
+      (λ c e. ap s.matrix (sym (same_number_of n c.matrix_no (and_parts (same_number n c.matrix_no) (same_number severity c.severity) e).0))
+      ∙ out)
       (cell_rows h))
 
   left_out : (n : ℕ) → s.matrix n ≡ false → is_left_out part n ≡ true
   left_out n out =
-      λ i. length (filter has_cells (cells_gone n out 1 i ∷ cells_gone n out 2 i ∷ cells_gone n out 3 i ∷ cells_gone n out 4 i ∷ cells_gone n out 5 i
+      λ i. length (filter has_cells (cells_gone n out 1 i ∷ cells_gone n out 2 i ∷ cells_gone n out 3 i ∷ cells_gone n out 4 i
+      ∷ cells_gone n out 5 i
       ∷ [])) == 0
 
   matrix_whole : (is_left_out part (matrix h).0 || is_matrix_at part (matrix h).0) ≡ true
   matrix_whole =
-      elim (s.matrix (matrix h).0) as (λ b. s.matrix (matrix h).0 ≡ b → (is_left_out part (matrix h).0 || is_matrix_at part (matrix h).0) ≡ true) [
+      elim (s.matrix (matrix h).0) as (λ b. s.matrix (matrix h).0 ≡ b
+      → (is_left_out part (matrix h).0 || is_matrix_at part (matrix h).0) ≡ true) [
         | true ↦ λ holds. or_right _ _ (matrix_is (matrix h).0 (matrix h).1 (in_force_numbered h legal) holds)
         | false ↦ λ out. or_left _ _ (left_out (matrix h).0 out)
       ] refl
@@ -185,7 +190,8 @@ module _ (h : List Call) (legal : IsLegal h) (p : Name) (t : ℕ) (q : Request) 
   change_left n = row_at-left nat_cmp change_number number_total same_numbers s.change n (change_rows h)
       ∙ ap (λ o. cond (s.change n) o None) (change_entry_in h n)
 
-  kind_whole : (n : ℕ) (d : Draft) → draft h n ≡ Some d → s.change n ≡ true → has_kind part (change_entry (change_with h n d)) (topic_of d.kind) ≡ true
+  kind_whole : (n : ℕ) (d : Draft) → draft h n ≡ Some d → s.change n ≡ true
+      → has_kind part (change_entry (change_with h n d)) (topic_of d.kind) ≡ true
   kind_whole n d known there = by d.kind refl where
     by : (k : ChangeKind) → d.kind ≡ k → has_kind part (change_entry (change_with h n d)) (topic_of k) ≡ true
     by (Rationale a sheet) e = ap (λ k. is_some (tag_of_kind k) && has_sheet_of k) e
@@ -228,7 +234,8 @@ module _ (h : List Call) (legal : IsLegal h) (p : Name) (t : ℕ) (q : Request) 
     by None e = refl
     by (Some c) e =
         let of = drafted x.0 c e in
-        let kind : Some of.0.kind ≡ Some (Rationale a x.1) = sym (ap (option_map (λ (d : Draft). d.kind)) of.1) ∙ sheet_source h a x.0 x.1 known in
+        let kind : Some of.0.kind ≡ Some (Rationale a x.1) = sym (ap (option_map (λ (d : Draft). d.kind)) of.1)
+        ∙ sheet_source h a x.0 x.1 known in
         ap has_sheet (sym of.3) ∙ ap has_sheet_of (same_Some _ _ kind)
 
   records_whole : list_all (has_its_sheet part) part.records ≡ true
@@ -250,7 +257,8 @@ module _ (h : List Call) (legal : IsLegal h) (p : Name) (t : ℕ) (q : Request) 
   revision_left a =
       subst (λ o. unwrap_or (option_map (λ (r : RecordEntry). r.rev) o) 0 ≤ max_changes)
       (sym (row_at-left name_cmp record_tag name_total same_names s.rationale a (record_rows h)))
-      (elim (s.rationale a) as (λ b. unwrap_or (option_map (λ (r : RecordEntry). r.rev) (cond b (record_found (rows_of h) a) None)) 0 ≤ max_changes)
+      (elim (s.rationale a) as
+      (λ b. unwrap_or (option_map (λ (r : RecordEntry). r.rev) (cond b (record_found (rows_of h) a) None)) 0 ≤ max_changes)
       [ true ↦ subst (λ n. n ≤ max_changes) (sym (revision_in h a)) (few_records h legal a) | false ↦ omega arith ])
 
   limit_left : (a : Name) → revision_of_limit (row_at name_cmp alarm_tag a part.alarms) ≤ max_changes
@@ -269,7 +277,8 @@ module _ (h : List Call) (legal : IsLegal h) (p : Name) (t : ℕ) (q : Request) 
         events_rise = (few_of (rows_of h) (scope_of q) (events h) (events_rise h legal) (few_events h legal)).0;
         events_few = (few_of (rows_of h) (scope_of q) (events h) (events_rise h legal) (few_events h legal)).1;
         alarms_in_order =
-            left_in_order name_cmp alarm_tag (λ r. s.alarm r.tag) (alarm_rows h) (IsInOrder-rows (alarm_row h) (tags_of_alarms h) (alarms_told h));
+            left_in_order name_cmp alarm_tag (λ r. s.alarm r.tag) (alarm_rows h)
+            (IsInOrder-rows (alarm_row h) (tags_of_alarms h) (alarms_told h));
         shelves_in_order =
             left_in_order name_cmp shelf_tag (λ r. s.shelf r.tag) (shelf_rows h) (IsInOrder-rows (shelf h) (tags_of_shelves h) (shelves_told h));
         records_in_order = left_in_order name_cmp record_tag (λ r. s.rationale r.tag) (record_rows h) (records_rise h);
@@ -318,7 +327,8 @@ summaries_told h [] = refl
 summaries_told h (a ∷ tags) =
     elim (latching h a) as
     (λ o. map summary_in (filter (λ (r : AlarmRow). true) (cons_option (option_map (alarm_of h a) o) (filter_map (alarm_row h) tags)))
-    ≡ map (summary_of (events h)) (filter (λ (r : AlarmRow). true) (cons_option (option_map (alarm_of h a) o) (filter_map (alarm_row h) tags)))) [
+    ≡ map (summary_of (events h))
+    (filter (λ (r : AlarmRow). true) (cons_option (option_map (alarm_of h a) o) (filter_map (alarm_row h) tags)))) [
       | None ↦ summaries_told h tags
       | Some l ↦ ap (λ ss. summary_of (events h) (alarm_of h a l) ∷ ss) (summaries_told h tags)
     ]
@@ -330,7 +340,12 @@ proposal_events part es _ = tt
 holder_events : (h : List Call) (legal : IsLegal h) (p : Name) (t : ℕ) (q : Request)
     → AreEventsFor (part_of_holder (record { person = p; moment = t; request = q }) (rows_of h)) q (events h)
 holder_events h legal p t (Import u file) =
-    record { rise = events_rise h legal; needed_are = refl; count_is = refl; summaries = summaries_told h (in_order name_cmp (tags_of_alarms h)) }
+    record {
+      rise = events_rise h legal;
+      needed_are = refl;
+      count_is = refl;
+      summaries = summaries_told h (in_order name_cmp (tags_of_alarms h));
+    }
 holder_events h legal p t (Floods u begin until) = refl
 holder_events h legal p t (Propose u x) =
     proposal_events (part_of_holder (record { person = p; moment = t; request = Propose u x }) (rows_of h)) (events h) x.kind

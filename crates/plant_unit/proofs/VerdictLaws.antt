@@ -67,7 +67,8 @@ asked {f} {c} {v} is = subst (λ q. IsJudgedOwn f (record { person = c.person; m
 
 pub done_for : {E : Type 0} (f : Facts) (c : Call) (r : Request) → c.request ≡ r → reply f c.moment r ≡ Done → is_read r ≡ false
     → unit_after f c.moment r ≡ record f.unit { last_s = c.moment } → (unit : UnitRow) → f.unit ≡ unit
-    → (decided : Result (Result RowEdit Refused) E) (result : Result Verdict E) → IfOk decided (λ d. one_change d ≡ own_decision f c.person c.moment r)
+    → (decided : Result (Result RowEdit Refused) E) (result : Result Verdict E)
+    → IfOk decided (λ d. one_change d ≡ own_decision f c.person c.moment r)
     → IfOk result (λ v. IsOkAnd decided (λ d. v ≡ done_as (record unit { last_s = c.moment }) d))
     → IfOk result (IsJudgedOwn f c)
 done_for f c r is says changing row unit its decided (Err e) made v = tt

@@ -36,9 +36,11 @@ Parsed-trans : (a b r : List ℕ) (xs ys : List Item) → Parsed a xs b → Pars
 Parsed-trans a b r [] ys is later = subst (λ (t : List ℕ). Parsed t ys r) (sym is) later
 Parsed-trans a b r (x ∷ xs) ys (n, front, rest) later = (n, front, Parsed-trans (drop n a) b r xs ys rest later)
 
-parsed_more : (a b r : List ℕ) (ms ns : List Mark) → Parsed a (map marked_item ms) b → Parsed b (map marked_item ns) r → Parsed a (map marked_item (ms ++ ns)) r
+parsed_more : (a b r : List ℕ) (ms ns : List Mark) → Parsed a (map marked_item ms) b → Parsed b (map marked_item ns) r
+    → Parsed a (map marked_item (ms ++ ns)) r
 parsed_more a b r ms ns first later =
-    subst (λ (x : List Item). Parsed a x r) (sym (map-append marked_item ms ns)) (Parsed-trans a b r (map marked_item ms) (map marked_item ns) first later)
+    subst (λ (x : List Item). Parsed a x r) (sym (map-append marked_item ms ns))
+    (Parsed-trans a b r (map marked_item ms) (map marked_item ns) first later)
 
 module _ {first second both : List Call → List Answer → Type 0} (joins : Joins first second both) where
   ran_more : (ms ns : List Mark) → first (calls_of ms) (answers_of ms) → second (calls_of ns) (answers_of ns)

@@ -66,7 +66,8 @@ pub latest_legal : {A : Type 0} (says : Call → List Call → Option A) (P : Li
     → P h x
 latest_legal {A} says P first said stays =
     by_legal (λ h. (x : A) → latest says h ≡ Some x → P h x) (λ p t u s m k shape x e. first p t u s m k shape x (sym (else_none _) ∙ e)) next where
-      next : (h : List Call) (c : Call) → Follows h c → ((x : A) → latest says h ≡ Some x → P h x) → (x : A) → latest says (c ∷ h) ≡ Some x → P (c ∷ h) x
+      next : (h : List Call) (c : Call) → Follows h c → ((x : A) → latest says h ≡ Some x → P h x)
+          → (x : A) → latest says (c ∷ h) ≡ Some x → P (c ∷ h) x
       next h c f rest x e =
           elim (says c h) as (λ o. says c h ≡ o → or_else o (latest says h) ≡ Some x → P (c ∷ h) x) [
             | None ↦ λ _ is. stays h c f x (rest x is)

@@ -118,7 +118,8 @@ held_at t p r (g ∷ rows) h =
                       let names = sym (same_names p g.person e) in
                       let roles = sym (same_roles r g.role_no same) in
                       let pair : pair_of g ≡ (p, r) = λ i. (names i, roles i) in
-                      ap (option_map role_in) (none_above t p r rows (subst (λ (k : Pair). T (below_all pair_cmp k (keyed_grants rows))) pair (first _ _ h)))
+                      ap (option_map role_in)
+                      (none_above t p r rows (subst (λ (k : Pair). T (below_all pair_cmp k (keyed_grants rows))) pair (first _ _ h)))
                       ∙ sym (ap (λ b. cond b (Some r) None) ended)
                 ] refl
           ] refl

@@ -72,7 +72,8 @@ module _ (rows : UnitRows) (p : Name) (t : ℕ) where
   unfolding holds_some
   own_roles q =
       λ i. own_held q Viewer i
-      || (own_held q Operator i || (own_held q Maintainer i || (own_held q Engineer i || (own_held q Approver i || (own_held q Steward i || false)))))
+      || (own_held q Operator i
+      || (own_held q Maintainer i || (own_held q Engineer i || (own_held q Approver i || (own_held q Steward i || false)))))
 
   own_lack : (q : Request) (o : Option Role) → lacks_role (of_part q) t p o ≡ lacks_role (facts_of rows) t p o
   own_lack q None = refl
@@ -145,7 +146,8 @@ module _ (rows : UnitRows) (p : Name) (t : ℕ) where
 
   -- with these alarms and shelves the quota is used up by others than the tag's
   abbrev quota_used : List AlarmRow → List ShelfRow → Name → Bool
-  quota_used alarms shelves a = nat_le (unit_read rows).quota (others_shelved (facts_of (record rows { alarms = alarms; shelves = shelves })) a t)
+  quota_used alarms shelves a =
+      nat_le (unit_read rows).quota (others_shelved (facts_of (record rows { alarms = alarms; shelves = shelves })) a t)
 
   quota_same : (m : Bool) (a : Name) → is_crowded rows ≡ m
       → quota_used (filter (λ r. m || same_name a r.tag) rows.alarms)
@@ -206,7 +208,8 @@ module _ (rows : UnitRows) (p : Name) (t : ℕ) where
 
   -- a change of a number, and what an approval of it looks at
   numbered_there : (n : ℕ)
-      → option_map (change_read (within (change_by_number n))) (change_found (within (change_by_number n)) n) ≡ option_map (change_read rows) (change_found rows n)
+      → option_map (change_read (within (change_by_number n))) (change_found (within (change_by_number n)) n) ≡ option_map (change_read rows)
+      (change_found rows n)
   numbered_there n = change_there (change_by_number n) n (is_same_number n) (is_same_number n)
 
   -- a change from the columns that its topic looks at
@@ -245,7 +248,8 @@ module _ (rows : UnitRows) (p : Name) (t : ℕ) where
       ≡ outcome (facts_of rows) base number (kind_as k (unwrap_or tag []) s m max)
   kind_same n base number tag MatrixTopic s m max = ap (λ records. outcome (with_rationales records) base number (Matrix m)) (sources_there n)
   kind_same n base number (Some a) RecordTopic s m max =
-      λ i. outcome (with_content None (entry_there a i) (matrix_in_force n (of_content rows a) (is_same_number (unit_read rows).matrix_no) i)) base
+      λ i. outcome (with_content None (entry_there a i) (matrix_in_force n (of_content rows a) (is_same_number (unit_read rows).matrix_no) i))
+      base
       number (Rationale a s)
   kind_same n base number None RecordTopic s m max =
       λ i. outcome
@@ -253,7 +257,8 @@ module _ (rows : UnitRows) (p : Name) (t : ℕ) where
       (matrix_in_force n (of_records rows) (is_same_number (unit_read rows).matrix_no) i)) base number (Rationale [] s)
   kind_same n base number (Some a) LimitTopic s m max =
       ap (λ alarm. outcome (with_content alarm None no_matrix.1) base number (Limit a max)) (own_alarm false a)
-  kind_same n base number None LimitTopic s m max = ap (λ alarms. outcome (with_alarms alarms) base number (Limit [] max)) (filter-true rows.alarms)
+  kind_same n base number None LimitTopic s m max =
+      ap (λ alarms. outcome (with_alarms alarms) base number (Limit [] max)) (filter-true rows.alarms)
 
   outcome_same : (n : ℕ) (c : ChangeEntry)
       → outcome (chosen (approved n c.tag c.kind_no)) c.base c.number (change_read rows c).kind
@@ -273,7 +278,8 @@ module _ (rows : UnitRows) (p : Name) (t : ℕ) where
   refusals_same n c = ap (λ o. (same_name p c.proposer, SamePerson) ∷ o.0) (outcome_same n c)
 
   brought_same : (n : ℕ) (c : ChangeEntry)
-      → approval_changes (chosen (approved n c.tag c.kind_no)) p t (change_read rows c) ≡ approval_changes (facts_of rows) p t (change_read rows c)
+      → approval_changes (chosen (approved n c.tag c.kind_no)) p t (change_read rows c)
+      ≡ approval_changes (facts_of rows) p t (change_read rows c)
   brought_same n c = ap (λ o. decision_change Approved p t (change_read rows c) ∷ o.1) (outcome_same n c)
 
   approved_there : (n : ℕ) (o : Option ChangeEntry) → change_found rows n ≡ o
@@ -313,9 +319,11 @@ module _ (rows : UnitRows) (p : Name) (t : ℕ) where
       → own_refusals (of_part (Propose u (proposal k base))) p t (Propose u (proposal k base))
       ≡ own_refusals (facts_of rows) p t (Propose u (proposal k base))
   proposal_same u (Rationale a s) base =
-      λ i. own_refusals (with_content (own_alarm false a i) (entry_there a i) (content_matrix a i)) p t (Propose u (proposal (Rationale a s) base))
+      λ i. own_refusals (with_content (own_alarm false a i) (entry_there a i) (content_matrix a i)) p t
+      (Propose u (proposal (Rationale a s) base))
   proposal_same u (Matrix m) base =
-      ap (λ records. own_refusals (with_rationales records) p t (Propose u (proposal (Matrix m) base))) (records_there (of_records rows) (λ n e. e))
+      ap (λ records. own_refusals (with_rationales records) p t (Propose u (proposal (Matrix m) base)))
+      (records_there (of_records rows) (λ n e. e))
   proposal_same u (Limit a max) base =
       λ i. own_refusals (with_content (own_alarm false a i) (entry_there a i) (content_matrix a i)) p t (Propose u (proposal (Limit a max) base))
 
@@ -335,7 +343,8 @@ module _ (rows : UnitRows) (p : Name) (t : ℕ) where
       ∷ (is_one_shot (state_now (own_alarm (is_crowded rows) a i) (own_shelf (is_crowded rows) a i)), ConditionAlreadyShelved)
       ∷ (quota_same (is_crowded rows) a refl i, ShelfQuota (unit_read rows).quota) ∷ []
   own_same (Unshelve u a) =
-      λ i. (is_none (own_alarm false a i), AlarmUnknown) ∷ (is_unshelved (state_now (own_alarm false a i) (own_shelf false a i)), ConditionNotShelved)
+      λ i. (is_none (own_alarm false a i), AlarmUnknown)
+      ∷ (is_unshelved (state_now (own_alarm false a i) (own_shelf false a i)), ConditionNotShelved)
       ∷ []
   own_same (RemoveFromService u a w) = ap (λ o. (is_none o, AlarmUnknown) ∷ (removed o, AlreadyOutOfService) ∷ []) (own_alarm false a)
   own_same (PlaceInService u a) = ap (λ o. (is_none o, AlarmUnknown) ∷ (not (removed o), NotOutOfService) ∷ []) (own_alarm false a)
@@ -345,7 +354,8 @@ module _ (rows : UnitRows) (p : Name) (t : ℕ) where
   own_same (Reject u n) = ap (λ c. own_refusals (with_change c) p t (Reject u n)) (numbered_there n)
   own_same (Status u a) = ap (λ o. (is_none o, AlarmUnknown) ∷ []) (own_alarm false a)
   own_same (RecordOf u a) =
-      λ i. (is_none (own_alarm false a i), AlarmUnknown) ∷ (is_none (rationale_there a (selected rows (RecordOf u a)) (λ n e. e) i), RecordUnknown)
+      λ i. (is_none (own_alarm false a i), AlarmUnknown)
+      ∷ (is_none (rationale_there a (selected rows (RecordOf u a)) (λ n e. e) i), RecordUnknown)
       ∷ []
   own_same (ChangeOf u n) = ap (λ c. own_refusals (with_change c) p t (ChangeOf u n)) (numbered_there n)
   own_same _ = refl
@@ -357,7 +367,8 @@ module _ (rows : UnitRows) (p : Name) (t : ℕ) where
   reply_same (Shelves u) = ap (λ lines. ShelvesOf u t lines)
       (ap (filter_map (line_by (passing (has_shelf rows.shelves)))) (filter-true rows.shelves)
       ∙ lines_there (has_shelf rows.shelves) rows.shelves (λ a e. e))
-  reply_same (Alarms u) = λ i. reply (with_records (filter-true rows.alarms i) (filter-true rows.shelves i) (filter-true rows.records i)) t (Alarms u)
+  reply_same (Alarms u) =
+      λ i. reply (with_records (filter-true rows.alarms i) (filter-true rows.shelves i) (filter-true rows.records i)) t (Alarms u)
   reply_same (Standing u) =
       λ i. reply (with_records (filter-true rows.alarms i) (filter-true rows.shelves i) (filter-true rows.records i)) t (Standing u)
   reply_same _ = refl
@@ -387,7 +398,8 @@ module _ (rows : UnitRows) (p : Name) (t : ℕ) where
 
   -- one who holds no role is refused, whatever else the rows are
   stranger_refused : (f : Facts) (c : Call) → holds_some f c.moment c.person ≡ false → verdict_of f c ≡ Err NotGranted
-  stranger_refused f c none = ap (λ b. refused_or (first_refusal ((not b, NotGranted) ∷ refusals_of_holder f c)) (reply f c.moment c.request)) none
+  stranger_refused f c none =
+      ap (λ b. refused_or (first_refusal ((not b, NotGranted) ∷ refusals_of_holder f c)) (reply f c.moment c.request)) none
 
   rows_hold : (some : UnitRows) (m n : ℕ) → holds_some (facts_from some m n) t p ≡ holds_by some.grants t p
   unfolding holds_some
@@ -399,13 +411,15 @@ module _ (rows : UnitRows) (p : Name) (t : ℕ) where
 
   -- the caller's own grants tell whether the caller holds a role
   pub own_holds : holds_by (filter (λ g. same_name p g.person) rows.grants) t p ≡ holds_by rows.grants t p
-  own_holds = λ i. own Viewer i || (own Operator i || (own Maintainer i || (own Engineer i || (own Approver i || (own Steward i || false))))) where
-    own : (r : Role) → held_by (filter (λ g. same_name p g.person) rows.grants) t (p, r) ≡ held_by rows.grants t (p, r)
-    own r = ap (held_by_row t) (row_at-filter pair_cmp pair_of (p, r) (λ g. same_name p g.person)
-        (λ g e. ap is_eq (then_Equal (name_cmp p g.person) (nat_cmp (role_no r) (role_no g.role_no)) (tied _ true e refl)).0) rows.grants)
+  own_holds =
+      λ i. own Viewer i || (own Operator i || (own Maintainer i || (own Engineer i || (own Approver i || (own Steward i || false))))) where
+        own : (r : Role) → held_by (filter (λ g. same_name p g.person) rows.grants) t (p, r) ≡ held_by rows.grants t (p, r)
+        own r = ap (held_by_row t) (row_at-filter pair_cmp pair_of (p, r) (λ g. same_name p g.person)
+            (λ g e. ap is_eq (then_Equal (name_cmp p g.person) (nat_cmp (role_no r) (role_no g.role_no)) (tied _ true e refl)).0) rows.grants)
 
   -- the verdict from the part, with all events beside it, is the verdict from all rows
-  pub part_verdict : (q : Request) → verdict_of (facts_among (part_of (asked q) rows) rows.events) (asked q) ≡ verdict_of (facts_of rows) (asked q)
+  pub part_verdict : (q : Request)
+      → verdict_of (facts_among (part_of (asked q) rows) rows.events) (asked q) ≡ verdict_of (facts_of rows) (asked q)
   part_verdict q = by (holds_by rows.grants t p) refl where
     by : (b : Bool) → holds_by rows.grants t p ≡ b
         → verdict_of (facts_among (if b then part_of_holder (asked q) rows else part_of_stranger (asked q) rows) rows.events)
@@ -420,7 +434,8 @@ module _ (rows : UnitRows) (p : Name) (t : ℕ) where
   pub part_changes : (q : Request) → holds_by rows.grants t p ≡ true
       → changes_for (facts_among (part_of (asked q) rows) rows.events) (asked q) ≡ changes_for (facts_of rows) (asked q)
   part_changes q some =
-      ap (λ b. changes_for (facts_among (if b then part_of_holder (asked q) rows else part_of_stranger (asked q) rows) rows.events) (asked q)) some
+      ap (λ b. changes_for (facts_among (if b then
+      part_of_holder (asked q) rows else part_of_stranger (asked q) rows) rows.events) (asked q)) some
       ∙ holder_changes q
 
   pub stranger_verdict : (q : Request) → holds_by rows.grants t p ≡ false → verdict_of (facts_of rows) (asked q) ≡ Err NotGranted
