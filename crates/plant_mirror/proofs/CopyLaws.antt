@@ -211,10 +211,10 @@ part_with_events c false kept rows e unreviewed whole = absurd (let wrong : fals
 
 seen_by_stranger : (c : Call) (b : Bool) (rows : UnitRows) → holds_by rows.grants c.moment c.person ≡ false
     → part_of c (seen b rows) ≡ part_of c rows
-seen_by_stranger c true rows no = ap (λ h. cond h (part_of_holder c (without_reviews rows)) (part_of_stranger c rows)) no
-    ∙ ap (λ h. cond h (part_of_holder c rows) (part_of_stranger c rows)) (sym no)
-seen_by_stranger c false rows no = ap (λ h. cond h (part_of_holder c (without_history rows)) (part_of_stranger c rows)) no
-    ∙ ap (λ h. cond h (part_of_holder c rows) (part_of_stranger c rows)) (sym no)
+seen_by_stranger c true rows gone = ap (λ h. cond h (part_of_holder c (without_reviews rows)) (part_of_stranger c rows)) gone
+    ∙ ap (λ h. cond h (part_of_holder c rows) (part_of_stranger c rows)) (sym gone)
+seen_by_stranger c false rows gone = ap (λ h. cond h (part_of_holder c (without_history rows)) (part_of_stranger c rows)) gone
+    ∙ ap (λ h. cond h (part_of_holder c rows) (part_of_stranger c rows)) (sym gone)
 
 same_grants : (b : Bool) (rows : UnitRows) → (seen b rows).grants ≡ rows.grants
 same_grants true rows = refl
@@ -223,10 +223,10 @@ same_grants false rows = refl
 -- of a caller who holds no role
 pub part_of_none : (c : Call) (b : Bool) (kept rows : UnitRows) → seen b rows ≡ kept
     → holds_by kept.grants c.moment c.person ≡ false → part_of c kept ≡ part_of c rows
-part_of_none c b kept rows e no =
+part_of_none c b kept rows e gone =
     let grants : kept.grants ≡ rows.grants = ap (λ (x : UnitRows). x.grants) (sym e) ∙ same_grants b rows in
     ap (part_of c) (sym e)
-    ∙ seen_by_stranger c b rows (ap (λ gs. holds_by gs c.moment c.person) (sym grants) ∙ no)
+    ∙ seen_by_stranger c b rows (ap (λ gs. holds_by gs c.moment c.person) (sym grants) ∙ gone)
 
 -- ---- what changes of a unit leave of the others, and what they make of the unit
 

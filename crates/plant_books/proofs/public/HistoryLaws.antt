@@ -1,5 +1,5 @@
 -- A unit's rows with and without its history: the part of a call that looks at none of it, and changes that put none.
-use Rattle.std.proofs.Common.{Bool, List, None, Option, Some, [], ap, cond, false, filter, refl, sym, true, ℕ, ◌∙◌, ◌∷◌, ◌≡◌, ◌×◌, ◌||◌, ⊥, absurd}
+use Rattle.std.proofs.Common.{Bool, List, None, Option, Some, [], ap, cond, false, filter, refl, sym, true, ℕ, ◌∙◌, ◌∷◌, ◌≡◌, ◌||◌}
 use Rattle.plant_model.specs.{Kinds.{AllEvents, AllRecords, Approval, Content, File, OneChange, OneRecord, Scope, scope_of, scope_of_proposal}, declared.rows.UnitRows.{UnitRows}}
 use Rattle.plant_model.specs.Parts.{counted_for, of_approved, of_topic, part_of, part_of_holder, part_of_stranger, rows_selected, selected, selection, with_number}
 use Rattle.plant_model.specs.{RowChanges.{changed, changed_by}, RowFacts.{change_found, holds_by}, Scopes.{has_events, has_reviews, looks_at_events, looks_at_reviews}}
@@ -88,32 +88,32 @@ changed_without (c ∷ cs) rows none =
 is_unreviewed : (rows : UnitRows) (s : Scope) → has_reviews s ≡ false
     → (selection (without_reviews rows) s ≡ selection rows s) × ((n : ℕ) → (selection rows s).matrix n ≡ false)
     × ((n : ℕ) → (selection rows s).change n ≡ false)
-is_unreviewed rows (OneRecord a) no = absurd (let wrong : true ≡ false = no in cc)
-is_unreviewed rows (OneChange n) no = absurd (let wrong : true ≡ false = no in cc)
-is_unreviewed rows (Approval n) no = absurd (let wrong : true ≡ false = no in cc)
-is_unreviewed rows (Content a) no = absurd (let wrong : true ≡ false = no in cc)
-is_unreviewed rows AllRecords no = absurd (let wrong : true ≡ false = no in cc)
-is_unreviewed rows _ no = (refl, λ n. refl, λ n. refl)
+is_unreviewed rows (OneRecord a) unseen = absurd (let wrong : true ≡ false = unseen in cc)
+is_unreviewed rows (OneChange n) unseen = absurd (let wrong : true ≡ false = unseen in cc)
+is_unreviewed rows (Approval n) unseen = absurd (let wrong : true ≡ false = unseen in cc)
+is_unreviewed rows (Content a) unseen = absurd (let wrong : true ≡ false = unseen in cc)
+is_unreviewed rows AllRecords unseen = absurd (let wrong : true ≡ false = unseen in cc)
+is_unreviewed rows _ unseen = (refl, λ n. refl, λ n. refl)
 
 counted_unreviewed : (q : Request) (rows : UnitRows) → looks_at_reviews q ≡ false
     → counted_for (without_reviews rows) q ≡ counted_for rows q
-counted_unreviewed (Propose u x) rows no = absurd (by x.kind no)
+counted_unreviewed (Propose u x) rows unseen = absurd (by x.kind unseen)
   where
     by : (k : ChangeKind) → has_reviews (scope_of_proposal k) ≡ false → ⊥
-    by (Rationale a s) no = let wrong : true ≡ false = no in cc
-    by (Matrix m) no = let wrong : true ≡ false = no in cc
-    by (Limit a max) no = let wrong : true ≡ false = no in cc
-counted_unreviewed _ rows no = refl
+    by (Rationale a s) unseen = let wrong : true ≡ false = unseen in cc
+    by (Matrix m) unseen = let wrong : true ≡ false = unseen in cc
+    by (Limit a max) unseen = let wrong : true ≡ false = unseen in cc
+counted_unreviewed _ rows unseen = refl
 
 none_kept : {X : Type 0} (test : X → Bool) → ((x : X) → test x ≡ false) → (xs : List X) → [] ≡ filter test xs
-none_kept test no [] = refl
-none_kept test no (x ∷ xs) = none_kept test no xs ∙ ap (λ b. cond b (x ∷ filter test xs) (filter test xs)) (sym (no x))
+none_kept test unseen [] = refl
+none_kept test unseen (x ∷ xs) = none_kept test unseen xs ∙ ap (λ b. cond b (x ∷ filter test xs) (filter test xs)) (sym (unseen x))
 
 holders_part_unreviewed : (c : Call) (rows : UnitRows) → looks_at_reviews c.request ≡ false
     → part_of_holder c (without_reviews rows) ≡ part_of_holder c rows
-holders_part_unreviewed c rows no =
+holders_part_unreviewed c rows unseen =
     let q = c.request in
-    let is = is_unreviewed rows (scope_of q) no in
+    let is = is_unreviewed rows (scope_of q) unseen in
     let s = selected rows q in
     let bands = none_kept (λ (r : BandRow). s.matrix r.matrix_no) (λ r. is.1 r.matrix_no) rows.bands in
     let cells = none_kept (λ (r : CellRow). s.matrix r.matrix_no) (λ r. is.1 r.matrix_no) rows.cells in
@@ -121,13 +121,13 @@ holders_part_unreviewed c rows no =
     let chosen : rows_selected c.person (selected (without_reviews rows) q) (without_reviews rows) ≡ rows_selected c.person s rows =
     ap (λ t. rows_selected c.person t (without_reviews rows)) is.0
     ∙ (λ i. record (rows_selected c.person s rows) { bands = bands i; cells = cells i; changes = changes i }) in
-    λ i. record { rows = chosen i; count = counted_unreviewed q rows no i }
+    λ i. record { rows = chosen i; count = counted_unreviewed q rows unseen i }
 
 -- the part of a call that does not look at what was reviewed
 pub part_unreviewed : (c : Call) (rows : UnitRows) → looks_at_reviews c.request ≡ false
     → part_of c (without_reviews rows) ≡ part_of c rows
-part_unreviewed c rows no =
-    ap (λ part. cond (holds_by rows.grants c.moment c.person) part (part_of_stranger c rows)) (holders_part_unreviewed c rows no)
+part_unreviewed c rows unseen =
+    ap (λ part. cond (holds_by rows.grants c.moment c.person) part (part_of_stranger c rows)) (holders_part_unreviewed c rows unseen)
 
 -- ---- what changes make of the rest does not depend on what was reviewed
 
