@@ -1,27 +1,29 @@
 -- What a join of grants with another table shows: each row of a unit there, beside each grant of the person in the unit.
-use Rattle.std.specs.{FinMap.{contains_key, contains_key-keys, entries, entries_sorted, get, keys}, List.{AllByRecursion, list_any}, List.Sorted.{IsStrictlySortedBy}, Ordering.{ordering_then}}
-use Rattle.std.proofs.Common.{◌≡◌, ◌&&◌, ◌||◌, ℕ, Bool, true, false, cond, List, [], ◌∷◌, ◌++◌, drop, map, filter, flat_map, subst, IsPermutation, Option, None, Some, refl, sym, ap, ap₂, ◌∙◌, true≢false, Ordering, Less, Equal, Greater, is_eq, is_gt, is_some, unwrap_or}
-use Rattle.std.proofs.lemmas.{Cmp.{tied_itself}, List.{Concat.{flat_map-append}, Sorted.{IsPermutation-map}}}
-use Rattle.sqlite.specs.{State.{State, Shown}, Term.{Term, col}}
+use Rattle.std.specs.{FinMap.{contains_key, contains_key-keys, entries, entries_sorted, get, keys}, List.{AllByRecursion, list_all, list_any}, List.Sorted.{IsStrictlySortedBy}, Ordering.{ordering_then}}
+use Rattle.std.proofs.Common.{◌≡◌, ◌&&◌, ◌||◌, ℕ, Bool, true, false, cond, List, [], ◌∷◌, ◌++◌, drop, map, filter, flat_map, subst, IsPermutation, Option, None, Some, refl, sym, ap, ap₂, ◌∙◌, true≢false, Ordering, Less, Equal, Greater, is_eq, is_gt, is_some, option_and_then, unwrap_or}
+use Rattle.std.proofs.lemmas.{Bool.{and_parts}, Cmp.{tied_itself}, List.{Concat.{flat_map-append}, Sorted.{IsPermutation-map}}}
+use Rattle.sqlite.specs.{Collation.TheVariants.{Binary}, Query.{or_nulls}, State.{State, Shown}, Term.{col, holds}}
 use Rattle.sqlite.proofs.Callers.{reads_as}
 use Rattle.sqlite_keyed.specs.Lists.{insert_sorted, sort_by}
 use Rattle.sqlite_keyed.proofs.ListLemmas.{all-filter, all_map, all_of, all_weaker, ascending_weaker, filter_all, filter_none, filter_same, flat_map-map, flat_map_same_on, map-flat_map, map-map}
 use Rattle.sqlite_rules.{specs.Lists.{Has}, proofs.ListLemmas.{all_from, all_has, has_kept}}
+use Rattle.sqlite_schema.specs.Rules.{equal}
 use Rattle.sqlite_tied.proofs.RuleLemmas.{and_true}
 use Rattle.sqlite_trees.specs.Tree.{IsAscending}
-use Rattle.sqlite_value.specs.{Order.{Row, bytes, column, value_cmp}, declared.{keys.Key.{Key}, value.Value.{Value, TheVariants.{Null, Text}}}}
+use Rattle.sqlite_value.specs.{Order.{Row, bytes, column, value_cmp}, declared.value.Value.{Value, TheVariants.{Null, Text}}}
 use Rattle.sqlite_value.proofs.OrderLemmas.{value_cmp_total, value_cmp-Text}
 use Rattle.plant_books.specs.Contents.{Content, rows_in}
-use Rattle.plant_columns.specs.{Codes.{flag_in, open_number_in, number_in, role_in}, Kept.{by_columns, is_of, plain_query}, Shape.{IsRowIn, row_in}, Shown.{columns}}
-use Rattle.plant_columns.specs.{Tables.{RowOf, books_schema, grant_shape, rows_of_table, rows_seen, shape, shelf_shape}, declared.tables.TableKind.{TableKind, TheVariants.{Grants, Shelves, Units}}}
+use Rattle.plant_columns.specs.{Codes.{flag_in, open_number_in, number_in, role_in}, Kept.{by_columns, is_of}, Shape.{IsRowIn, Shape, row_in}, Shown.{columns}}
+use Rattle.plant_columns.specs.{Tables.{RowOf, alarm_shape, books_schema, grant_shape, rows_of_table, rows_seen, shape, shelf_shape}, declared.tables.TableKind.{TableKind, TheVariants.{Alarms, Grants, Shelves, Units}}}
 use Rattle.plant_columns.proofs.public.{Keys.{by_columns_total, same_text}, Kept.{all-sort, sort-filter, strict-sort}, ShapeLaws.{flag_back, good, open_number_back, role_back}}
-use Rattle.plant_columns.proofs.public.Shapes.{named, shown_kept}
-use Rattle.plant_model.specs.{RowChanges.{no_rows}, declared.rows.{GrantRow.{GrantRow}, UnitRows.{UnitRows}}}
+use Rattle.plant_columns.proofs.public.Shapes.{IsShape, named, some_kept}
+use Rattle.plant_model.specs.{RowChanges.{no_rows}, RowFacts.{alarm_tag, last_return_in}, declared.rows.{AlarmRow.{AlarmRow}, GrantRow.{GrantRow}, ShelfRow.{ShelfRow}, UnitRows.{UnitRows}}}
+use Rattle.plant_model.proofs.public.PartLists.{row_at-filter}
 use Rattle.plant_store.specs.{Keeping.{HasContent, has_any}, Texts.{shelf_lines_text, unit_lines_text}, declared.{mine.UnitLine.{UnitLine}, shelves.ShelfLine.{ShelfLine}}}
 use Rattle.plant_store.specs.Mine.{lines_of, shelf_line, shelf_line_cells, unit_line, unit_line_cells}
 use Rattle.plant_store.specs.Mine as mine
-use Rattle.plant_store.proofs.{Blocks.{blocks, is_known}, Holdings.{rising}, Joins.{joins, joins_unordered, meets, pair_shown}, Queries.{named_same, two_tests}, Reading.{told}}
-use Rattle.plant_store.proofs.Meanings.{grant_shows, joined_order, joined_tests, shelf_lines, terms, unit_lines, unit_order}
+use Rattle.plant_store.proofs.{Blocks.{blocks, is_known}, Holdings.{rising}, Joins.{joins, pair_shown, passing}, LeftJoins.{first_row, left_joins, line_shown, one_by_two}, Queries.{is_named, named_same, two_tests}, Reading.{told}}
+use Rattle.plant_store.proofs.Meanings.{alarm_tests, grant_shows, joined_order, joined_tests, shelf_lines, shelf_shows, unit_lines, unit_order}
 use Rattle.plant_types.specs.Names.{Name, name_cmp, same_name}
 
 abbrev grant_key : List ℕ
@@ -44,15 +46,6 @@ flat_map-flat_map : {A B C : Type 0} (f : B → List C) (g : A → List B) (xs :
     → flat_map f (flat_map g xs) ≡ flat_map (λ x. flat_map f (g x)) xs
 flat_map-flat_map f g [] = refl
 flat_map-flat_map f g (x ∷ xs) = flat_map-append f (g x) (flat_map g xs) ∙ ap (λ l. flat_map f (g x) ++ l) (flat_map-flat_map f g xs)
-
-pub passing : {X : Type 0} (q : X → Bool) (xs : List X) → AllByRecursion (λ r. q r ≡ true) (filter q xs)
-passing q [] = tt
-passing q (x ∷ xs) = go (q x) refl (passing q xs)
-  where
-    go : (b : Bool) → q x ≡ b → AllByRecursion (λ r. q r ≡ true) (filter q xs)
-        → AllByRecursion (λ r. q r ≡ true) (cond b (x ∷ filter q xs) (filter q xs))
-    go true e more = (e, more)
-    go false e more = more
 
 none_of_two : (a : Bool) → (a && false) ≡ false
 none_of_two true = refl
@@ -86,6 +79,23 @@ not_after : (a b : Ordering) → ordering_then a b ≡ Less → is_gt a ≡ fals
 not_after Less b h = refl
 not_after Equal b h = refl
 not_after Greater b h = absurd (cc h)
+
+-- ---- rows of one unit
+
+module _ {X K : Type 0} (shape_of : Shape X K) (good_one : IsShape shape_of) (u : Name) where
+  of_unit : (r : Row) → IsRowIn shape_of r → is_of u r ≡ true → r ≡ row_in shape_of (column r 0) u (shape_of.read r)
+  of_unit r wf own =
+      let same : bytes (column r 1) ≡ u =
+      same_text (bytes (column r 1)) u (sym (ap (λ v. is_eq (value_cmp v (Text u))) (named shape_of good_one r wf)) ∙ own) in
+      wf ∙ ap (λ n. row_in shape_of (column r 0) n (shape_of.read r)) same
+
+  -- what is shown of them is what is shown of the values that they are read as
+  show_own : {Y : Type 0} (show : Row → Y) (line : X → Y) → ((id : Value) (x : X) → show (row_in shape_of id u x) ≡ line x)
+      → (rows : List Row) → AllByRecursion (IsRowIn shape_of) rows → AllByRecursion (λ r. is_of u r ≡ true) rows
+      → map show rows ≡ map line (map shape_of.read rows)
+  show_own show line same [] all own = refl
+  show_own show line same (r ∷ rows) all own =
+      ap₂ ◌∷◌ (ap show (of_unit r all.0 own.0) ∙ same (column r 0) (shape_of.read r)) (show_own show line same rows all.1 own.1)
 
 module _ (s : State) (m : Content) (k : HasContent s m) where
   abbrev sorted : List Row
@@ -124,25 +134,21 @@ module _ (s : State) (m : Content) (k : HasContent s m) where
       (names_rise (keys m.units) (rising (entries m.units) (entries_sorted m.units))) sorted rise)
       ∙ flat_map-map (λ u. filter (λ r. is_eq (value_cmp (column r 1) u)) sorted) Text (keys m.units)
 
-  module _ (i : TableKind) (project : List Term) (order : List (Term × Key)) (p : Name) {L : Type 0} (back : Row → L)
-      (line : Name → GrantRow → RowOf i → L)
-      (shows : (id jd : Value) (u v : Name) (g : GrantRow) (x : RowOf i)
-      → back (pair_shown 3 (shape i).tree joined_tests project order grant_key (1 ∷ (shape i).keys) (Text p
-      ∷ []) (row_in grant_shape id u g) (row_in (shape i) jd v x)).1 ≡ line u g x) where
+  -- what is shown of a grant and of a row of its unit is this line
+  module _ (i : TableKind) (p : Name) (shown : Row → Row → Row) {L : Type 0} (back : Row → L) (line : Name → GrantRow → RowOf i → L)
+      (shows : (id jd : Value) (u : Name) (g : GrantRow) (x : RowOf i)
+      → back (shown (row_in grant_shape id u g) (row_in (shape i) jd u x)) ≡ line u g x) where
     abbrev others : Row → Row → Ordering
     others = by_columns (1 ∷ (shape i).keys)
 
     abbrev rest : List Row
     rest = s.now.trees (shape i).tree
 
-    abbrev show : Row → Row → L
-    show g u = back (pair_shown 3 (shape i).tree joined_tests project order grant_key (1 ∷ (shape i).keys) (Text p ∷ []) g u).1
-
     abbrev meet : Row → Row → Bool
-    meet g u = meets 3 (shape i).tree joined_tests project order grant_key (1 ∷ (shape i).keys) (Text p ∷ []) g u
+    meet g u = list_all (holds ((Text p ∷ []) ∷ g ∷ u ∷ [])) joined_tests
 
     abbrev beside : Row → List L
-    beside g = map (show g) (filter (meet g) (sort_by others rest))
+    beside g = map (λ u. back (shown g u)) (filter (meet g) (sort_by others rest))
 
     abbrev seen : Name → List (RowOf i)
     seen u = rows_seen u s.now.trees i
@@ -150,21 +156,25 @@ module _ (s : State) (m : Content) (k : HasContent s m) where
     one_grant : (id : Value) (u : Name) (g : GrantRow) → beside (row_in grant_shape id u g) ≡ cond (same_name p g.person) (map (line u g) (seen u)) []
     one_grant id u g =
         let r = row_in grant_shape id u g in
-        ap (map (show r))
+        ap (map (λ x. back (shown r x)))
         (filter_same (meet r) (λ x. is_of u x && same_name p g.person) (λ x. two_tests (column x 1) (Text g.person) u p
         ∙ ap (λ b. is_of u x && b) (named_same g.person p)) (sort_by others rest))
         ∙ by (same_name p g.person)
       where
         by : (b : Bool)
-            → map (show (row_in grant_shape id u g)) (filter (λ x. is_of u x && b) (sort_by others rest)) ≡ cond b (map (line u g) (seen u)) []
+            → map (λ x. back (shown (row_in grant_shape id u g) x)) (filter (λ x. is_of u x && b) (sort_by others rest))
+            ≡ cond b (map (line u g) (seen u)) []
         by true =
-            ap (map (show (row_in grant_shape id u g)))
-            (filter_same (λ x. is_of u x && true) (is_of u) (λ x. and_true (is_of u x)) (sort_by others rest)
-            ∙ sym (sort-filter others (by_columns_total (1 ∷ (shape i).keys)) (is_of u) rest))
-            ∙ shown_kept (shape i) (good i) (show (row_in grant_shape id u g)) (line u g) (λ jd v x. shows id jd u v g x)
-            (is_of u) rest (k.books.tidy i).each
+            let total = by_columns_total (1 ∷ (shape i).keys) in
+            ap (map (λ x. back (shown (row_in grant_shape id u g) x)))
+            (filter_same (λ x. is_of u x && true) (is_of u) (λ x. and_true (is_of u x)) (sort_by others rest))
+            ∙ show_own (shape i) (good i) u (λ x. back (shown (row_in grant_shape id u g) x)) (line u g) (λ jd x. shows id jd u g x)
+            (filter (is_of u) (sort_by others rest))
+            (all-filter (IsRowIn (shape i)) (is_of u) (sort_by others rest) (all-sort others total (IsRowIn (shape i)) rest (k.books.tidy i).each))
+            (passing (is_of u) (sort_by others rest))
+            ∙ ap (λ rs. map (line u g) (map (shape i).read rs)) (sym (sort-filter others total (is_of u) rest))
         by false =
-            ap (map (show (row_in grant_shape id u g)))
+            ap (map (λ x. back (shown (row_in grant_shape id u g) x)))
             (filter_none (λ x. is_of u x
             && false) (sort_by others rest) (all_of (λ x. (is_of u x && false) ≡ false) (λ x. none_of_two (is_of u x)) (sort_by others rest)))
 
@@ -172,16 +182,10 @@ module _ (s : State) (m : Content) (k : HasContent s m) where
         → flat_map beside rs ≡ flat_map (λ g. map (line u g) (seen u)) (filter (λ g. same_name p g.person) (map grant_shape.read rs))
     one_unit u [] all own = refl
     one_unit u (r ∷ rs) all own =
-        let same : bytes (column r 1) ≡ u =
-        same_text (bytes (column r 1)) u (sym (ap (λ v. is_eq (value_cmp v (Text u))) (named grant_shape (good Grants) r all.0)) ∙ own.0) in
-        let is : r ≡ row_in grant_shape (column r 0) u (grant_shape.read r) = all.0
-        ∙ ap (λ n. row_in grant_shape (column r 0) n (grant_shape.read r)) same in
-        ap₂ ◌++◌ (ap beside is ∙ one_grant (column r 0) u (grant_shape.read r)) (one_unit u rs all.1 own.1)
+        ap₂ ◌++◌ (ap beside (of_unit grant_shape (good Grants) u r all.0 own.0)
+        ∙ one_grant (column r 0) u (grant_shape.read r)) (one_unit u rs all.1 own.1)
         ∙ by (same_name p (grant_shape.read r).person)
       where
-        more : List GrantRow
-        more = filter (λ g. same_name p g.person) (map grant_shape.read rs)
-
         by : (b : Bool)
             → cond b (map (line u (grant_shape.read r)) (seen u)) [] ++ flat_map (λ g. map (line u g) (seen u))
             (filter (λ g. same_name p g.person) (map grant_shape.read rs))
@@ -203,15 +207,10 @@ module _ (s : State) (m : Content) (k : HasContent s m) where
         (sym (sort-filter by_grant total (is_of u) (s.now.trees 3)))
         ∙ ap₂ (λ gs xs. flat_map (λ g. map (line u g) xs) (filter (λ g. same_name p g.person) gs)) (k.seen u Grants) (k.seen u i)
 
-    lines_found : map back
-        (flat_map
-        (λ g. map (λ u. (pair_shown 3 (shape i).tree joined_tests project order grant_key (1 ∷ (shape i).keys) (Text p
-        ∷ []) g u).1) (filter (meet g) (sort_by others rest))) sorted) ≡ lines_of line (rows_of_table i) m p
+    lines_found : map back (flat_map (λ g. map (shown g) (filter (meet g) (sort_by others rest))) sorted) ≡ lines_of line (rows_of_table i) m p
     lines_found =
-        map-flat_map back _ sorted
-        ∙ flat_map_same_on _ beside
-        (λ g. map-map back (λ u. (pair_shown 3 (shape i).tree joined_tests project order grant_key (1 ∷ (shape i).keys) (Text p
-        ∷ []) g u).1) (filter (meet g) (sort_by others rest))) sorted
+        map-flat_map back (λ g. map (shown g) (filter (meet g) (sort_by others rest))) sorted
+        ∙ flat_map_same_on _ beside (λ g. map-map back (shown g) (filter (meet g) (sort_by others rest))) sorted
         ∙ ap (flat_map beside) unit_by_unit ∙ flat_map-flat_map beside (λ q. filter (is_of q) sorted) (keys m.units)
         ∙ flat_map_same_on _ _ in_unit (keys m.units)
 
@@ -242,12 +241,44 @@ module _ (s : State) (m : Content) (k : HasContent s m) where
       }) _ read said
       ∙ map-map unit_back (columns 4) rows
       ∙ ap (map (λ r. unit_back (columns 4 r))) are
-      ∙ lines_found Units project (joined_order []) p (λ r. unit_back (columns 4 r)) unit_line (λ id jd u v g x i. record {
+      ∙ lines_found Units p (λ g u. (pair_shown 3 1 joined_tests project (joined_order []) grant_key (1 ∷ []) (Text p ∷ []) g u).1)
+      (λ r. unit_back (columns 4 r)) unit_line (λ id jd u g x i. record {
         unit = u;
         role_no = role_back g.role_no i;
         end_s = open_number_back g.end_s i;
         last_s = x.last_s;
       })
+
+  -- ---- a shelf's alarm
+
+  -- among the alarms, the one of this name in this unit
+  abbrev alarm_at : Name → Name → List Row
+  alarm_at u a = filter (λ r. is_of u r && is_named a r) (s.now.trees 5)
+
+  -- what the last column of the join shows is when it last returned to normal, if it is there
+  return_shown : (u a : Name) (l : List Row) → AllByRecursion (IsRowIn alarm_shape) l
+      → AllByRecursion (λ r. (is_of u r && is_named a r) ≡ true) l → or_nulls l ≡ first_row l ∷ []
+      → open_number_in (column (first_row l) 9) ≡ last_return_in (map alarm_shape.read (sort_by (by_columns (1 ∷ 2 ∷ [])) l)) a
+  return_shown u a [] all own lone = refl
+  return_shown u a (r ∷ []) all own lone =
+      let tag : column r 2 ≡ Text (bytes (column r 2)) = ap (λ (r : Row). column r 2) all.0 in
+      let is : same_name a (bytes (column r 2)) ≡ true = sym (ap (λ v. is_eq (value_cmp v (Text a))) tag ∙ named_same (bytes (column r 2)) a)
+      ∙ (and_parts _ _ own.0).1 in
+      sym (ap (λ b. option_and_then (λ (r : AlarmRow). r.return_s) (cond b (Some (alarm_shape.read r)) None)) is)
+  return_shown u a (r ∷ q ∷ l) all own lone = absurd (true≢false (ap (λ l. has_any (drop 1 l)) lone))
+
+  last_returned : (u a : Name) → or_nulls (alarm_at u a) ≡ first_row (alarm_at u a) ∷ []
+      → open_number_in (column (first_row (alarm_at u a)) 9) ≡ last_return_in (rows_in m u).alarms a
+  last_returned u a lone =
+      let test = λ (r : Row). is_of u r && is_named a r in
+      let alarms = s.now.trees 5 in
+      let each = (k.books.tidy Alarms).each in
+      return_shown u a (alarm_at u a) (all-filter (IsRowIn alarm_shape) test alarms each) (passing test alarms) lone
+      ∙ ap (λ rows. last_return_in rows a)
+      (some_kept alarm_shape (good Alarms) (is_named a) (λ r. same_name a r.tag) (λ id v x. named_same x.tag a) u alarms each
+      ∙ ap (filter (λ (r : AlarmRow). same_name a r.tag)) (k.seen u Alarms))
+      ∙ ap (option_and_then (λ (r : AlarmRow). r.return_s))
+      (row_at-filter name_cmp alarm_tag a (λ r. same_name a r.tag) (λ r h. h) (rows_in m u).alarms)
 
   shelf_back : Row → ShelfLine
   shelf_back r = record {
@@ -262,17 +293,53 @@ module _ (s : State) (m : Content) (k : HasContent s m) where
       person = bytes (column r 7);
       words = bytes (column r 8);
     };
+    last_return = open_number_in (column r 9);
   }
 
+  -- the alarms that are joined to a shelf
+  abbrev alarms_of : Row → List Row
+  alarms_of u = filter (λ r. equal Binary (column r 1) (column u 1) && (equal Binary (column r 2) (column u 2) && true)) (s.now.trees 5)
+
+  abbrev shelf_shown : Name → Row → Row → Row
+  shelf_shown p g u = (line_shown 3 7 5 alarm_tests joined_tests shelf_shows unit_order (Text p ∷ []) s.now.trees g u).1
+
+  alone : (u : Row) → or_nulls (alarms_of u) ≡ first_row (alarms_of u) ∷ []
+  alone u = one_by_two u (s.now.trees 5) (k.books.tidy Alarms).apart
+
+  shelf_shows_line : (p : Name) (id jd : Value) (u : Name) (g : GrantRow) (x : ShelfRow)
+      → shelf_back (columns 10 (shelf_shown p (row_in grant_shape id u g) (row_in shelf_shape jd u x))) ≡ shelf_line m u g x
+  unfolding shelf_back
+  shelf_shows_line p id jd u g x =
+      let row = row_in shelf_shape jd u x in
+      let its =
+      filter_same (λ r. equal Binary (column r 1) (Text u) && (equal Binary (column r 2) (Text x.tag) && true)) (λ r. is_of u r && is_named x.tag r)
+      (λ r. two_tests (column r 1) (column r 2) u x.tag) (s.now.trees 5) in
+      let lone = subst (λ l. or_nulls l ≡ first_row l ∷ []) its (alone row) in
+      let at : open_number_in (column (first_row (alarms_of row)) 9) ≡ last_return_in (rows_in m u).alarms x.tag =
+      ap (λ l. open_number_in (column (first_row l) 9)) its ∙ last_returned u x.tag lone in
+      λ i. record {
+        unit = u;
+        role_no = role_back g.role_no i;
+        end_s = open_number_back g.end_s i;
+        shelf = record {
+          tag = x.tag;
+          one_shot = flag_back x.one_shot i;
+          start_s = x.start_s;
+          until_s = x.until_s;
+          person = x.person;
+          words = x.words;
+        };
+        last_return = at i;
+      }
+
   pub shelves_read : (p : Name) (new : State) (rows : List Row) → Shown shelf_lines_text (Text p ∷ []) s new rows → (read : List ShelfLine)
-      → map (columns 9) rows ≡ map shelf_line_cells read → IsPermutation (mine.own_shelf_lines m p) read
+      → map (columns 10) rows ≡ map shelf_line_cells read → IsPermutation (mine.own_shelf_lines m p) read
   unfolding shelf_back
   shelves_read p new rows h read said =
-      let project = grant_shows ++ terms 2 2 (drop 1 shelf_shape.columns) in
       let got =
       reads_as shelf_lines_text (Text p
       ∷ []) s new books_schema k.books.same_schema _ shelf_lines.is shelf_lines.plain shelf_lines.unlisted rows h in
-      let back = λ (r : Row). shelf_back (columns 9 r) in
+      let back = λ (r : Row). shelf_back (columns 10 r) in
       let is : read ≡ map back rows =
       told shelf_line_cells shelf_back (λ l i. record {
         unit = l.unit;
@@ -286,21 +353,11 @@ module _ (s : State) (m : Content) (k : HasContent s m) where
           person = l.shelf.person;
           words = l.shelf.words;
         };
+        last_return = open_number_back l.last_return i;
       }) _ read said
-      ∙ map-map shelf_back (columns 9) rows in
-      let found = lines_found Shelves project unit_order p back shelf_line
-      (λ id jd u v g x i. record {
-        unit = u;
-        role_no = role_back g.role_no i;
-        end_s = open_number_back g.end_s i;
-        shelf = record {
-          tag = x.tag;
-          one_shot = flag_back x.one_shot i;
-          start_s = x.start_s;
-          until_s = x.until_s;
-          person = x.person;
-          words = x.words;
-        };
-      }) in
-      let same = joins_unordered 3 7 joined_tests project unit_order grant_key (1 ∷ 2 ∷ []) (Text p ∷ []) s.now.trees rows (got.answer Null) in
+      ∙ map-map shelf_back (columns 10) rows in
+      let found = lines_found Shelves p (shelf_shown p) back (shelf_line m) (shelf_shows_line p) in
+      let same =
+      left_joins 3 7 5 alarm_tests joined_tests shelf_shows unit_order (Text p ∷ []) s.now.trees (λ g u. alone u) (λ g u r. refl)
+      grant_key (1 ∷ 2 ∷ []) rows (got.answer Null) in
       subst (IsPermutation (mine.own_shelf_lines m p)) (sym is) (subst (λ l. IsPermutation l (map back rows)) found (IsPermutation-map back _ _ same))

@@ -10,7 +10,7 @@ use Rattle.plant_columns.specs.{Tables.{grant_shape, shelf_shape}, declared.tabl
 use Rattle.plant_columns.proofs.public.{Bridge.{AreRising}, ShapeLaws.{good}, Shapes.{rising as rows_rise}}
 use Rattle.plant_model.specs.{RowFacts.{pair_of, shelf_tag}, declared.rows.{GrantRow.{GrantRow}, ShelfRow.{ShelfRow}}}
 use Rattle.plant_store.specs.{Keeping.{HasContent}, Mine.{line_cmp, shelf_line, own_shelf_lines}, declared.shelves.ShelfLine.{ShelfLine}}
-use Rattle.plant_store.proofs.{Holdings.{rising}, JoinedLines.{passing}, Joins.{rising-flat_map}, public.Contents.{same_codes}}
+use Rattle.plant_store.proofs.{Holdings.{rising}, Joins.{passing, rising-flat_map}, public.Contents.{same_codes}}
 use Rattle.plant_types.{specs.{Names.{Name, name_cmp, same_name}, Roles.{pair_cmp, role_no}}, proofs.public.Orders.{name_total}}
 
 pub line_cmp_total : IsTotalOrder line_cmp
@@ -55,39 +55,40 @@ module _ (s : State) (m : Content) (k : HasContent s m) (p : Name) where
   R a b = line_cmp a b ≡ Less
 
   -- the shelves of one unit beside one grant, and beside each grant
-  in_grant : (u : Name) (g : GrantRow) → IsAscending (λ (a b : ShelfLine). line_cmp a b ≡ Less) (map (shelf_line u g) (rows_in m u).shelves)
+  in_grant : (u : Name) (g : GrantRow) → IsAscending (λ (a b : ShelfLine). line_cmp a b ≡ Less) (map (shelf_line m u g) (rows_in m u).shelves)
   in_grant u g =
       let tie = ap (λ o. ordering_then o (by_role g g)) (tied_itself name_total u) ∙ tied_itself nat_cmp_total (role_no g.role_no) in
-      ascending-map _ (shelf_line u g)
+      ascending-map _ (shelf_line m u g)
       (rows_in m u).shelves (ascending_weaker _ _ (λ (a b : ShelfRow) less. ap (λ o. ordering_then o (name_cmp a.tag b.tag)) tie
       ∙ less) _ (tags_rise u))
 
-  in_unit : (u : Name) → IsAscending (λ (a b : ShelfLine). line_cmp a b ≡ Less) (flat_map (λ g. map (shelf_line u g) (rows_in m u).shelves) (own u))
-  in_unit u = rising-flat_map (λ g h. by_role g h ≡ Less) _ (λ g. map (shelf_line u g) (rows_in m u).shelves) (in_grant u) across (own u) (own_rise u)
+  in_unit : (u : Name) → IsAscending (λ (a b : ShelfLine). line_cmp a b ≡ Less) (flat_map (λ g. map (shelf_line m u g) (rows_in m u).shelves) (own u))
+  in_unit u =
+      rising-flat_map (λ g h. by_role g h ≡ Less) _ (λ g. map (shelf_line m u g) (rows_in m u).shelves) (in_grant u) across (own u) (own_rise u)
     where
       across : (g h : GrantRow) → by_role g h ≡ Less
-          → AllByRecursion (λ x. AllByRecursion (λ y. line_cmp x y ≡ Less) (map (shelf_line u h) (rows_in m u).shelves))
-          (map (shelf_line u g) (rows_in m u).shelves)
+          → AllByRecursion (λ x. AllByRecursion (λ y. line_cmp x y ≡ Less) (map (shelf_line m u h) (rows_in m u).shelves))
+          (map (shelf_line m u g) (rows_in m u).shelves)
       across g h less =
           let first = ap (λ o. ordering_then o (by_role g h)) (tied_itself name_total u) ∙ less in
           let ss = (rows_in m u).shelves in
-          all-map _ (shelf_line u g) (λ a. all-map _ (shelf_line u h) (λ b. ap (λ o. ordering_then o (name_cmp a.tag b.tag)) first) ss) ss
+          all-map _ (shelf_line m u g) (λ a. all-map _ (shelf_line m u h) (λ b. ap (λ o. ordering_then o (name_cmp a.tag b.tag)) first) ss) ss
 
   abbrev lines_in : Name → List ShelfLine
-  lines_in u = flat_map (λ g. map (shelf_line u g) (rows_in m u).shelves) (filter (λ g. same_name p g.person) (rows_in m u).grants)
+  lines_in u = flat_map (λ g. map (shelf_line m u g) (rows_in m u).shelves) (filter (λ g. same_name p g.person) (rows_in m u).grants)
 
   -- those of one unit stand before those of a later one
   apart : (u v : Name) → name_cmp u v ≡ Less → AllByRecursion (λ x. AllByRecursion (λ y. line_cmp x y ≡ Less) (lines_in v)) (lines_in u)
   apart u v less =
       let before : (g h : GrantRow) (a b : ShelfRow)
-      → line_cmp (shelf_line u g a) (shelf_line v h b) ≡ Less =
+      → line_cmp (shelf_line m u g a) (shelf_line m v h b) ≡ Less =
       λ g h a b. ap (λ o. ordering_then (ordering_then o (by_role g h)) (name_cmp a.tag b.tag)) less in
       let ss = (rows_in m u).shelves in
       let ts = (rows_in m v).shelves in
-      all-flat_map _ (λ g. map (shelf_line u g) ss) (own u)
+      all-flat_map _ (λ g. map (shelf_line m u g) ss) (own u)
       (all_of _
-      (λ g. all-map _ (shelf_line u g)
-      (λ a. all-flat_map _ (λ h. map (shelf_line v h) ts) (own v) (all_of _ (λ h. all-map _ (shelf_line v h) (λ b. before g h a b) ts) (own v)))
+      (λ g. all-map _ (shelf_line m u g)
+      (λ a. all-flat_map _ (λ h. map (shelf_line m v h) ts) (own v) (all_of _ (λ h. all-map _ (shelf_line m v h) (λ b. before g h a b) ts) (own v)))
       ss) (own u))
 
   names_rise : (us : List Name) → IsStrictlySortedBy name_cmp us → IsAscending (λ u v. name_cmp u v ≡ Less) us

@@ -2,7 +2,7 @@
 use Rattle.std.{specs.Fmt.{digits}, proofs.Common.{◌≡◌, Ok, refl, List, ℕ, suc, [], ◌∷◌, ◌++◌, drop, false, codes, length, map, pos, true, ◌-◌}}
 use Rattle.sqlite.specs.{Change.{created, indexed}, Collation.TheVariants.{Binary}, Command.{Command}}
 use Rattle.sqlite.specs.{Command.TheVariants.{Insert, Delete, Select, Update, CreateTable, CreateIndex}, Compile.{table_defined_by, index_defined_by}}
-use Rattle.sqlite.specs.{Listing.{understood, reads_listing}, Query.{Query, inner, end}, Schema.{Schema}, Source.TheVariants.{Values}, Table.{Table}}
+use Rattle.sqlite.specs.{Listing.{understood, reads_listing}, Query.{Query, inner, left, end}, Schema.{Schema}, Source.TheVariants.{Values}, Table.{Table}}
 use Rattle.sqlite.{specs.Term.{Term, lit, col, op2}, proofs.Callers.{IsPlain, command_of, statement_of}}
 use Rattle.sqlite_schema.specs.declared.schema.Column.{Column}
 use Rattle.sqlite_sql.specs.declared.ops.{BinaryOp.TheVariants.{Compare}, CompareOp.TheVariants.{Eq}}
@@ -241,7 +241,14 @@ unit_lines = record { is = refl; unlisted = refl; plain = (refl, refl) }
 abbrev pub unit_order : List (Term × Key)
 unit_order = (col 1 1, ascending Binary) ∷ []
 
-pub shelf_lines : Asks books_schema shelf_lines_text (plain_query (inner 3 (inner 7 end)) joined_tests (grant_shows
-    ++ terms 2 2 (drop 1 shelf_shape.columns)) unit_order) (grant_names ++ own_names shelf_shape)
+-- a shelf's alarm
+abbrev pub alarm_tests : List Term
+alarm_tests = op2 (Compare Eq Binary) (col 3 1) (col 2 1) ∷ op2 (Compare Eq Binary) (col 3 2) (col 2 2) ∷ []
+
+abbrev pub shelf_shows : List Term
+shelf_shows = grant_shows ++ terms 2 2 (drop 1 shelf_shape.columns) ++ col 3 9 ∷ []
+
+pub shelf_lines : Asks books_schema shelf_lines_text (plain_query (inner 3 (inner 7 (left 5 alarm_tests end))) joined_tests shelf_shows unit_order)
+    (grant_names ++ own_names shelf_shape ++ codes "return_s" ∷ [])
 unfolding understood everything
 shelf_lines = record { is = refl; unlisted = refl; plain = (refl, refl) }

@@ -11,7 +11,7 @@ use Rattle.plant_columns.specs.{Tables.{grant_shape, own_key, unit_shape}, decla
 use Rattle.plant_columns.proofs.public.{Bridge.{AreRising}, ShapeLaws.{good}, Shapes.{rising as rows_rise}}
 use Rattle.plant_model.specs.{Grants.{is_before}, RowChanges.{no_rows}, RowFacts.{no_unit, pair_of}, declared.rows.{GrantRow.{GrantRow}, ShelfRow.{ShelfRow}, UnitRow.{UnitRow}, UnitRows.{UnitRows}}}
 use Rattle.plant_store.specs.{Keeping.{HasContent, has_any}, declared.{mine.UnitLine.{UnitLine}, shelves.ShelfLine.{ShelfLine}}}
-use Rattle.plant_store.specs.Mine.{lines_of, put_run, repeats, runs_of, shelf_line, own_shelf_lines, standing_shelves, standing_units, started, unit_line, own_unit_lines, with_return}
+use Rattle.plant_store.specs.Mine.{as_mine, lines_of, put_run, repeats, runs_of, shelf_line, own_shelf_lines, standing_shelves, standing_units, started, unit_line, own_unit_lines}
 use Rattle.plant_store.proofs.{Holdings.{own_roles, rising}, LineOrder.{own_rise}, public.Contents.{same_codes}}
 use Rattle.plant_types.specs.{Names.{Name, name_cmp, same_name}, Options.{when}, Roles.{pair_cmp, role_no, same_role}, declared.role.Role.{Role}}
 
@@ -195,7 +195,7 @@ module _ (t : ℕ) (p : Name) where
     -- ---- the shelves
 
     abbrev shelves_at : Name → List ShelfLine
-    shelves_at u = flat_map (λ g. map (shelf_line u g) (rows_in m u).shelves) (filter (is_held_by t p) (rows_in m u).grants)
+    shelves_at u = flat_map (λ g. map (shelf_line m u g) (rows_in m u).shelves) (filter (is_held_by t p) (rows_in m u).grants)
 
     abbrev shelves_left : List Name → List MineRow
     shelves_left us = flat_map (λ u. shelves_mine t p u (get m.units u)) us
@@ -204,7 +204,7 @@ module _ (t : ℕ) (p : Name) where
     is_new None u = true
     is_new (Some l) u = not (same_name l.unit u)
 
-    begins : (last : Option ShelfLine) (u : Name) (g : GrantRow) (s : ShelfRow) → is_new last u ≡ true → goes_on last (shelf_line u g s) ≡ true
+    begins : (last : Option ShelfLine) (u : Name) (g : GrantRow) (s : ShelfRow) → is_new last u ≡ true → goes_on last (shelf_line m u g s) ≡ true
     begins None u g s h = refl
     begins (Some l) u g s h = other (same_name l.unit u) (not (same_role l.role_no g.role_no)) h
       where
@@ -214,23 +214,23 @@ module _ (t : ℕ) (p : Name) where
 
     -- once a grant's shelf is listed, no other grant's is
     skips_one : (u : Name) (g h : GrantRow) (s : ShelfRow) → same_role g.role_no h.role_no ≡ false → (ss : List ShelfRow) (ls : List ShelfLine)
-        → listed_after (Some (shelf_line u g s)) (map (shelf_line u h) ss ++ ls) ≡ listed_after (Some (shelf_line u g s)) ls
+        → listed_after (Some (shelf_line m u g s)) (map (shelf_line m u h) ss ++ ls) ≡ listed_after (Some (shelf_line m u g s)) ls
     skips_one u g h s apart [] ls = refl
     skips_one u g h s apart (x ∷ ss) ls = rw (itself u, apart) (skips_one u g h s apart ss ls)
 
     skips : (u : Name) (g : GrantRow) (s : ShelfRow) (ss : List ShelfRow) (hs : List GrantRow)
         → AllByRecursion (λ h. same_role g.role_no h.role_no ≡ false) hs → (ls : List ShelfLine)
-        → listed_after (Some (shelf_line u g s)) (flat_map (λ h. map (shelf_line u h) ss) hs ++ ls) ≡ listed_after (Some (shelf_line u g s)) ls
+        → listed_after (Some (shelf_line m u g s)) (flat_map (λ h. map (shelf_line m u h) ss) hs ++ ls) ≡ listed_after (Some (shelf_line m u g s)) ls
     skips u g s ss [] all ls = refl
     skips u g s ss (h ∷ hs) all ls =
-        ap (listed_after (Some (shelf_line u g s))) (append_assoc (map (shelf_line u h) ss) (flat_map (λ h. map (shelf_line u h) ss) hs) ls)
-        ∙ skips_one u g h s all.0 ss (flat_map (λ h. map (shelf_line u h) ss) hs ++ ls) ∙ skips u g s ss hs all.1 ls
+        ap (listed_after (Some (shelf_line m u g s))) (append_assoc (map (shelf_line m u h) ss) (flat_map (λ h. map (shelf_line m u h) ss) hs) ls)
+        ∙ skips_one u g h s all.0 ss (flat_map (λ h. map (shelf_line m u h) ss) hs ++ ls) ∙ skips u g s ss hs all.1 ls
 
     -- and the others of that grant are
     takes : (u : Name) (g : GrantRow) (ss : List ShelfRow) (ls : List ShelfLine) (z : List MineRow)
-        → ((s : ShelfRow) → map (with_return m) (listed_after (Some (shelf_line u g s)) ls) ≡ z)
+        → ((s : ShelfRow) → map as_mine (listed_after (Some (shelf_line m u g s)) ls) ≡ z)
         → (s : ShelfRow)
-        → map (with_return m) (listed_after (Some (shelf_line u g s)) (map (shelf_line u g) ss ++ ls)) ≡ map (mine_row u (rows_in m u)) ss ++ z
+        → map as_mine (listed_after (Some (shelf_line m u g s)) (map (shelf_line m u g) ss ++ ls)) ≡ map (mine_row u (rows_in m u)) ss ++ z
     takes u g [] ls z same s = same s
     takes u g (x ∷ ss) ls z same s = rw (itself u, same_itself g.role_no) (ap (λ l. mine_row u (rows_in m u) x ∷ l) (takes u g ss ls z same x))
 
@@ -238,29 +238,29 @@ module _ (t : ℕ) (p : Name) where
         → IsAscending (λ a b. same_role a.role_no b.role_no ≡ false) (filter (is_held_by t p) rows.grants)) where
       -- the lines of one unit come before others, of which the same is listed whichever line came last
       in_unit : (u : Name) (ls : List ShelfLine) (z : List MineRow) (last : Option ShelfLine) → is_new last u ≡ true
-          → map (with_return m) (listed_after last ls) ≡ z
-          → ((g : GrantRow) (s : ShelfRow) → map (with_return m) (listed_after (Some (shelf_line u g s)) ls) ≡ z)
+          → map as_mine (listed_after last ls) ≡ z
+          → ((g : GrantRow) (s : ShelfRow) → map as_mine (listed_after (Some (shelf_line m u g s)) ls) ≡ z)
           → (ss : List ShelfRow) (gs : List GrantRow) → IsAscending (λ a b. same_role a.role_no b.role_no ≡ false) gs
-          → map (with_return m) (listed_after last (flat_map (λ g. map (shelf_line u g) ss) gs ++ ls)) ≡ cond (has_any gs)
+          → map as_mine (listed_after last (flat_map (λ g. map (shelf_line m u g) ss) gs ++ ls)) ≡ cond (has_any gs)
           (map (mine_row u (rows_in m u)) ss) [] ++ z
       in_unit u ls z last new now later ss [] differ = now
       in_unit u ls z last new now later [] (g ∷ gs) differ =
-          ap (λ l. map (with_return m) (listed_after last (l ++ ls))) (flat_map_none (λ (g : GrantRow). map (shelf_line u g) []) (λ g. refl) (g ∷ gs))
+          ap (λ l. map as_mine (listed_after last (l ++ ls))) (flat_map_none (λ (g : GrantRow). map (shelf_line m u g) []) (λ g. refl) (g ∷ gs))
           ∙ now
       in_unit u ls z last new now later (s ∷ ss) (g ∷ gs) differ =
-          let more = flat_map (λ (h : GrantRow). map (shelf_line u h) (s ∷ ss)) gs in
+          let more = flat_map (λ (h : GrantRow). map (shelf_line m u h) (s ∷ ss)) gs in
           rw (begins last u g s new)
           (ap (λ l. mine_row u (rows_in m u) s
-          ∷ l) (ap (λ l. map (with_return m) (listed_after (Some (shelf_line u g s)) l)) (append_assoc (map (shelf_line u g) ss) more ls)
-          ∙ takes u g ss (more ++ ls) z (λ x. ap (map (with_return m)) (skips u g x (s ∷ ss) gs differ.0 ls) ∙ later g x) s))
+          ∷ l) (ap (λ l. map as_mine (listed_after (Some (shelf_line m u g s)) l)) (append_assoc (map (shelf_line m u g) ss) more ls)
+          ∙ takes u g ss (more ++ ls) z (λ x. ap (map as_mine) (skips u g x (s ∷ ss) gs differ.0 ls) ∙ later g x) s))
 
       with_unit : (u : Name) (ls : List ShelfLine) (z : List MineRow) (last : Option ShelfLine) → is_new last u ≡ true
-          → map (with_return m) (listed_after last ls) ≡ z
-          → ((g : GrantRow) (s : ShelfRow) → map (with_return m) (listed_after (Some (shelf_line u g s)) ls) ≡ z) → (o : Option UnitRows)
+          → map as_mine (listed_after last ls) ≡ z
+          → ((g : GrantRow) (s : ShelfRow) → map as_mine (listed_after (Some (shelf_line m u g s)) ls) ≡ z) → (o : Option UnitRows)
           → get m.units u ≡ o
-          → map (with_return m)
+          → map as_mine
           (listed_after last
-          (flat_map (λ g. map (shelf_line u g) (unwrap_or o no_rows).shelves) (filter (is_held_by t p) (unwrap_or o no_rows).grants) ++ ls))
+          (flat_map (λ g. map (shelf_line m u g) (unwrap_or o no_rows).shelves) (filter (is_held_by t p) (unwrap_or o no_rows).grants) ++ ls))
           ≡ shelves_mine t p u o ++ z
       with_unit u ls z last new now later None e = now
       with_unit u ls z last new now later (Some rows) e =
@@ -268,12 +268,12 @@ module _ (t : ℕ) (p : Name) where
           ∙ ap₂ (λ b (o : Option UnitRows). cond b (map (mine_row u (unwrap_or o no_rows)) rows.shelves) [] ++ z) (sym (any_kept rows.grants)) e
 
       shelves_merged : (us : List Name) → IsStrictlySortedBy name_cmp us → (last : Option ShelfLine) → AllByRecursion (λ u. is_new last u ≡ true) us
-          → map (with_return m) (listed_after last (flat_map shelves_at us)) ≡ shelves_left us
+          → map as_mine (listed_after last (flat_map shelves_at us)) ≡ shelves_left us
       unfolding IsStrictlySortedBy
       shelves_merged [] up last new = refl
       shelves_merged (u ∷ us) up last new =
           with_unit u (flat_map shelves_at us) (shelves_left us) last new.0 (shelves_merged us up.1 last new.1)
-          (λ g s. shelves_merged us up.1 (Some (shelf_line u g s)) (all_weaker _ (λ v. not (same_name u v)
+          (λ g s. shelves_merged us up.1 (Some (shelf_line m u g s)) (all_weaker _ (λ v. not (same_name u v)
           ≡ true) (λ v less. ap (λ o. not (is_eq o)) less) us up.0)) (get m.units u) refl
 
     module _ (s : State) (k : HasContent s m) where
@@ -298,8 +298,8 @@ module _ (t : ℕ) (p : Name) where
           (subst (λ o. IsAscending (λ (a b : GrantRow). nat_cmp (role_no a.role_no) (role_no b.role_no)
           ≡ Less) (filter (λ g. same_name p g.person) (unwrap_or o no_rows).grants)) e (own_rise s m k p u))))
 
-      pub shelves_found : map (with_return m) (dedup repeats (standing_shelves t (own_shelf_lines m p))) ≡ mine_shelves m t p
+      pub shelves_found : map as_mine (dedup repeats (standing_shelves t (own_shelf_lines m p))) ≡ mine_shelves m t p
       shelves_found =
-          ap (map (with_return m)) (listed (standing_shelves t (own_shelf_lines m p)))
-          ∙ ap (λ ls. map (with_return m) (listed_after None ls)) (held_lines shelf_line (λ l. l.end_s) (λ u g x. refl) (λ rows. rows.shelves))
+          ap (map as_mine) (listed (standing_shelves t (own_shelf_lines m p)))
+          ∙ ap (λ ls. map as_mine (listed_after None ls)) (held_lines (shelf_line m) (λ l. l.end_s) (λ u g x. refl) (λ rows. rows.shelves))
           ∙ shelves_merged differ (keys m.units) names_up None (all_of (λ u. is_new None u ≡ true) (λ u. refl) (keys m.units))

@@ -1,11 +1,11 @@
 -- A person's grants in all units: by themselves, beside the last moment of their unit, and beside the shelves of their
--- unit.
+-- unit with the last return of the shelves' alarms.
 use Rattle.std.specs.{BTreeSet.{IsFromIterResult}, FinMap.{keys}, Ordering.{nat_cmp, ordering_then}, declared.cmp.Ordering.{Ordering}}
 use Rattle.std.specs.Prelude.{flat_map, Bool, List, None, Option, Some, [], filter, if◌then◌else◌, map, not, ℕ, ◌&&◌, ◌++◌, ◌∷◌, ◌≡◌}
 use Rattle.sqlite_value.specs.{Order.{Row}, declared.value.Value.TheVariants.{Text}}
-use Rattle.plant_books.specs.{Contents.{Content, mine_row, rows_in}, declared.books.{MineRow.{MineRow}, MineUnit.{MineUnit}}}
+use Rattle.plant_books.specs.{Contents.{Content, rows_in}, declared.books.{MineRow.{MineRow}, MineUnit.{MineUnit}}}
 use Rattle.plant_columns.specs.{Codes.{number, open_number, role}, Tables.{shelf_shape}}
-use Rattle.plant_model.specs.{Grants.{is_before}, declared.rows.{GrantRow.{GrantRow}, ShelfRow.{ShelfRow}, UnitRow.{UnitRow}, UnitRows.{UnitRows}}}
+use Rattle.plant_model.specs.{Grants.{is_before}, RowFacts.{last_return_in}, declared.rows.{GrantRow.{GrantRow}, ShelfRow.{ShelfRow}, UnitRow.{UnitRow}, UnitRows.{UnitRows}}}
 use Rattle.plant_store.specs.declared.{mine.{Holding.{Holding}, UnitLine.{UnitLine}}, shelves.ShelfLine.{ShelfLine}}
 use Rattle.plant_types.specs.{Names.{Name, name_cmp, same_name}, Roles.{role_no, same_role}}
 
@@ -69,13 +69,21 @@ JoinsLine units current line after next = (rest : List UnitLine)
 
 -- as the query shows a line
 abbrev pub shelf_line_cells : ShelfLine → Row
-shelf_line_cells l = Text l.unit ∷ role l.role_no ∷ open_number l.end_s ∷ shelf_shape.cells l.shelf
+shelf_line_cells l =
+    Text l.unit ∷ role l.role_no ∷ open_number l.end_s ∷ shelf_shape.cells l.shelf ++ open_number l.last_return ∷ []
 
-abbrev pub shelf_line : Name → GrantRow → ShelfRow → ShelfLine
-shelf_line u g s = record { unit = u; role_no = g.role_no; end_s = g.end_s; shelf = s }
+-- a shelf's alarm may be missing: then it never returned
+abbrev pub shelf_line : Content → Name → GrantRow → ShelfRow → ShelfLine
+shelf_line m u g s = record {
+  unit = u;
+  role_no = g.role_no;
+  end_s = g.end_s;
+  shelf = s;
+  last_return = last_return_in (rows_in m u).alarms s.tag;
+}
 
 abbrev pub own_shelf_lines : Content → Name → List ShelfLine
-own_shelf_lines m p = lines_of shelf_line (λ rows. rows.shelves) m p
+own_shelf_lines m p = lines_of (shelf_line m) (λ rows. rows.shelves) m p
 
 -- lines come by unit, role and tag
 abbrev pub line_cmp : ShelfLine → ShelfLine → Ordering
@@ -92,5 +100,5 @@ abbrev pub repeats : ShelfLine → ShelfLine → Bool
 repeats l last = same_name last.unit l.unit && not (same_role last.role_no l.role_no)
 
 -- the shelf of a line with the moment at which its alarm last returned to normal
-abbrev pub with_return : Content → ShelfLine → MineRow
-with_return m l = mine_row l.unit (rows_in m l.unit) l.shelf
+abbrev pub as_mine : ShelfLine → MineRow
+as_mine l = record { unit = l.unit; shelf = l.shelf; last_return = l.last_return }

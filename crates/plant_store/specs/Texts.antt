@@ -133,14 +133,15 @@ last_change_text = codes "SELECT number FROM changes WHERE unit = ?1 ORDER BY un
 abbrev pub holdings_text : List ℕ
 holdings_text = codes "SELECT unit, end_s FROM grants WHERE person = ?1 ORDER BY unit, person, role_no"
 
--- a person's grants in all units, beside the unit's last moment, and beside the unit's shelves
+-- a person's grants in all units, beside the unit's last moment, and beside the unit's shelves with their alarms' last
+-- return
 abbrev pub unit_lines_text : List ℕ
 unit_lines_text =
     codes "SELECT grants.unit, grants.role_no, grants.end_s, units.last_s FROM grants INNER JOIN units ON units.unit = grants.unit WHERE grants.person = ?1 ORDER BY grants.unit, grants.person, grants.role_no, units.unit"
 
 abbrev pub shelf_lines_text : List ℕ
 shelf_lines_text =
-    codes "SELECT grants.unit, grants.role_no, grants.end_s, shelves.tag, shelves.one_shot, shelves.start_s, shelves.until_s, shelves.person, shelves.words FROM grants INNER JOIN shelves ON shelves.unit = grants.unit WHERE grants.person = ?1 ORDER BY grants.unit"
+    codes "SELECT grants.unit, grants.role_no, grants.end_s, shelves.tag, shelves.one_shot, shelves.start_s, shelves.until_s, shelves.person, shelves.words, alarms.return_s FROM grants INNER JOIN shelves ON shelves.unit = grants.unit LEFT JOIN alarms ON alarms.unit = shelves.unit AND alarms.tag = shelves.tag WHERE grants.person = ?1 ORDER BY grants.unit"
 
 -- what is read of schema 1 alone: the codes of all units, and a unit's own row and its grants
 abbrev pub old_codes_text : List ℕ

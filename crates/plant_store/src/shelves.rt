@@ -1,34 +1,35 @@
 //! The shelves of the units in which a person holds roles.
 
 ghost use Rattle.std.specs.List.{dedup};
-ghost use Rattle.std.specs.Prelude.{◌≡◌, map};
+ghost use Rattle.std.specs.Prelude.{◌≡◌, IfOk, map};
 ghost use Rattle.plant_books.specs.Contents.{mine_shelves as shelves_held};
-ghost use Rattle.plant_store.specs.Mine.{line_cmp, repeats, shelf_line_cells};
-ghost use Rattle.plant_store.specs.Mine.{own_shelf_lines, standing_shelves, with_return};
+ghost use Rattle.plant_store.specs.Mine.{as_mine, line_cmp, repeats, shelf_line_cells};
+ghost use Rattle.plant_store.specs.Mine.{own_shelf_lines, standing_shelves};
 ghost use Rattle.plant_store.specs.Reading.{HasNoTransaction, IsOnlyRead, ReadsContent};
 
 use crate::mine::push;
-use crate::read::{read_rows, row_of_tag};
+use crate::read::read_rows;
 use plant_books::MineRow;
 use plant_columns::decode::{Shown, coded, flag, moment, open_moment, text, wide};
 use plant_columns::encode::single;
-use plant_model::{ShelfRow, is_before, last_return};
+use plant_model::{ShelfRow, is_before};
 use plant_types::{List, Moment, Person, Role, UnitCode};
 use sqlite::{Alter, Connection, Error, Row};
 use std::alloc::Global;
 use std::cmp::Ordering;
 
-/// A shelf, beside a grant of the person in its unit.
+/// A shelf, beside a grant of the person in its unit, with the moment at which its alarm last returned to normal.
 #[derive(Drop)]
 pub struct ShelfLine {
     pub unit: UnitCode,
     pub role_no: Role,
     pub end_s: Option<Moment>,
     pub shelf: ShelfRow,
+    pub last_return: Option<Moment>,
 }
 
 impl Shown for ShelfLine {
-    ghost width = { 9 };
+    ghost width = { 10 };
 
     ghost cells = { shelf_line_cells };
 
@@ -45,6 +46,7 @@ impl Shown for ShelfLine {
                 person: text(alloc, row, 7)?,
                 words: text(alloc, row, 8)?,
             },
+            last_return: open_moment(row, 9)?,
         })
     }
 }
@@ -76,7 +78,7 @@ fn shelf_lines<S: Alter>(
     let found: List<ShelfLine> = read_rows(
         alloc,
         conn,
-        "SELECT grants.unit, grants.role_no, grants.end_s, shelves.tag, shelves.one_shot, shelves.start_s, shelves.until_s, shelves.person, shelves.words FROM grants INNER JOIN shelves ON shelves.unit = grants.unit WHERE grants.person = ?1 ORDER BY grants.unit",
+        "SELECT grants.unit, grants.role_no, grants.end_s, shelves.tag, shelves.one_shot, shelves.start_s, shelves.until_s, shelves.person, shelves.words, alarms.return_s FROM grants INNER JOIN shelves ON shelves.unit = grants.unit LEFT JOIN alarms ON alarms.unit = shelves.unit AND alarms.tag = shelves.tag WHERE grants.person = ?1 ORDER BY grants.unit",
         &single(person),
     )?;
     let mut lines = found.into_vec();
@@ -101,40 +103,18 @@ fn merge(lines: List<ShelfLine>, now: Moment) -> List<ShelfLine>
     List::from_vec(lines)
 }
 
-/// The shelf of the line, with the moment at which its alarm last returned to normal.
-fn returned<S: Alter>(
-    alloc: Global,
-    conn: &mut Connection<S>,
-    line: ShelfLine,
-) -> Result<MineRow, Error>
-    requires { HasNoTransaction conn.old }
-    ensures mode { HasNoTransaction conn.new }
-    ensures found { ReadsContent S.Store conn.old conn.new result (λ m. with_return m line) }
-    ensures reads { IsOnlyRead S.Store conn.old conn.new }
-{
-    let alarms = row_of_tag(alloc, conn, &line.unit, &line.shelf.tag)?;
-    Ok(MineRow {
-        last_return: last_return(alarms.as_slice(), &line.shelf.tag),
-        unit: line.unit,
-        shelf: line.shelf,
-    })
-}
-
 /// The shelves of the lines, each with the moment at which its alarm last returned to normal.
-fn all_returned<S: Alter>(
-    alloc: Global,
-    conn: &mut Connection<S>,
-    lines: List<ShelfLine>,
-) -> Result<List<MineRow>, Error>
-    requires { HasNoTransaction conn.old }
-    ensures mode { HasNoTransaction conn.new }
-    ensures found { ReadsContent S.Store conn.old conn.new result (λ m. map (with_return m) lines) }
-    ensures reads { IsOnlyRead S.Store conn.old conn.new }
+fn mine_rows(alloc: Global, lines: List<ShelfLine>) -> Result<List<MineRow>, Error>
+    ensures { IfOk result (λ mine. mine ≡ map as_mine lines) }
 {
     let mut mine = List::new(alloc);
     for line in lines.into_vec() {
-        let returned = returned(alloc, conn, line)?;
-        push(&mut mine, returned)?;
+        let row = MineRow {
+            last_return: line.last_return,
+            unit: line.unit,
+            shelf: line.shelf,
+        };
+        push(&mut mine, row)?;
     }
     Ok(mine)
 }
@@ -153,5 +133,5 @@ pub fn mine_shelves<S: Alter>(
     ensures reads { IsOnlyRead S.Store conn.old conn.new }
 {
     let lines = shelf_lines(alloc, conn, person)?;
-    all_returned(alloc, conn, merge(lines, now))
+    mine_rows(alloc, merge(lines, now))
 }
