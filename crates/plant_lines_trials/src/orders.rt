@@ -12,10 +12,10 @@ use std::alloc::Global;
 use std::ops::Range;
 use std::process::Abort;
 
-/// The requests that open the unit and register its alarms, each by its person, its line and its body.
+/// How many requests open the unit and register its alarms.
 const OPENING: u64 = 5;
 
-/// One of them.
+/// One of them, by its person, its line and its body.
 fn opening(number: u64) -> (&'static str, &'static str, &'static str) {
     match number {
         0 => (
@@ -46,7 +46,7 @@ fn opening(number: u64) -> (&'static str, &'static str, &'static str) {
     }
 }
 
-/// A request that changes what the others are answered, or is answered by what they changed.
+/// A request that changes what others are answered, or whose answer others change.
 fn shared(number: u64) -> (&'static str, &'static str, &'static str) {
     match number % 12 {
         0 => (
@@ -84,7 +84,7 @@ fn shared(number: u64) -> (&'static str, &'static str, &'static str) {
     }
 }
 
-/// Adds a request, all at one moment.
+/// Adds a request. All are made at one moment.
 fn add(
     rt: &impl Abort,
     alloc: Global,
@@ -119,7 +119,7 @@ fn client_of(bytes: Vec<u8>) -> Client {
     }
 }
 
-/// What one client asks, by chance: at most eight requests by their numbers, the last first.
+/// What one client asks, by chance: one to eight requests, the last first.
 fn numbers_of(rt: &impl Abort, alloc: Global, seed: &mut u64) -> Vec<u64> {
     let mut numbers = Vec::new(alloc);
     let count = 1u64.saturating_add(next_number(seed) % 8);
@@ -143,7 +143,7 @@ fn served_of(rt: &impl Abort, alloc: Global, numbers: &[u64]) -> Served {
     }
 }
 
-/// Ports of clients that ask this, of which each takes at most so many bytes at once.
+/// Ports of clients that ask this; each sends and takes at most so many bytes at once.
 fn recorded_of(
     rt: &impl Abort,
     alloc: Global,
@@ -198,7 +198,7 @@ fn in_order(rt: &impl Abort, alloc: Global, asked: &mut Vec<Vec<u64>>, made: &[M
     bytes
 }
 
-/// Each client has asked all that it had to.
+/// No client has a request left.
 fn are_asked(rt: &impl Abort, asked: &[Vec<u64>], seed: u64) {
     for numbers in asked {
         assert!(rt; numbers.is_empty(), "script {seed}");
@@ -255,26 +255,38 @@ fn are_parts(
     }
 }
 
+/// What each client of a script asks.
+fn asked_of(rt: &impl Abort, alloc: Global, seed: &mut u64) -> Vec<Vec<u64>> {
+    let mut asked = Vec::new(alloc);
+    let clients = 2u64.saturating_add(next_number(seed) % 11);
+    for _ in 0..clients {
+        let numbers = numbers_of(rt, alloc, seed);
+        asked.push(numbers).expect(rt, "memory");
+    }
+    asked
+}
+
+/// Opens the unit and serves all clients. How many bytes the opening was answered.
+fn serve_all(rt: &impl Abort, alloc: Global, ports: &mut Recorded) -> usize {
+    let mut office = office_of(rt, alloc);
+    let opening = client_of(opening_bytes(rt, alloc));
+    let (opened, _) = session_by(alloc, &opening, &mut office);
+    serve(rt, alloc, ports, &mut office);
+    drop(office.into_books());
+    opened.len()
+}
+
 /// One script.
 fn try_order(rt: &impl Abort, alloc: Global, seed: u64) {
     let mut numbers = seed;
-    let clients = 2u64.saturating_add(next_number(&mut numbers) % 11);
-    let mut asked = Vec::new(alloc);
-    for _ in 0..clients {
-        asked
-            .push(numbers_of(rt, alloc, &mut numbers))
-            .expect(rt, "memory");
-    }
+    let mut asked = asked_of(rt, alloc, &mut numbers);
     let most = if seed % 2 == 0 { 50 } else { 4096 };
     let mut ports = recorded_of(rt, alloc, &asked, next_number(&mut numbers), most);
-    let mut office = office_of(rt, alloc);
-    let (opened, _) = session_by(alloc, &client_of(opening_bytes(rt, alloc)), &mut office);
-    serve(rt, alloc, &mut ports, &mut office);
-    drop(office.into_books());
-    let bytes = in_order(rt, alloc, &mut asked, &ports.made);
+    let begin = serve_all(rt, alloc, &mut ports);
+    let all = client_of(in_order(rt, alloc, &mut asked, &ports.made));
     are_asked(rt, &asked, seed);
-    let (answers, _) = alone(rt, alloc, &client_of(bytes));
-    are_parts(rt, alloc, &answers, opened.len(), &ports, seed);
+    let (bytes, _) = alone(rt, alloc, &all);
+    are_parts(rt, alloc, &bytes, begin, &ports, seed);
 }
 
 /// These scripts, one after another.
