@@ -1,5 +1,5 @@
 pub mod KeyedLaws
 pub mod OrderLaws
-pub mod EventLaws
+pub mod HistoryLaws
 pub mod NumberRanges
 pub mod ShelfLists

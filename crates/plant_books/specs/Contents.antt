@@ -29,9 +29,22 @@ rows_in m u = unwrap_or (get m.units u) no_rows
 abbrev pub without_events : UnitRows → UnitRows
 without_events rows = record rows { events = [] }
 
--- the unit's rows but its events, none where the code was never opened
-abbrev pub rows_but_events : Content → Name → Option UnitRows
-rows_but_events m u = option_map without_events (get m.units u)
+-- the rows of a unit, all but what was reviewed: the limits and cells of its matrices, and its changes
+abbrev pub without_reviews : UnitRows → UnitRows
+without_reviews rows = record rows { bands = []; cells = []; changes = [] }
+
+-- the rows of a unit, all but its history: what was reviewed, and its events
+abbrev pub without_history : UnitRows → UnitRows
+without_history rows = without_events (without_reviews rows)
+
+-- rows with the history of others
+abbrev pub with_history_of : UnitRows → UnitRows → UnitRows
+with_history_of whole rows =
+    record rows { bands = whole.bands; cells = whole.cells; changes = whole.changes; events = whole.events }
+
+-- the unit's rows but its history, none where the code was never opened
+abbrev pub rows_but_history : Content → Name → Option UnitRows
+rows_but_history m u = option_map without_history (get m.units u)
 
 -- the unit's events, none where the code was never opened
 abbrev pub events_in : Content → Name → List Event

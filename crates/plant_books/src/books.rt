@@ -1,7 +1,7 @@
 ghost use Rattle.std.specs.Prelude.{◌≡◌, IfOk, IsTrue, None, OnOk, ℕ};
 ghost use Rattle.plant_books.specs.Crashes.{IsSettled, LosesNoPart, LosesNothing};
 ghost use Rattle.plant_books.specs.Books.{CountsBy, Finds, FindsPart, Keeps, KeepsOnErr, Makes, WasHonest};
-ghost use Rattle.plant_books.specs.Contents.{Content, codes_held, events_in, mine_shelves, mine_units, rows_but_events};
+ghost use Rattle.plant_books.specs.Contents.{Content, codes_held, events_in, mine_shelves, mine_units, rows_but_history};
 ghost use Rattle.plant_model.specs.Worlds.{unit_named};
 ghost use Rattle.std.specs.FinMap as fin;
 
@@ -77,10 +77,11 @@ pub trait Books {
         ensures crash { LosesNothing represents is_honest is_clean leaves_books may_leave self.old self.new }
         ensures count { CountsBy stores self.old self.new result };
 
-    /// All rows of the unit but its events, none where it was never opened.
-    fn rows_but_events(&mut self, unit: &UnitCode) -> Result<Option<UnitRows>, Fault>
+    /// All rows of the unit but its history, which is its events, its changes, and the limits and cells of its matrices.
+    /// None where it was never opened.
+    fn rows_but_history(&mut self, unit: &UnitCode) -> Result<Option<UnitRows>, Fault>
         ensures found { Finds represents is_honest self.old self.new result
-            (λ m. rows_but_events m unit.now) }
+            (λ m. rows_but_history m unit.now) }
         ensures same { Keeps represents self.old self.new }
         ensures honest { WasHonest is_honest self.old self.new }
         ensures crash { LosesNothing represents is_honest is_clean leaves_books may_leave self.old self.new }

@@ -22,7 +22,7 @@ pub use books::{Books, MineRow, MineUnit};
 pub use changes::{after_changes, puts_event};
 pub use found::shelved_alarms;
 pub use opened::push_shelves;
-pub use parts::{events_asked, part_of, part_of_grants, rows_but_events};
+pub use parts::{events_asked, part_of, part_of_grants, rows_but_history};
 pub use plain::{Plain, count_after};
 pub use rows::are_in_order;
 pub use scope_numbers::{change_numbers, matrix_numbers};

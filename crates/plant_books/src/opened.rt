@@ -1,5 +1,5 @@
 ghost use Rattle.std.specs.Prelude.{◌≡◌, IfOk, IfSome, OnErr, OnOk, is_some, option_map, unwrap_or};
-ghost use Rattle.plant_books.specs.Contents.{AddsShelves, without_events};
+ghost use Rattle.plant_books.specs.Contents.{AddsShelves, without_history};
 ghost use Rattle.plant_books.specs.Listed.{AllInOrder, listed_after, listed_codes, listed_shelves, listed_units, rows_at};
 ghost use Rattle.plant_model.specs.{Order.{AreInOrder, TagsRise}, Parts.{part_of as the_part}, RowChanges.{no_rows}, RowFacts.{alarm_tag, unit_read}};
 ghost use Rattle.plant_types.specs.Results.{Gives, OnlyMemory};
@@ -9,7 +9,7 @@ use crate::books::{MineRow, MineUnit};
 use crate::changes::after_changes;
 use crate::grants::{holds_role, roles_held};
 use crate::keyed::{Keyed, put};
-use crate::parts::{part_of, rows_but_events};
+use crate::parts::{part_of, rows_but_history};
 use plant_alarm::Event;
 use plant_model::{AlarmRow, Call, RowEdit, UnitPart, UnitRows, row_of};
 use plant_types::{Fault, List, Moment, Person, Tag, TryCopy, UnitCode};
@@ -66,18 +66,18 @@ pub fn copy_of(
     }
 }
 
-/// A copy of the rows of a unit but its events, if it was opened.
-pub fn copy_but_events(
+/// A copy of the rows of a unit but its history, if it was opened.
+pub fn copy_but_history(
     alloc: Global,
     units: &List<OpenedUnit>,
     unit: &UnitCode,
 ) -> Result<Option<UnitRows>, Fault>
-    ensures value { Gives result (option_map without_events (rows_at units.now unit.now)) }
+    ensures value { Gives result (option_map without_history (rows_at units.now unit.now)) }
     ensures memory { OnlyMemory result }
 {
     match rows_of(units, unit) {
         None => Ok(None),
-        Some(rows) => Ok(Some(rows_but_events(alloc, rows)?)),
+        Some(rows) => Ok(Some(rows_but_history(alloc, rows)?)),
     }
 }
 

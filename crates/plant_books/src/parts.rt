@@ -1,5 +1,5 @@
 ghost use Rattle.std.specs.Prelude.{◌≡◌, ◌<◌, ◌^◌, IfOk, filter, option_copied, true};
-ghost use Rattle.plant_books.specs.{Asking.{alarms_wanted, IsApprovedBy, changes_by, events_wanted, grants_by, rows_by}, Contents.{without_events}};
+ghost use Rattle.plant_books.specs.{Asking.{alarms_wanted, IsApprovedBy, changes_by, events_wanted, grants_by, rows_by}, Contents.{without_history}};
 ghost use Rattle.plant_model.specs.Order.{AreInOrder, ChangesRise, EventsRise, TagsRise};
 ghost use Rattle.plant_model.specs.Parts.{counted_for, is_crowded as is_crowded_in, part_of as the_part, part_of_holder as holders_part, selected};
 ghost use Rattle.plant_model.specs.{RowChanges.{no_rows}, RowFacts.{alarm_tag, last_number as last_number_of, shelf_tag}};
@@ -22,9 +22,9 @@ use plant_model::{
 use plant_types::{Fault, List, Person, TryCopy, copy_all};
 use std::alloc::Global;
 
-/// A copy of the rows of a unit but its events.
-pub fn rows_but_events(alloc: Global, rows: &UnitRows) -> Result<UnitRows, Fault>
-    ensures value { IfOk result (λ copy. copy ≡ without_events rows.now) }
+/// A copy of the rows of a unit but its history.
+pub fn rows_but_history(alloc: Global, rows: &UnitRows) -> Result<UnitRows, Fault>
+    ensures value { IfOk result (λ copy. copy ≡ without_history rows.now) }
     ensures memory { OnlyMemory result }
 {
     Ok(UnitRows {
@@ -33,10 +33,10 @@ pub fn rows_but_events(alloc: Global, rows: &UnitRows) -> Result<UnitRows, Fault
         alarms: rows.alarms.copy(alloc)?,
         shelves: rows.shelves.copy(alloc)?,
         events: List::new(alloc),
-        bands: rows.bands.copy(alloc)?,
-        cells: rows.cells.copy(alloc)?,
+        bands: List::new(alloc),
+        cells: List::new(alloc),
         records: rows.records.copy(alloc)?,
-        changes: rows.changes.copy(alloc)?,
+        changes: List::new(alloc),
     })
 }
 

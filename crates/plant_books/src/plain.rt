@@ -3,7 +3,7 @@ ghost use Rattle.plant_books.specs.{Contents.{no_units}, Counting.{Counts, Count
 
 use crate::books::{Books, MineRow, MineUnit};
 use crate::opened::{
-    OpenedUnit, change_unit, codes_held, copy_but_events, copy_of, events_of, is_opened, part_at,
+    OpenedUnit, change_unit, codes_held, copy_but_history, copy_of, events_of, is_opened, part_at,
     shelves_held, units_held,
 };
 use plant_alarm::Event;
@@ -92,8 +92,8 @@ impl Books for Plain {
         copy_of(self.alloc, &self.units, unit)
     }
 
-    fn rows_but_events(&mut self, unit: &UnitCode) -> Result<Option<UnitRows>, Fault> {
-        copy_but_events(self.alloc, &self.units, unit)
+    fn rows_but_history(&mut self, unit: &UnitCode) -> Result<Option<UnitRows>, Fault> {
+        copy_but_history(self.alloc, &self.units, unit)
     }
 
     fn events(&mut self, unit: &UnitCode) -> Result<List<Event>, Fault> {

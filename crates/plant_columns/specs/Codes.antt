@@ -1,8 +1,8 @@
 -- Typed values as the values of columns, and back. A column that holds a value outside its set is read as some value of
 -- it here: the reading code answers a fault there.
-use Rattle.std.specs.Prelude.{Bool, IfOk, List, None, Option, Result, Some, [], find, if◌then◌else◌, pos, unwrap_or, ℕ, ◌==◌, ◌∷◌, ◌≡◌}
+use Rattle.std.specs.Prelude.{Bool, IfOk, List, None, Option, Result, Some, [], find, if◌then◌else◌, negsuc, pos, unwrap_or, ℕ, ◌==◌, ◌∷◌, ◌≡◌}
 use Rattle.sqlite.specs.Values.{or_null}
-use Rattle.sqlite_value.specs.{Order.{Row, column}, declared.value.Value.{Value, TheVariants.{Int, Text}}}
+use Rattle.sqlite_value.specs.{Order.{Row, column}, declared.value.Value.{Value, TheVariants.{Blob, Int, Null, Real, Text}}}
 use Rattle.plant_alarm.specs.declared.{event.EventKind.{EventKind, TheVariants.{Ack, Act, Reset, Rtn, Sup, Unsup}}, summary.AlarmState.{AlarmState}}
 use Rattle.plant_alarm.specs.declared.summary.AlarmState.TheVariants.{Acknowledged, LatchedAck, LatchedUnack, Normal, ReturnedUnack, Unacknowledged}
 use Rattle.plant_model.specs.declared.rows.ChangeTopic.{ChangeTopic, TheVariants.{Limit as LimitTopic, Matrix as MatrixTopic, Record as RecordTopic}}
@@ -19,22 +19,33 @@ abbrev pub number : ℕ → Value
 number n = Int (pos n)
 
 abbrev pub number_in : Value → ℕ
+number_in Null = 0
 number_in (Int (pos n)) = n
-number_in _ = 0
+number_in (Int (negsuc n)) = 0
+number_in (Real x) = 0
+number_in (Text t) = 0
+number_in (Blob b) = 0
 
 abbrev pub open_number : Option ℕ → Value
 open_number o = or_null number o
 
 abbrev pub open_number_in : Value → Option ℕ
+open_number_in Null = None
 open_number_in (Int (pos n)) = Some n
-open_number_in _ = None
+open_number_in (Int (negsuc n)) = None
+open_number_in (Real x) = None
+open_number_in (Text t) = None
+open_number_in (Blob b) = None
 
 abbrev pub open_text : Option (List ℕ) → Value
 open_text o = or_null Text o
 
 abbrev pub open_text_in : Value → Option (List ℕ)
+open_text_in Null = None
+open_text_in (Int n) = None
+open_text_in (Real x) = None
 open_text_in (Text t) = Some t
-open_text_in _ = None
+open_text_in (Blob b) = None
 
 -- 1 for true, 0 for false
 abbrev pub flag : Bool → Value

@@ -71,7 +71,7 @@ impl Books for Failing {
         Err(self.fault())
     }
 
-    fn rows_but_events(&mut self, _unit: &UnitCode) -> Result<Option<UnitRows>, Fault> {
+    fn rows_but_history(&mut self, _unit: &UnitCode) -> Result<Option<UnitRows>, Fault> {
         Err(self.fault())
     }
 

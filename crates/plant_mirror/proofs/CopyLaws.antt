@@ -3,9 +3,9 @@ use Rattle.std.specs.{Cmp.{eq_by_cmp_equiv}, FinMap.{get, get-insert}, List.{All
 use Rattle.std.specs.{Map.{keys_of, lookup, lookup_entry, remove_entry}, Option.{option_map_or}}
 use Rattle.std.proofs.Common.{Bool, Err, IfOk, IfSome, List, None, Ok, Result, Some, [], ap, arith, cond, false, map, not, refl, subst, suc, sym, take, true, zero, ℕ, ◌+◌, ◌-◌, ◌≤◌, ◌∙◌, ◌∷◌, ◌≡◌, Option, is_some, length, option_map, slice_get, unwrap_or, ◌&&◌}
 use Rattle.lru.specs.LruCache.{LruCache, last_entry, promoted, put_entries}
-use Rattle.plant_books.specs.{Changing.{puts_event}, Contents.{Content, after_changes, mine_row, rows_in, shelves_there, without_events}}
-use Rattle.plant_books.proofs.public.{EventLaws.{changed_without, part_without}, OrderLaws.{changed_in_order}}
-use Rattle.plant_model.specs.{Order.{AreInOrder}, Parts.{part_of}, RowChanges.{changed_by, no_rows}, Scopes.{looks_at_events}}
+use Rattle.plant_books.specs.{Changing.{puts_event}, Contents.{Content, after_changes, mine_row, rows_in, shelves_there, without_events, without_history, without_reviews}}
+use Rattle.plant_books.proofs.public.{HistoryLaws.{changed_unreviewed, changed_without, part_unreviewed, part_without}, OrderLaws.{changed_in_order}}
+use Rattle.plant_model.specs.{Order.{AreInOrder}, Parts.{part_of, part_of_holder, part_of_stranger}, RowChanges.{changed_by, no_rows}, RowFacts.{holds_by}, Scopes.{looks_at_events, looks_at_reviews}}
 use Rattle.plant_model.{specs.declared.{call.Call.{Call}, rows.{RowEdit.{RowEdit}, UnitPart.{UnitPart}, UnitRows.{UnitRows}}}, proofs.public.WorldLaws.{same_of}}
 use Rattle.plant_mirror.specs.{Copies.{AreCopies, Copy, IsCopy, There, row_count, rows_of_all, seen}, declared.at_hand.AtHand.{AtHand}}
 use Rattle.plant_types.{specs.{Names.{Name, same_name}, declared.fault.Fault.{Fault}}, proofs.public.Orders.{name_total}}
@@ -144,31 +144,40 @@ count_put c u copy = by (lookup_entry (same_name u) c.entries) refl
 pub is_there : (b : Bool) (o : Option UnitRows) (rows : UnitRows) → option_map (seen b) o ≡ Some rows → true ≡ is_some o
 is_there b o rows e = grind arith
 
-pub all_there : (b : Bool) (o : Option UnitRows) (rows : UnitRows) → b ≡ true → option_map (seen b) o ≡ Some rows → o ≡ Some rows
-all_there b o rows whole e = grind arith
+-- the events, where they are at hand
+pub events_there : (b : Bool) (o : Option UnitRows) (rows : UnitRows) → b ≡ true → option_map (seen b) o ≡ Some rows
+    → rows.events ≡ (unwrap_or o no_rows).events
+events_there b None rows whole e = absurd (cc e)
+events_there true (Some r) rows whole e = let same : without_reviews r ≡ rows = cc e in ap (λ (x : UnitRows). x.events) (sym same)
+events_there false (Some r) rows whole e = absurd (let wrong : false ≡ true = whole in cc)
 
-seen_but_events : (b : Bool) (rows : UnitRows) → without_events (seen b rows) ≡ without_events rows
-seen_but_events b rows = grind arith
+seen_but_history : (b : Bool) (rows : UnitRows) → without_history (seen b rows) ≡ without_history rows
+seen_but_history true rows = refl
+seen_but_history false rows = refl
 
-pub all_but_events : (b : Bool) (o : Option UnitRows) (rows : UnitRows) → option_map (seen b) o ≡ Some rows
-    → Some (without_events rows) ≡ option_map without_events o
-all_but_events b o rows e = grind (arith, seen_but_events b)
+pub all_but_history : (b : Bool) (o : Option UnitRows) (rows : UnitRows) → option_map (seen b) o ≡ Some rows
+    → Some (without_history rows) ≡ option_map without_history o
+all_but_history b None rows e = absurd (cc e)
+all_but_history b (Some r) rows e =
+    let same : seen b r ≡ rows = cc e in
+    ap (λ (x : UnitRows). Some (without_history x)) (sym same) ∙ ap (λ x. Some x) (seen_but_history b r)
 
-events_again : (b : Bool) (rows : UnitRows) → record (seen b rows) { events = rows.events } ≡ rows
-events_again b rows = grind arith
+events_again : (b : Bool) (rows : UnitRows) → seen true rows ≡ record (seen b rows) { events = rows.events }
+events_again true rows = refl
+events_again false rows = refl
 
 pub seen_with_events : (b : Bool) (o : Option UnitRows) (rows : UnitRows) → option_map (seen b) o ≡ Some rows
-    → o ≡ Some (record rows { events = (unwrap_or o no_rows).events })
+    → option_map (seen true) o ≡ Some (record rows { events = (unwrap_or o no_rows).events })
 seen_with_events b None rows e = absurd (cc e)
 seen_with_events b (Some r) rows e =
     let same : seen b r ≡ rows = cc e in
-    ap (λ x. Some x) (sym (events_again b r)) ∙ ap (λ (x : UnitRows). Some (record x { events = r.events })) same
+    ap (λ x. Some x) (events_again b r) ∙ ap (λ (x : UnitRows). Some (record x { events = r.events })) same
 
 pub shelves_seen : (u : Name) (b : Bool) (o : Option UnitRows) (rows : UnitRows) → option_map (seen b) o ≡ Some rows
     → shelves_there u o ≡ map (mine_row u rows) rows.shelves
 shelves_seen u b None rows e = absurd (cc e)
-shelves_seen u true (Some r) rows e = let same : r ≡ rows = cc e in ap (λ (x : UnitRows). map (mine_row u x) x.shelves) same
-shelves_seen u false (Some r) rows e = let same : without_events r ≡ rows = cc e in ap (λ (x : UnitRows). map (mine_row u x) x.shelves) same
+shelves_seen u true (Some r) rows e = let same : without_reviews r ≡ rows = cc e in ap (λ (x : UnitRows). map (mine_row u x) x.shelves) same
+shelves_seen u false (Some r) rows e = let same : without_history r ≡ rows = cc e in ap (λ (x : UnitRows). map (mine_row u x) x.shelves) same
 
 -- the part of a call, where it is that of the rows which there are
 pub part_there : (c : Call) (b : Bool) (o : Option UnitRows) (rows : UnitRows) → option_map (seen b) o ≡ Some rows
@@ -184,9 +193,40 @@ made_there said (Ok (Some x)) part there is gives at = let given : x ≡ part =
 made_there said (Ok None) part there is gives at = tt
 made_there said (Err e) part there is gives at = tt
 
-pub part_seen : (c : Call) (b : Bool) (kept rows : UnitRows) → seen b rows ≡ kept → looks_at_events c.request ≡ false
-    → part_of c kept ≡ part_of c rows
-part_seen c b kept rows e none = grind (arith, part_without c rows)
+seen_part : (c : Call) (b : Bool) (rows : UnitRows) → looks_at_reviews c.request ≡ false → looks_at_events c.request ≡ false
+    → part_of c (seen b rows) ≡ part_of c rows
+seen_part c true rows unreviewed none = part_unreviewed c rows unreviewed
+seen_part c false rows unreviewed none = part_without c (without_reviews rows) none ∙ part_unreviewed c rows unreviewed
+
+-- the part of a call that looks at no events
+pub part_seen : (c : Call) (b : Bool) (kept rows : UnitRows) → seen b rows ≡ kept → looks_at_reviews c.request ≡ false
+    → looks_at_events c.request ≡ false → part_of c kept ≡ part_of c rows
+part_seen c b kept rows e unreviewed none = ap (part_of c) (sym e) ∙ seen_part c b rows unreviewed none
+
+-- of a call that may look at them, where they are at hand
+pub part_with_events : (c : Call) (b : Bool) (kept rows : UnitRows) → seen b rows ≡ kept → looks_at_reviews c.request ≡ false
+    → b ≡ true → part_of c kept ≡ part_of c rows
+part_with_events c true kept rows e unreviewed whole = ap (part_of c) (sym e) ∙ part_unreviewed c rows unreviewed
+part_with_events c false kept rows e unreviewed whole = absurd (let wrong : false ≡ true = whole in cc)
+
+seen_by_stranger : (c : Call) (b : Bool) (rows : UnitRows) → holds_by rows.grants c.moment c.person ≡ false
+    → part_of c (seen b rows) ≡ part_of c rows
+seen_by_stranger c true rows gone = ap (λ h. cond h (part_of_holder c (without_reviews rows)) (part_of_stranger c rows)) gone
+    ∙ ap (λ h. cond h (part_of_holder c rows) (part_of_stranger c rows)) (sym gone)
+seen_by_stranger c false rows gone = ap (λ h. cond h (part_of_holder c (without_history rows)) (part_of_stranger c rows)) gone
+    ∙ ap (λ h. cond h (part_of_holder c rows) (part_of_stranger c rows)) (sym gone)
+
+same_grants : (b : Bool) (rows : UnitRows) → (seen b rows).grants ≡ rows.grants
+same_grants true rows = refl
+same_grants false rows = refl
+
+-- of a caller who holds no role
+pub part_of_none : (c : Call) (b : Bool) (kept rows : UnitRows) → seen b rows ≡ kept
+    → holds_by kept.grants c.moment c.person ≡ false → part_of c kept ≡ part_of c rows
+part_of_none c b kept rows e gone =
+    let grants : kept.grants ≡ rows.grants = ap (λ (x : UnitRows). x.grants) (sym e) ∙ same_grants b rows in
+    ap (part_of c) (sym e)
+    ∙ seen_by_stranger c b rows (ap (λ gs. holds_by gs c.moment c.person) (sym grants) ∙ gone)
 
 -- ---- what changes of a unit leave of the others, and what they make of the unit
 
@@ -197,21 +237,27 @@ pub unit_after : (m : Content) (u : Name) (cs : List RowEdit) → get (after_cha
 unit_after m u cs = grind (arith, get-insert name_total m.units u (changed_by cs (rows_in m u)) u, (eq_by_cmp_equiv name_total).refl u)
 
 seen_changed : (b : Bool) (cs : List RowEdit) (rows : UnitRows) → (not b && puts_event cs) ≡ false
-    → seen b (changed_by cs rows) ≡ changed_by cs (seen b rows)
-seen_changed b cs rows none = grind (arith, changed_without cs rows)
+    → seen b (changed_by cs rows) ≡ without_reviews (changed_by cs (seen b rows))
+seen_changed true cs rows none = sym (changed_unreviewed cs rows)
+seen_changed false cs rows none =
+    ap without_events (sym (changed_unreviewed cs rows)) ∙ ap without_reviews (sym (changed_without cs (without_reviews rows) none))
 
 seen_rows : (b : Bool) (o : Option UnitRows) (rows : UnitRows) → option_map (seen b) o ≡ Some rows → seen b (unwrap_or o no_rows) ≡ rows
 seen_rows b o rows e = grind arith
 
+in_order_unreviewed : (rows : UnitRows) → AreInOrder rows → AreInOrder (without_reviews rows)
+in_order_unreviewed rows h = record h { bands = tt; cells = tt; changes = tt }
+
 -- a copy after changes is one of the unit after them
 pub changed_there : (m : Content) (u : Name) (cs : List RowEdit) (copy after : AtHand) → IsCopy (get m.units) (u, copy)
-    → after.has_events ≡ copy.has_events → after.rows ≡ changed_by cs copy.rows → (not copy.has_events && puts_event cs) ≡ false
+    → after.has_events ≡ copy.has_events → after.rows ≡ without_reviews (changed_by cs copy.rows) → (not copy.has_events && puts_event cs) ≡ false
     → IsCopy (get (after_changes m u cs).units) (u, after)
 changed_there m u cs copy after h flag is none =
     let b = copy.has_events in
     let there = ap (option_map (seen b)) (unit_after m u cs) in
-    let rows = seen_changed b cs (rows_in m u) none ∙ ap (changed_by cs) (seen_rows b (get m.units u) copy.rows h.same) ∙ sym is in
+    let rows = seen_changed b cs (rows_in m u) none
+    ∙ ap (λ r. without_reviews (changed_by cs r)) (seen_rows b (get m.units u) copy.rows h.same) ∙ sym is in
     record {
       same = ap (λ d. option_map (seen d) (get (after_changes m u cs).units u)) flag ∙ there ∙ ap (λ x. Some x) rows;
-      ordered = subst AreInOrder (sym is) (changed_in_order cs copy.rows h.ordered);
+      ordered = subst AreInOrder (sym is) (in_order_unreviewed (changed_by cs copy.rows) (changed_in_order cs copy.rows h.ordered));
     }

@@ -1,6 +1,6 @@
 -- Copies of units' rows, beside the books that keep them.
 use Rattle.std.specs.{FinMap.{get}, Prelude.{Bool, List, Option, Some, [], false, length, option_map, true, ℕ, ◌+◌, ◌∷◌, ◌≡◌}}
-use Rattle.plant_books.specs.Contents.{Content, without_events}
+use Rattle.plant_books.specs.Contents.{Content, without_history, without_reviews}
 use Rattle.plant_model.specs.{Order.{AreInOrder}, declared.rows.UnitRows.{UnitRows}}
 use Rattle.plant_mirror.specs.declared.at_hand.AtHand.{AtHand}
 use Rattle.plant_types.specs.Names.{Name, same_name}
@@ -24,10 +24,10 @@ abbrev pub rows_of_all : List Copy → ℕ
 rows_of_all [] = 0
 rows_of_all (copy ∷ copies) = row_count copy.1.rows + rows_of_all copies
 
--- what is at hand of a unit's rows: all of them, or all but the events
+-- what is at hand of a unit's rows: all but what was reviewed, with the events or without
 abbrev pub seen : Bool → UnitRows → UnitRows
-seen true rows = rows
-seen false rows = without_events rows
+seen true rows = without_reviews rows
+seen false rows = without_history rows
 
 -- a copy of what there is of its unit, its rows in the order of their keys
 pub record IsCopy (there : There) (copy : Copy) : Type 0 where

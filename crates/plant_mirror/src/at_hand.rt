@@ -1,5 +1,5 @@
 ghost use Rattle.std.specs.Prelude.{◌≡◌, ◌&&◌, IfSome, IsTrue, not};
-ghost use Rattle.plant_books.specs.{Changing.{puts_event}, Contents.{Content, after_changes as content_after}};
+ghost use Rattle.plant_books.specs.{Changing.{puts_event}, Contents.{Content, after_changes as content_after, without_reviews as unreviewed}};
 ghost use Rattle.plant_mirror.specs.Copies.{IsCopy, seen};
 ghost use Rattle.plant_model.specs.{Parts.{part_of}, declared.rows.UnitRows.{UnitRows as TheRows}};
 ghost use Rattle.plant_types.specs.Names.{Name};
@@ -7,15 +7,27 @@ ghost use Rattle.std.specs.FinMap as fin;
 ghost use Rattle.plant_mirror.specs.Copies as copies;
 
 use plant_books::{after_changes, puts_event};
-use plant_model::{Call, RowEdit, UnitRows, holds_some_by, looks_at_events};
+use plant_model::{Call, RowEdit, UnitRows, holds_some_by, looks_at_events, looks_at_reviews};
 use plant_types::List;
 use std::alloc::Global;
 
-/// A unit's rows at hand: all of them, or all but its events.
+/// A unit's rows at hand: all but its matrices and changes, with its events or without.
 #[derive(Drop)]
 pub struct AtHand {
     pub rows: UnitRows,
     pub has_events: bool,
+}
+
+/// The rows without what was reviewed.
+fn without_reviews(alloc: Global, rows: UnitRows) -> UnitRows
+    ensures { result ≡ unreviewed rows }
+{
+    UnitRows {
+        bands: List::new(alloc),
+        cells: List::new(alloc),
+        changes: List::new(alloc),
+        ..rows
+    }
 }
 
 impl AtHand {
@@ -36,11 +48,14 @@ impl AtHand {
     }
 
     /// Whether the call looks at nothing that is missing here. A caller who holds no role looks at no event.
-    #[tactic(auto, using(crate::proofs::CopyLaws::part_seen))]
+    #[tactic(auto, using(crate::proofs::CopyLaws::part_seen, crate::proofs::CopyLaws::part_with_events, crate::proofs::CopyLaws::part_of_none))]
     pub fn serves(&self, call: &Call) -> bool
         ensures { IsTrue result → (rows : TheRows) → seen self.now.has_events rows ≡ self.now.rows
             → part_of call.now self.now.rows ≡ part_of call.now rows }
     {
+        if looks_at_reviews(&call.request) {
+            return false;
+        }
         if self.has_events {
             return true;
         }
@@ -69,7 +84,10 @@ impl AtHand {
         }
         let AtHand { rows, has_events } = self;
         match after_changes(alloc, rows, changes) {
-            Ok(rows) => Some(AtHand { rows, has_events }),
+            Ok(rows) => Some(AtHand {
+                rows: without_reviews(alloc, rows),
+                has_events,
+            }),
             Err(_) => None,
         }
     }

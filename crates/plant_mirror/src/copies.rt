@@ -1,13 +1,14 @@
-ghost use Rattle.std.specs.{Map.{lookup, lookup_entry}, Prelude.{◌≡◌, ◌≤◌, ◌+◌, [], flat_map, IfOk, IfSome, Some, option_copied}};
+ghost use Rattle.std.specs.{Map.{lookup, lookup_entry}, Prelude.{◌≡◌, ◌≤◌, ◌+◌, [], flat_map, IfOk, IfSome, option_copied, unwrap_or}};
 ghost use Rattle.plant_books.specs.Contents.{shelves_there};
 ghost use Rattle.plant_mirror.specs.Copies.{AreCopies, There, DiffersAt, StayCopies, StayCopiesWith};
+ghost use Rattle.plant_model.specs.RowChanges.{no_rows};
 ghost use Rattle.plant_types.specs.{Limits.{max_rows_at_hand}, Names.{same_name}, Results.{OnlyMemory}};
 ghost use Rattle.plant_mirror.specs.Copies as copies;
 
 use crate::at_hand::AtHand;
 use lru::LruCache;
+use plant_alarm::Event;
 use plant_books::{MineRow, push_shelves};
-use plant_model::UnitRows;
 use plant_types::limits::MAX_ROWS_AT_HAND;
 use plant_types::{Fault, List, UnitCode};
 use std::alloc::Global;
@@ -74,13 +75,13 @@ impl Copies {
         self.units.peek(unit)
     }
 
-    /// All rows of the unit, where they are at hand with its events.
-    pub fn all_rows_of(&self, unit: &UnitCode) -> Option<&UnitRows>
+    /// The unit's events, where they are at hand.
+    pub fn events_of(&self, unit: &UnitCode) -> Option<&List<Event>>
         ensures { (there : There) → AreCopies there self.now.units.entries
-            → IfSome result (λ rows. there unit.now ≡ Some rows.now) }
+            → IfSome result (λ events. events.now ≡ (unwrap_or (there unit.now) no_rows).events) }
     {
         match self.copy_of(unit) {
-            Some(copy) if copy.has_events => Some(&copy.rows),
+            Some(copy) if copy.has_events => Some(&copy.rows.events),
             _ => None,
         }
     }

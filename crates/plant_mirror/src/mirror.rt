@@ -9,14 +9,17 @@ ghost use Rattle.std.specs.FinMap as fin;
 use crate::at_hand::AtHand;
 use crate::copies::Copies;
 use plant_alarm::Event;
-use plant_books::{Books, MineRow, MineUnit, are_in_order, part_of, rows_but_events};
-use plant_model::{Call, Changes, UnitPart, UnitRows, holds_some_by, looks_at_events};
+use plant_books::{Books, MineRow, MineUnit, are_in_order, part_of, rows_but_history};
+use plant_model::{
+    Call, Changes, UnitPart, UnitRows, holds_some_by, looks_at_events, looks_at_reviews,
+};
 use plant_types::limits::MAX_ROWS_AT_HAND;
 use plant_types::{Fault, List, Moment, Person, TryCopy, UnitCode};
 use std::alloc::Global;
 
 /// A keeper over another, with the rows of the units that were last used at hand. The events of a unit are brought to
-/// hand at the first call that looks at them.
+/// hand at the first call that looks at them. Its matrices and changes never are: a call that looks at them asks the
+/// books below, which read what it looks at by its key.
 #[derive(Drop)]
 pub struct Mirror<B: Books> {
     books: B,
@@ -106,25 +109,18 @@ impl<B: Books> Mirror<B> {
         }
     }
 
-    /// The unit's rows below, with the events or without.
-    fn rows_below(&mut self, unit: &UnitCode, has_events: bool) -> Result<Option<UnitRows>, Fault>
-        ensures found { AnswersOf B.Books self.old self.new result (λ m rows. rows
-            ≡ option_map (seen has_events) (fin.get m.units unit.now)) }
+    /// Reads the unit's rows but its history, and keeps them at hand if memory suffices.
+    fn bring(&mut self, unit: &UnitCode) -> Result<(), Fault>
         ensures leaves { Leaves B.Books result self.old self.new }
     {
-        if has_events {
-            self.books.rows(unit)
-        } else {
-            self.books.rows_but_events(unit)
-        }
-    }
-
-    /// Reads the unit's rows, with the events or without, and keeps them at hand if memory suffices.
-    fn bring(&mut self, unit: &UnitCode, has_events: bool) -> Result<(), Fault>
-        ensures leaves { Leaves B.Books result self.old self.new }
-    {
-        if let Some(rows) = self.rows_below(unit, has_events)? {
-            self.keep(unit, AtHand { rows, has_events });
+        if let Some(rows) = self.books.rows_but_history(unit)? {
+            self.keep(
+                unit,
+                AtHand {
+                    rows,
+                    has_events: false,
+                },
+            );
         }
         Ok(())
     }
@@ -165,8 +161,12 @@ impl<B: Books> Mirror<B> {
     fn bring_for(&mut self, unit: &UnitCode, call: &Call) -> Result<(), Fault>
         ensures leaves { Leaves B.Books result self.old self.new }
     {
-        if self.is_held(unit, call)? {
-            self.bring(unit, looks_at_events(&call.request))?;
+        if !self.is_held(unit, call)? {
+            return Ok(());
+        }
+        self.bring(unit)?;
+        if looks_at_events(&call.request) {
+            self.bring_events(unit)?;
         }
         Ok(())
     }
@@ -175,6 +175,9 @@ impl<B: Books> Mirror<B> {
     fn prepare(&mut self, unit: &UnitCode, call: &Call) -> Result<(), Fault>
         ensures leaves { Leaves B.Books result self.old self.new }
     {
+        if looks_at_reviews(&call.request) {
+            return Ok(());
+        }
         match self.copies.copy_of(unit) {
             None => self.bring_for(unit, call),
             Some(copy) if copy.serves(call) => Ok(()),
@@ -293,22 +296,19 @@ impl<B: Books> Books for Mirror<B> {
     }
 
     fn rows(&mut self, unit: &UnitCode) -> Result<Option<UnitRows>, Fault> {
-        match self.copies.all_rows_of(unit) {
-            Some(rows) => Ok(Some(rows.copy(self.alloc)?)),
-            None => self.books.rows(unit),
-        }
+        self.books.rows(unit)
     }
 
-    fn rows_but_events(&mut self, unit: &UnitCode) -> Result<Option<UnitRows>, Fault> {
+    fn rows_but_history(&mut self, unit: &UnitCode) -> Result<Option<UnitRows>, Fault> {
         match self.copies.copy_of(unit) {
-            Some(copy) => Ok(Some(rows_but_events(self.alloc, &copy.rows)?)),
-            None => self.books.rows_but_events(unit),
+            Some(copy) => Ok(Some(rows_but_history(self.alloc, &copy.rows)?)),
+            None => self.books.rows_but_history(unit),
         }
     }
 
     fn events(&mut self, unit: &UnitCode) -> Result<List<Event>, Fault> {
-        match self.copies.all_rows_of(unit) {
-            Some(rows) => rows.events.copy(self.alloc),
+        match self.copies.events_of(unit) {
+            Some(events) => events.copy(self.alloc),
             None => self.books.events(unit),
         }
     }

@@ -76,3 +76,22 @@ has_events looked.AllEvents = true
 -- a request that looks at events
 abbrev pub looks_at_events : Request → Bool
 looks_at_events q = has_events (scope_of q)
+
+abbrev pub has_reviews : Looked → Bool
+has_reviews looked.NothingElse = false
+has_reviews looked.AllGrants = false
+has_reviews (looked.OneAlarm a) = false
+has_reviews (looked.Shelving a) = false
+has_reviews (looked.OneRecord a) = true
+has_reviews (looked.OneChange n) = true
+has_reviews (looked.Approval n) = true
+has_reviews (looked.Content a) = true
+has_reviews looked.AllRecords = true
+has_reviews (looked.File es) = false
+has_reviews looked.AllShelves = false
+has_reviews looked.AllAlarms = false
+has_reviews looked.AllEvents = false
+
+-- a request that looks at matrices or changes
+abbrev pub looks_at_reviews : Request → Bool
+looks_at_reviews q = has_reviews (scope_of q)

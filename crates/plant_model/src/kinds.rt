@@ -222,6 +222,21 @@ pub fn looks_at_events(request: &Request) -> bool
     matches!(request.kind(), CallKind::Import | CallKind::Floods)
 }
 
+/// Whether the request looks at the unit's matrices or changes.
+pub fn looks_at_reviews(request: &Request) -> bool
+    ensures { result ≡ scopes.looks_at_reviews request.now }
+{
+    matches!(
+        request.kind(),
+        CallKind::Propose
+            | CallKind::WithdrawChange
+            | CallKind::Approve
+            | CallKind::Reject
+            | CallKind::RecordOf
+            | CallKind::ChangeOf
+    )
+}
+
 /// The number of the change that the request approves, if it approves one.
 pub fn number_approved(request: &Request) -> Option<u32>
     ensures { result ≡ scopes.number_approved request.now }

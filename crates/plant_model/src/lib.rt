@@ -16,7 +16,8 @@ pub use call::{Call, Request};
 pub use found::{Tagged, alarm_of, change_at, last_return, place_of, row_near, row_of};
 pub use held::{holds_some_by, is_before, is_held_by, is_pair, stands};
 pub use kinds::{
-    CallKind, Counted, Effect, Scope, is_shelving, looks_at_events, number_approved, scope_of,
+    CallKind, Counted, Effect, Scope, is_shelving, looks_at_events, looks_at_reviews,
+    number_approved, scope_of,
 };
 pub use reply::{
     AlarmLine, Answer, ChangeRow, FloodLine, Full, MineLine, RecordRow, Refused, Reply, ShelfLine,

@@ -11,15 +11,10 @@ use plant_types::limits::MAX_ROWS_AT_HAND;
 use plant_types::{Fault, List, Moment, Person, UnitCode};
 use std::process::Abort;
 
-/// A viewer's requests of each kind that reads of a unit, but for its shelves and its floods, and two of a stranger.
+/// A viewer's requests of each kind that reads of a unit, but for its shelves, its floods and what was reviewed, and two
+/// of a stranger.
 const READ: &str = r#"vic 10:30:00 GET /units/U1/alarms/PT-101
 200 {"limit":3600,"limit_revision":0,"out_of_service":false,"shelf":"TimedShelved","shelf_left":1800,"state":"Normal","suppressed":false,"suppressed_or_shelved":true,"tag":"PT-101"}
-
-vic 10:30:00 GET /units/U1/alarms/PT-101/record
-409 {"name":"RecordUnknown","refused":24}
-
-vic 10:30:00 GET /units/U1/changes/1
-409 {"name":"ChangeUnknown","refused":17}
 
 vic 10:30:00 GET /units/U1/alarms
 200 ALARMS U1 AT 2026-03-01T10:30:00Z COUNT 2
@@ -38,6 +33,13 @@ bob 10:30:00 GET /units/U1/alarms/PT-101
 
 bob 10:30:00 GET /units/U1/floods/2026-03-01T10:00:00Z/2026-03-01T10:10:00Z
 403 {"name":"NotGranted","refused":3}"#;
+
+/// A viewer asks for a record and for a change.
+const REVIEWED: &str = r#"vic 10:30:00 GET /units/U1/alarms/PT-101/record
+409 {"name":"RecordUnknown","refused":24}
+
+vic 10:30:00 GET /units/U1/changes/1
+409 {"name":"ChangeUnknown","refused":17}"#;
 
 /// A stranger asks for an alarm, and then a viewer for the alarms that are active, twice.
 const FIRST_ASKED: &str = r#"bob 10:30:00 GET /units/U1/alarms/PT-101
@@ -83,8 +85,8 @@ root 08:00:00 POST /units/U2 {"steward":"ste","bands":[300],"cells":[["P3","P4"]
 root 08:00:00 POST /units/U3 {"steward":"ste","bands":[300],"cells":[["P3","P4"],["P1","P2"]]}
 200 {"done":true}"#;
 
-/// How many rows two such units have: each a row of its own, a grant, a band and four cells.
-const TWO_UNITS: u128 = 14;
+/// How many rows of two such units are at hand: of each a row of its own and a grant.
+const TWO_UNITS: u128 = 4;
 
 /// The steward asks for two units, a stranger for the first, and the steward for the third and for the second again.
 const LAST_USED: &str = r#"ste 09:00:00 GET /units/U1/standing
@@ -194,12 +196,12 @@ impl<B: Books> Books for Counting<B> {
         self.books.rows(unit)
     }
 
-    fn rows_but_events(&mut self, unit: &UnitCode) -> Result<Option<UnitRows>, Fault> {
+    fn rows_but_history(&mut self, unit: &UnitCode) -> Result<Option<UnitRows>, Fault> {
         self.count_asked();
         if self.is_lacking(unit) {
             return Err(Fault::Memory);
         }
-        self.books.rows_but_events(unit)
+        self.books.rows_but_history(unit)
     }
 
     fn events(&mut self, unit: &UnitCode) -> Result<List<Event>, Fault> {
@@ -277,6 +279,15 @@ fn reads_of_rows_at_hand_ask_nothing(rt: HostRuntime) {
     assert_eq!(rt; count_of(&rt, &[BASE, SHELVED, READ, LOOKED_AT]), once);
 }
 
+/// Records and changes are read by their keys, call by call: of each the part of its call.
+#[test]
+fn what_was_reviewed_is_asked_for_each_time(rt: HostRuntime) {
+    let before = count_of(&rt, &[BASE, SHELVED]);
+    let after = count_of(&rt, &[BASE, SHELVED, REVIEWED]);
+    assert_eq!(rt; after.asked, before.asked.saturating_add(2));
+    assert_eq!(rt; after.events, before.events);
+}
+
 #[test]
 fn a_change_of_rows_at_hand_asks_once(rt: HostRuntime) {
     let before = count_of(&rt, &[BASE, SHELVED]);
@@ -299,7 +310,7 @@ fn a_unit_is_read_once_and_for_no_stranger(rt: HostRuntime) {
     let before = asked(&rt, unasked(&rt), MAX_ROWS_AT_HAND, &[BASE, SHELVED]);
     let count = before.count;
     let after = asked(&rt, before, MAX_ROWS_AT_HAND, &[FIRST_ASKED]);
-    // The part of the stranger's call, and then all rows but the events.
+    // The part of the stranger's call, and then all rows but the history.
     assert_eq!(rt; after.count.asked, count.asked.saturating_add(2));
     assert_eq!(rt; after.count.events, count.events);
 }

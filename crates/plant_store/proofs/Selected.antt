@@ -5,7 +5,7 @@ use Rattle.sqlite.specs.State.{State}
 use Rattle.sqlite_keyed.proofs.ListLemmas.{filter_same, slice_get-filter}
 use Rattle.plant_books.specs.{Asking.{HasTheirShelves, is_alarm_wanted, is_wanted}, Contents.{Content, part_in, rows_in}, Found.{shelved}}
 use Rattle.plant_books.specs.declared.asking.{Wanted.{Wanted, TheVariants.{Every, Nothing, One}}, WantedAlarms.{WantedAlarms}}
-use Rattle.plant_books.{specs.declared.asking.WantedAlarms.TheVariants.{Shelved, Those}, proofs.public.EventLaws.{none_asked}}
+use Rattle.plant_books.{specs.declared.asking.WantedAlarms.TheVariants.{Shelved, Those}, proofs.public.HistoryLaws.{none_asked}}
 use Rattle.plant_alarm.specs.declared.event.{Event.{Event}, EventKind.TheVariants.{Act}}
 use Rattle.plant_model.specs.{Histories.{same_number}, Order.{TagsRise}}
 use Rattle.plant_model.specs.Parts.{Selection, counted_for, has_shelf, part_of, part_of_holder, part_of_stranger, rows_selected, selected}

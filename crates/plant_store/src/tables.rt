@@ -278,8 +278,8 @@ impl<S: Alter> Books for Tables<S> {
         heard(&mut self.conn, &mut self.stores, &mut self.shut, said)
     }
 
-    fn rows_but_events(&mut self, unit: &UnitCode) -> Result<Option<UnitRows>, Fault> {
-        let said = unit::rows_but_events(self.alloc, &mut self.conn, unit);
+    fn rows_but_history(&mut self, unit: &UnitCode) -> Result<Option<UnitRows>, Fault> {
+        let said = unit::rows_but_history(self.alloc, &mut self.conn, unit);
         heard(&mut self.conn, &mut self.stores, &mut self.shut, said)
     }
 

@@ -1,7 +1,7 @@
-//! The rows of one unit: all of them, or all but its events, or its events alone.
+//! The rows of one unit: all of them, or all but its history, or its events alone.
 
 ghost use Rattle.std.specs.{FinMap.{contains_key, get}, Prelude.{◌≡◌}};
-ghost use Rattle.plant_books.specs.Contents.{events_in, rows_but_events as all_but_events};
+ghost use Rattle.plant_books.specs.Contents.{events_in, rows_but_history as all_but_history, rows_in, with_history_of};
 ghost use Rattle.plant_store.specs.{Keeping.{has_any}, Reading.{HasNoTransaction, IsOnlyRead, ReadsContent}};
 
 use crate::read::all_rows;
@@ -35,15 +35,16 @@ pub fn taken<S: Alter>(
     Ok(has_row(&units))
 }
 
-/// All rows of the unit but its events, where it was opened.
-pub fn rows_but_events<S: Alter>(
+/// All rows of the unit but its history, where it was opened.
+pub fn rows_but_history<S: Alter>(
     alloc: Global,
     conn: &mut Connection<S>,
     unit: &UnitCode,
 ) -> Result<Option<UnitRows>, Error>
     requires { HasNoTransaction conn.old }
     ensures mode { HasNoTransaction conn.new }
-    ensures found { ReadsContent S.Store conn.old conn.new result (λ m. all_but_events m unit.now) }
+    ensures found { ReadsContent S.Store conn.old conn.new result
+        (λ m. all_but_history m unit.now) }
     ensures reads { IsOnlyRead S.Store conn.old conn.new }
 {
     let units = all_rows(alloc, conn, unit)?;
@@ -53,20 +54,17 @@ pub fn rows_but_events<S: Alter>(
     let grants = all_rows(alloc, conn, unit)?;
     let alarms = all_rows(alloc, conn, unit)?;
     let shelves = all_rows(alloc, conn, unit)?;
-    let bands = all_rows(alloc, conn, unit)?;
-    let cells = all_rows(alloc, conn, unit)?;
     let records = all_rows(alloc, conn, unit)?;
-    let changes = all_rows(alloc, conn, unit)?;
     Ok(Some(UnitRows {
         units,
         grants,
         alarms,
         shelves,
         events: List::new(alloc),
-        bands,
-        cells,
+        bands: List::new(alloc),
+        cells: List::new(alloc),
         records,
-        changes,
+        changes: List::new(alloc),
     }))
 }
 
@@ -84,7 +82,34 @@ pub fn events<S: Alter>(
     all_rows(alloc, conn, unit)
 }
 
+/// The rows with the unit's history.
+fn with_history<S: Alter>(
+    alloc: Global,
+    conn: &mut Connection<S>,
+    unit: &UnitCode,
+    rows: UnitRows,
+) -> Result<UnitRows, Error>
+    requires { HasNoTransaction conn.old }
+    ensures mode { HasNoTransaction conn.new }
+    ensures found { ReadsContent S.Store conn.old conn.new result
+        (λ m. with_history_of (rows_in m unit.now) rows) }
+    ensures reads { IsOnlyRead S.Store conn.old conn.new }
+{
+    let bands = all_rows(alloc, conn, unit)?;
+    let cells = all_rows(alloc, conn, unit)?;
+    let changes = all_rows(alloc, conn, unit)?;
+    let events = all_rows(alloc, conn, unit)?;
+    Ok(UnitRows {
+        bands,
+        cells,
+        changes,
+        events,
+        ..rows
+    })
+}
+
 /// All rows of the unit, where it was opened.
+#[tactic(auto, using(crate::proofs::public::Contents::whole_again))]
 pub fn rows_of<S: Alter>(
     alloc: Global,
     conn: &mut Connection<S>,
@@ -95,11 +120,8 @@ pub fn rows_of<S: Alter>(
     ensures found { ReadsContent S.Store conn.old conn.new result (λ m. get m.units unit.now) }
     ensures reads { IsOnlyRead S.Store conn.old conn.new }
 {
-    match rows_but_events(alloc, conn, unit)? {
+    match rows_but_history(alloc, conn, unit)? {
         None => Ok(None),
-        Some(rows) => {
-            let events = events(alloc, conn, unit)?;
-            Ok(Some(UnitRows { events, ..rows }))
-        }
+        Some(rows) => Ok(Some(with_history(alloc, conn, unit, rows)?)),
     }
 }

@@ -190,14 +190,14 @@ fn are_same_rows(ours: &Option<UnitRows>, theirs: &Option<UnitRows>) -> bool {
         && are_same(changes, &theirs.changes)
 }
 
-/// Whether both keepers hold the same rows of this unit but its events.
-fn hold_all_but_events_alike(
+/// Whether both keepers hold the same rows of this unit but its history.
+fn hold_all_but_history_alike(
     ours: &mut impl Books,
     theirs: &mut impl Books,
     unit: &UnitCode,
 ) -> Result<bool, Fault> {
-    let ours = ours.rows_but_events(unit)?;
-    let theirs = theirs.rows_but_events(unit)?;
+    let ours = ours.rows_but_history(unit)?;
+    let theirs = theirs.rows_but_history(unit)?;
     Ok(are_same_rows(&ours, &theirs))
 }
 
@@ -218,7 +218,7 @@ fn hold_unit_alike(
     theirs: &mut impl Books,
     unit: &UnitCode,
 ) -> Result<bool, Fault> {
-    if !hold_all_but_events_alike(ours, theirs, unit)? || !hold_events_alike(ours, theirs, unit)? {
+    if !hold_all_but_history_alike(ours, theirs, unit)? || !hold_events_alike(ours, theirs, unit)? {
         return Ok(false);
     }
     let ours = ours.rows(unit)?;

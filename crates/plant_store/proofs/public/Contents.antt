@@ -1,9 +1,9 @@
 -- What the tables have of units, and the content of the books.
 use Rattle.std.specs.{Cmp.Lexicographic.{nat_list_cmp_total}, FinMap.{get, contains_key, get-empty, get-insert}}
-use Rattle.std.proofs.Common.{◌≡◌, ◌≢◌, ◌⊎◌, inl, inr, Bool, true, false, cond, List, [], ◌∷◌, Option, None, Some, refl, sym, ap, ◌∙◌, subst, true≢false, unwrap_or, is_eq, is_some}
+use Rattle.std.proofs.Common.{◌≡◌, ◌≢◌, ◌⊎◌, inl, inr, Bool, true, false, cond, List, [], ◌∷◌, Option, None, Some, refl, sym, ap, ◌∙◌, option_map, subst, true≢false, unwrap_or, is_eq, is_some}
 use Rattle.std.proofs.lemmas.Cmp.{tied_itself}
 use Rattle.sqlite.specs.State.{State}
-use Rattle.plant_books.specs.Contents.{Content, IsKnownTo, after_changes, no_units, rows_in}
+use Rattle.plant_books.specs.Contents.{Content, IsKnownTo, after_changes, no_units, rows_in, with_history_of, without_history}
 use Rattle.plant_model.specs.RowChanges.{changed, changed_by, no_rows, puts_unit}
 use Rattle.plant_model.specs.declared.rows.{Key.TheVariants.{Grant as GrantKey}, Row.TheVariants.{Unit as UnitPut}}
 use Rattle.plant_model.specs.declared.rows.{RowEdit.{RowEdit, TheVariants.{Put, Remove}}, UnitRows.{UnitRows}}
@@ -99,6 +99,14 @@ any_is (x ∷ xs) = ap Rattle.std.proofs.Common.not (Rattle.std.proofs.Math.Dec.
 pub none_found : (s : State) (m : Content) (u : Name) → HasContent s m → (units : List Rattle.plant_model.specs.declared.rows.UnitRow.UnitRow)
     → units ≡ rows_seen u s.now.trees Units → has_any units ≡ false → ◌≡◌ {A = Option UnitRows} None (get m.units u)
 none_found s m u k units is any = sym (never_opened s m u k (ap has_any (sym is) ∙ any))
+
+-- rows but their history, with that history again
+pub whole_again : (o : Option UnitRows) (rows : UnitRows) → Some rows ≡ option_map without_history o
+    → Some (with_history_of (unwrap_or o no_rows) rows) ≡ o
+whole_again None rows e = absurd (cc e)
+whole_again (Some r) rows e =
+    let same : rows ≡ without_history r = cc e in
+    ap (λ (x : UnitRows). Some (with_history_of r x)) same
 
 -- ---- new books
 

@@ -1,4 +1,5 @@
-use Rattle.std.proofs.Common.{false, refl, rules, sym, ◌∙◌, ◌≡◌}
+use Rattle.std.proofs.Common.{ap, false, refl, rules, sym, ◌∙◌, ◌≡◌}
+use Rattle.plant_books.specs.Contents.{without_reviews}
 use Rattle.plant_mirror.proofs.CopyLaws.{changed_there}
 use Rattle.plant_mirror.proofs.at_hand.AtHand.after.Goals as goal
 
@@ -6,6 +7,6 @@ pub returns-in-Ok : goal.returns-in-Ok
 returns-in-Ok c = λ m u h.
     let none : c.misses.result ≡ false = search rules in
     changed_there m u c.args.changes.now c.args.self (record {
-      rows = c.in-Ok.rows;
+      rows = c.without_reviews.result;
       has_events = c.args.self.has_events;
-    }) h refl (c.in-Ok.ensures.value h.ordered) (sym c.misses.ensures ∙ none)
+    }) h refl (c.without_reviews.ensures ∙ ap without_reviews (c.in-Ok.ensures.value h.ordered)) (sym c.misses.ensures ∙ none)

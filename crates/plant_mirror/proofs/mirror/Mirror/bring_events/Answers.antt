@@ -1,5 +1,5 @@
-use Rattle.std.{specs.FinMap.{get}, proofs.Common.{Some, ap, refl, rules, sym, true, ◌∙◌, option_map}}
-use Rattle.plant_mirror.{specs.Copies.{seen}, proofs.CopyLaws.{taken_there, seen_with_events}}
+use Rattle.std.{specs.FinMap.{get}, proofs.Common.{Some, ap, refl, rules, sym, ◌∙◌}}
+use Rattle.plant_mirror.proofs.CopyLaws.{taken_there, seen_with_events}
 use Rattle.plant_mirror.proofs.mirror.Mirror.bring_events.Goals as goal
 
 pub returns-in-Some : goal.returns-in-Some
@@ -17,7 +17,7 @@ returns-in-Some g c = record {
         let copy =
         taken_there u (get m.units) c.args.self.now.copies.units.entries (c.in-Some.field-0-0, c.in-Some.copy)
         (h.copied (c.events.ensures.honest honest)) c.in-Some.ensures.taken in
-        ap (option_map (seen true)) (seen_with_events c.in-Some.copy.has_events (get m.units u) rows copy.1.same)
+        seen_with_events c.in-Some.copy.has_events (get m.units u) rows copy.1.same
         ∙ ap (λ es. Some (record rows { events = es })) (sym (c.in_ok-events.ensures.found m h.held honest)));
     honest = search rules;
     count = search rules;
