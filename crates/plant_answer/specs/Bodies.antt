@@ -31,7 +31,7 @@ status_body s =
     ++ codes ",\"limit_revision\":" ++ decimal s.limit_revision
     ++ codes ",\"out_of_service\":" ++ truth s.out_of_service
     ++ codes ",\"shelf\":" ++ quoted (shelf_name s.shelf)
-    ++ codes ",\"seconds_left\":" ++ decimal (seconds_left s.shelf)
+    ++ codes ",\"shelf_left\":" ++ decimal (seconds_left s.shelf)
     ++ codes ",\"state\":" ++ quoted (state_name s.state)
     ++ codes ",\"suppressed\":" ++ truth s.suppressed
     ++ codes ",\"suppressed_or_shelved\":" ++ truth s.suppressed_or_shelved
