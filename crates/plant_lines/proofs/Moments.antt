@@ -5,7 +5,7 @@ use Rattle.std.proofs.Common.{length-append, arith}
 use Rattle.std.specs.List.{flat_map}
 use Rattle.std.proofs.lemmas.{Bool.{eqb-false}, Grind.{flat_map-append}, List.{map-append, Elements.{filter_map-append}}}
 use Rattle.plant_model.specs.declared.{call.Call.{Call}, reply.Answer.{Answer}}
-use Rattle.plant_call.{specs.Front.{Item, Parsed, StandsAtFront, body_length, broken, marked_item as item_from_head}, specs.declared.causes.Cause.{Cause}}
+use Rattle.plant_call.{specs.Front.{Item, Parsed, StandsAtFront, body_length, broken, item_of}, specs.declared.causes.Cause.{Cause}}
 use Rattle.plant_call.proofs.public.Cuts.{Parses-append}
 use Rattle.plant_wire.specs.Causes.{cause_text}
 use Rattle.plant_wire.specs.Marks.{Mark, Last, marked_answer, answers_of, call_in, calls_of, marked_item, last_marks, last_text, mark_text, out_of}
@@ -258,7 +258,7 @@ moves fresh s' (opened k) c h m x d b t (rc, rm, rx, rd, rb, rt) is =
     rw (is, rc, rm, rx, rd, rb, rt) record { parses = refl; uncut = refl; calls = refl; answers = refl; waiting = inl (refl, refl) }
 moves (served u p) s' (came k bytes) c h m x d b t g (open_now, is) =
     rw (is, append-nil m, append-nil x, append-nil d, append-nil b, append-nil t) record {
-      parses = Parses-append body_length item_from_head c bytes (map marked_item m) u g.parses;
+      parses = Parses-append body_length item_of c bytes (map marked_item m) u g.parses;
       uncut = g.uncut;
       calls = g.calls;
       answers = g.answers;

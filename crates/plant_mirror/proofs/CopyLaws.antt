@@ -246,7 +246,8 @@ seen_rows : (b : Bool) (o : Option UnitRows) (rows : UnitRows) → option_map (s
 seen_rows b o rows e = grind arith
 
 in_order_unreviewed : (rows : UnitRows) → AreInOrder rows → AreInOrder (without_reviews rows)
-in_order_unreviewed rows h = record h { bands = tt; cells = tt; changes = tt }
+in_order_unreviewed rows h =
+    record { alarms = h.alarms; shelves = h.shelves; events = h.events; bands = tt; cells = tt; records = h.records; changes = tt }
 
 -- a copy after changes is one of the unit after them
 pub changed_there : (m : Content) (u : Name) (cs : List RowEdit) (copy after : AtHand) → IsCopy (get m.units) (u, copy)

@@ -2,7 +2,7 @@
 use Rattle.std.{specs.Io.KnownBytes.{Consumes, IsAtEnd}, proofs.KnownBytes.{Consumes-nil, Consumes-trans}}
 use Rattle.std.proofs.Common.{◌≡◌, ◌⊎◌, ◌<◌, ℕ, List, [], ◌∷◌, ◌++◌, length, drop, map, Bool, false, ◌==◌, Option, refl, sym, ap, subst, inl, inr, append-nil, arith, IsTrue}
 use Rattle.plant_model.specs.declared.{call.Call.{Call}, reply.Answer.{Answer}}
-use Rattle.plant_call.{specs.Front.{waits, body_length, marked_item as item_from_head, StandsAtFront}, proofs.public.Cuts.{Parses-append}}
+use Rattle.plant_call.{specs.Front.{waits, body_length, item_of, StandsAtFront}, proofs.public.Cuts.{Parses-append}}
 use Rattle.plant_wire.specs.{Marks.{marked_item}, Session.{IsIdle, IsCutShort}, Step.{IsStopped, AnswersFront, ServesBroken}, declared.step.Stop.{Stop}}
 use Rattle.plant_wire.specs.declared.step.Stop.TheVariants.{Fault}
 use Rattle.plant_wire.proofs.Serving.{serves_none, serves_more, serves_then_broken, serves_then_part, serves_part}
@@ -27,7 +27,7 @@ serves_extend : (bytes more rest : List ℕ) (o o' : Option (List ℕ)) (ran : L
     → AnswersFront (bytes ++ more) o o' ran (rest ++ more)
 serves_extend bytes more rest o o' ran a = record {
   marks = a.marks;
-  parses = Parses-append body_length item_from_head bytes more (map marked_item a.marks) rest a.parses;
+  parses = Parses-append body_length item_of bytes more (map marked_item a.marks) rest a.parses;
   writes = a.writes;
   served = a.served;
 }
