@@ -41,44 +41,87 @@ abbrev pub of_all : {A : Type 0} → (Event → List A) → ℕ → List Event �
 of_all f k es = flat_map (λ e. of k e (f e)) es
 
 abbrev pub bytes_in : Event → List ℕ
+bytes_in (opened k) = []
 bytes_in (came k bytes) = bytes
-bytes_in _ = []
+bytes_in (ended k) = []
+bytes_in (answered k mark) = []
+bytes_in (broke k cause) = []
+bytes_in (stopped k last part stop) = []
+bytes_in (left k bytes) = []
+bytes_in (closed k end) = []
 
 abbrev pub ends_in : Event → List ℕ
+ends_in (opened k) = []
+ends_in (came k bytes) = []
 ends_in (ended k) = k ∷ []
-ends_in _ = []
+ends_in (answered k mark) = []
+ends_in (broke k cause) = []
+ends_in (stopped k last part stop) = []
+ends_in (left k bytes) = []
+ends_in (closed k end) = []
 
 abbrev pub marks_in : Event → List Mark
+marks_in (opened k) = []
+marks_in (came k bytes) = []
+marks_in (ended k) = []
 marks_in (answered k mark) = mark ∷ []
-marks_in _ = []
+marks_in (broke k cause) = []
+marks_in (stopped k last part stop) = []
+marks_in (left k bytes) = []
+marks_in (closed k end) = []
 
 -- the text, or the part of one, behind which nothing more is answered
 abbrev pub cut_in : Event → List ℕ
+cut_in (opened k) = []
+cut_in (came k bytes) = []
+cut_in (ended k) = []
+cut_in (answered k mark) = []
 cut_in (broke k cause) = cause_text cause
 cut_in (stopped k last part stop) = take part (last_text last)
-cut_in _ = []
+cut_in (left k bytes) = []
+cut_in (closed k end) = []
 
 abbrev pub sent_in : Event → List ℕ
+sent_in (opened k) = []
+sent_in (came k bytes) = []
+sent_in (ended k) = []
+sent_in (answered k mark) = []
+sent_in (broke k cause) = []
+sent_in (stopped k last part stop) = []
 sent_in (left k bytes) = bytes
-sent_in _ = []
+sent_in (closed k end) = []
 
 -- the calls that an event makes, and their answers
 abbrev pub calls_in : Event → List Call
+calls_in (opened k) = []
+calls_in (came k bytes) = []
+calls_in (ended k) = []
 calls_in (answered k mark) = calls_of (mark ∷ [])
+calls_in (broke k cause) = []
 calls_in (stopped k last part stop) = calls_of (last_marks last)
-calls_in _ = []
+calls_in (left k bytes) = []
+calls_in (closed k end) = []
 
 abbrev pub answers_in : Event → List Answer
+answers_in (opened k) = []
+answers_in (came k bytes) = []
+answers_in (ended k) = []
 answers_in (answered k mark) = answers_of (mark ∷ [])
+answers_in (broke k cause) = []
 answers_in (stopped k last part stop) = answers_of (last_marks last)
-answers_in _ = []
+answers_in (left k bytes) = []
+answers_in (closed k end) = []
 
 -- what the ports see of an event
 abbrev pub port_in : Event → List Event
+port_in (opened k) = opened k ∷ []
+port_in (came k bytes) = came k bytes ∷ []
+port_in (ended k) = ended k ∷ []
 port_in (answered k mark) = []
 port_in (broke k cause) = []
 port_in (stopped k last part stop) = []
-port_in e = e ∷ []
+port_in (left k bytes) = left k bytes ∷ []
+port_in (closed k end) = closed k end ∷ []
 
 -- Of the connection k: the bytes that came; whether their end did; the requests that were answered; the text that was
 -- cut; the bytes that left; and the calls that were made for it, with their answers.
@@ -126,8 +169,14 @@ Logs (Some xs) (Some ys) es = ys ≡ xs ++ es
 -- What the log of lines says of an event: of a close a line, by the connection's place among all that came and by its
 -- end, whole or, where it can't be written, a part from the front; of anything else nothing.
 abbrev pub IsToldBy : Event → List ℕ → Type 0
+IsToldBy (opened k) text = text ≡ []
+IsToldBy (came k bytes) text = text ≡ []
+IsToldBy (ended k) text = text ≡ []
+IsToldBy (answered k mark) text = text ≡ []
+IsToldBy (broke k cause) text = text ≡ []
+IsToldBy (stopped k last part stop) text = text ≡ []
+IsToldBy (left k bytes) text = text ≡ []
 IsToldBy (closed k end) text = (part : ℕ) × (text ≡ take part (line_of (k + 1) end))
-IsToldBy _ text = text ≡ []
 
 -- of events, in their order
 abbrev pub AreTold : List Event → List ℕ → Type 0

@@ -38,7 +38,8 @@ abbrev pub IsGivenUp : List ℕ → List ℕ → End → Type 0
 IsGivenUp unread pending ReadFailed = IsOpen unread pending
 IsGivenUp unread pending WriteFailed = pending ≢ []
 IsGivenUp unread pending Fault = (unread ≡ []) × (pending ≡ [])
-IsGivenUp unread pending _ = ⊥
+IsGivenUp unread pending Closed = ⊥
+IsGivenUp unread pending BrokenInput = ⊥
 
 -- it ends as it is to, once all has left, or what is left to leave can't
 abbrev pub IsEndOf : End → List ℕ → End → Type 0
@@ -61,7 +62,21 @@ Moves (served unread pending) (left k bytes) s = (rest : List ℕ) × (pending �
 Moves (ending end pending) (left k bytes) s = (rest : List ℕ) × (pending ≡ bytes ++ rest) × (s ≡ ending end rest)
 Moves (served unread pending) (closed k how) s = IsGivenUp unread pending how × (s ≡ gone)
 Moves (ending end pending) (closed k how) s = IsEndOf end pending how × (s ≡ gone)
-Moves _ _ s = ⊥
+Moves fresh (came k bytes) s = ⊥
+Moves fresh (ended k) s = ⊥
+Moves fresh (answered k mark) s = ⊥
+Moves fresh (broke k cause) s = ⊥
+Moves fresh (stopped k last part stop) s = ⊥
+Moves fresh (left k bytes) s = ⊥
+Moves fresh (closed k how) s = ⊥
+Moves (served unread pending) (opened k) s = ⊥
+Moves (ending end pending) (opened k) s = ⊥
+Moves (ending end pending) (came k bytes) s = ⊥
+Moves (ending end pending) (ended k) s = ⊥
+Moves (ending end pending) (answered k mark) s = ⊥
+Moves (ending end pending) (broke k cause) s = ⊥
+Moves (ending end pending) (stopped k last part stop) s = ⊥
+Moves gone e s = ⊥
 
 -- an event: another connection's changes nothing
 pub record Goes (k : ℕ) (s : Stage) (e : Event) (s' : Stage) : Type 0 where

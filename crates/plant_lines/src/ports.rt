@@ -45,7 +45,8 @@ pub trait Ports {
     ghost seen: { Self → Option (List Event) };
 
     /// What can be done next. It waits for that only if it may: then every whole request was answered, unless an
-    /// earlier answer still waits to leave on its line. A connection is accepted only if `accepts` says so.
+    /// earlier answer still waits to leave on its line, and the lines without one are known to hold none. A connection
+    /// is accepted only if `accepts` says so.
     fn next(&mut self, lines: &[Line], accepts: bool, may_wait: bool) -> Ready
         requires prompt { may_wait ≡ true → ArePrompt lines.now }
         ensures { Logs (seen self.old) (seen self.new) [] };

@@ -3,7 +3,7 @@ ghost use Rattle.std.specs.Bool.{OnTrue};
 ghost use Rattle.plant_books.specs.Books.{WasHonest};
 ghost use Rattle.plant_lines.specs.declared.lines.Line.{Line};
 ghost use Rattle.plant_lines.specs.{Accounts.{AreServed}, Events.{seen_by}, Happens.{Happened, Passed}};
-ghost use Rattle.plant_lines.specs.{Held.{IsHeld, IsTurn}, Prompt.{ArePrompt}, Stages.{AreOpenLines, MayClose}};
+ghost use Rattle.plant_lines.specs.{Held.{IsHeld, Turns}, Prompt.{ArePrompt}, Stages.{AreOpenLines, MayClose}};
 
 use crate::desk::Desk;
 use crate::lines::{Asked, Line, turn_and_report};
@@ -95,9 +95,8 @@ fn turn_at<P: Ports, B: Books, W: Write, E: Write>(
 ) -> bool
     requires within { at < length held.old.lines.items }
     requires held { IsHeld held.old }
-    ensures { IsTurn B.Books office.old.books office.new.books
-        (seen_by (P.seen ports.old) (W.contents reports.old.log)) (seen_by (P.seen ports.new) (W.contents reports.new.log))
-        held.old held.new result }
+    ensures { Turns B.Books P.Ports W.Write office.old.books office.new.books ports.old ports.new
+        reports.old reports.new held.old held.new result }
 {
     let asks = held.reports;
     let line = &mut held.lines[at];
@@ -194,9 +193,8 @@ fn turn_of<P: Ports, B: Books, W: Write, E: Write>(
     office: &mut Office<B>,
 ) -> bool
     requires { IsHeld held.old }
-    ensures { IsTurn B.Books office.old.books office.new.books
-        (seen_by (P.seen ports.old) (W.contents reports.old.log)) (seen_by (P.seen ports.new) (W.contents reports.new.log))
-        held.old held.new result }
+    ensures { Turns B.Books P.Ports W.Write office.old.books office.new.books ports.old ports.new
+        reports.old reports.new held.old held.new result }
 {
     match place_of(&held.lines, number) {
         Some(at) => turn_at(desk, ports, reports, held, at, asked, office),
@@ -216,9 +214,8 @@ fn step<P: Ports, B: Books, W: Write, E: Write>(
     office: &mut Office<B>,
 ) -> bool
     requires { IsHeld held.old }
-    ensures { IsTurn B.Books office.old.books office.new.books
-        (seen_by (P.seen ports.old) (W.contents reports.old.log)) (seen_by (P.seen ports.new) (W.contents reports.new.log))
-        held.old held.new result }
+    ensures { Turns B.Books P.Ports W.Write office.old.books office.new.books ports.old ports.new
+        reports.old reports.new held.old held.new result }
 {
     match ready {
         Ready::Came => {

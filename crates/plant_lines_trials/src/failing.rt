@@ -8,8 +8,8 @@ use plant_model::{Call, Changes, UnitPart, UnitRows};
 use plant_types::{Fault, List, Moment, Person, UnitCode};
 use std::alloc::Global;
 
-/// Books of which nothing is promised. A list of units is empty, but after so many of them the store shuts; for a list
-/// of shelves there is no memory; and all else is a fault of the store, as on a full disk.
+/// The first lists of units are empty, then the store shuts. A list of shelves runs out of memory. Everything else fails
+/// as on a full disk.
 #[derive(Drop)]
 pub struct Failing {
     administrator: Person,

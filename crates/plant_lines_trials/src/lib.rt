@@ -1,5 +1,6 @@
-//! Many connections at once over an office in lists, as tests alone: each is sent what a session of its own writes. And
-//! books that fail, for tests of what a service does then.
+//! Many connections at once over an office in lists, as tests alone: each is sent what a session of its own writes, or
+//! its part of what one session over all their requests writes. And books that fail, for tests of what a service does
+//! then.
 #![tactic(auto)]
 
 #[cfg(test)]
@@ -7,6 +8,10 @@ mod clients;
 mod failing;
 #[cfg(test)]
 mod faults;
+#[cfg(test)]
+mod orders;
+#[cfg(test)]
+mod recorded;
 #[cfg(test)]
 mod scripts;
 #[cfg(test)]

@@ -1,4 +1,4 @@
-//! One session over one client, with an office of its own.
+//! One session over one client, with an office of its own or a given one.
 
 ghost use Rattle.std.specs.Prelude.{◌≤◌, None, if◌then◌else◌, length};
 
@@ -100,8 +100,12 @@ pub(crate) fn office_of(rt: &impl Abort, alloc: Global) -> Office<Plain> {
     Office::new(alloc, Plain::new(alloc, root))
 }
 
-/// What a session of its own writes to a client, and how it ends.
-pub(crate) fn alone(rt: &impl Abort, alloc: Global, client: &Client) -> (Vec<u8>, End) {
+/// What a session by this office writes to a client, and how it ends.
+pub(crate) fn session_by(
+    alloc: Global,
+    client: &Client,
+    office: &mut Office<Plain>,
+) -> (Vec<u8>, End) {
     let mut inlet = Feed {
         client,
         at: 0,
@@ -114,8 +118,14 @@ pub(crate) fn alone(rt: &impl Abort, alloc: Global, client: &Client) -> (Vec<u8>
         takes: client.takes,
         failed: false,
     };
-    let mut office = office_of(rt, alloc);
-    let end = session(alloc, &mut inlet, &mut outlet, &mut office);
-    drop(office.into_books());
+    let end = session(alloc, &mut inlet, &mut outlet, office);
     (outlet.bytes, end)
+}
+
+/// What a session of its own writes to a client, and how it ends.
+pub(crate) fn alone(rt: &impl Abort, alloc: Global, client: &Client) -> (Vec<u8>, End) {
+    let mut office = office_of(rt, alloc);
+    let written = session_by(alloc, client, &mut office);
+    drop(office.into_books());
+    written
 }

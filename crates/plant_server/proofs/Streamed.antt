@@ -8,7 +8,8 @@ use Rattle.plant_wire.specs.{Session.{EndsAs, IsCutShort}, Step.{AnswersFront, S
 use Rattle.plant_wire.specs.declared.reads.End.TheVariants.{BrokenInput, Closed, Fault, ReadFailed, WriteFailed}
 
 module _ (ran also : List Call → List Answer → Type 0)
-    (follows : (calls : List Call) (answers : List Answer) → ran calls answers → also calls answers) (o o' : Option (List ℕ)) where
+    (follows : (calls : List Call) (answers : List Answer) → ran calls answers → also calls answers)
+    (lost gone : Type 0) (loses : lost → gone) (o o' : Option (List ℕ)) where
   whole : {bytes rest : List ℕ} → AnswersFront bytes o o' ran rest → AnswersFront bytes o o' also rest
   whole s = record { marks = s.marks; parses = s.parses; writes = s.writes; served = follows _ _ s.served }
 
@@ -55,12 +56,23 @@ module _ (ran also : List Call → List Answer → Type 0)
     stops = s.stops;
   }
 
-  port : (many : Bool) (service : Service) (n : ExitStatus) → AreOfPort many ran service n → AreOfPort many also service n
-  port false service n s =
-      record { result = s.result; reported = s.reported; shut = s.shut; calls = s.calls; answers = s.answers; made = follows _ _ s.made }
-  port true service n s = record { result = s.result; reported = s.reported; shut = s.shut; sent = sent s.sent }
+  port : (many : Bool) (service : Service) (n : ExitStatus) → AreOfPort many ran lost service n → AreOfPort many also gone service n
+  port false service n s = record {
+    result = s.result;
+    reported = s.reported;
+    shut = λ is. ((s.shut is).0, loses (s.shut is).1);
+    calls = s.calls;
+    answers = s.answers;
+    made = follows _ _ s.made;
+  }
+  port true service n s = record {
+    result = s.result;
+    reported = s.reported;
+    shut = λ is. ((s.shut is).0, loses (s.shut is).1);
+    sent = sent s.sent;
+  }
 
-  pub served : (service : Option Service) (r r' : Option (List ℕ)) (n : ExitStatus) → HasServed ran service r r' o o' n
-      → HasServed also service r r' o o' n
+  pub served : (service : Option Service) (r r' : Option (List ℕ)) (n : ExitStatus) → HasServed ran lost service r r' o o' n
+      → HasServed also gone service r r' o o' n
   served None r r' n is = streamed r r' n is
   served (Some service) r r' n is = port (is_at_once service) service n is

@@ -77,13 +77,17 @@ IsStreamed unread unread_after written written_after ran n =
 abbrev pub Whatever : List Call → List Answer → Type 0
 Whatever calls answers = Unit {0}
 
+-- whatever became of its store
+abbrev pub Anyhow : Type 0
+Anyhow = Unit {0}
+
 -- The connections of a port were served one after the other, or not all of them. Of those it says only what the office
 -- did for all of them together. How many there were is said by `serve_listener`; what came over a socket no contract
--- knows. That the store shut ends only a service that goes on while it is open.
-pub record AreInTurn (ran : OfCalls) (service : Service) (n : ExitStatus) : Type 0 where
+-- knows. That the store shut ends only a service that goes on while it is open, and then `lost` is true of the store.
+pub record AreInTurn (ran : OfCalls) (lost : Type 0) (service : Service) (n : ExitStatus) : Type 0 where
   pub result : Result (Unit {0}) Stopped
   pub reported : n ≡ served result
-  pub shut : result ≡ Err stopped.Shut → IsTrue service.while_open
+  pub shut : result ≡ Err stopped.Shut → IsTrue service.while_open × lost
   pub calls : List Call
   pub answers : List Answer
   pub made : ran calls answers
@@ -91,10 +95,10 @@ pub record AreInTurn (ran : OfCalls) (service : Service) (n : ExitStatus) : Type
 -- They were served many at once, as many in all as the service asks for, or fewer where the port failed, or where the
 -- store shut and the service goes on only while it is open: of what happened at all of them the office's calls are one
 -- list, and each was sent the answers to its own requests.
-pub record AreAtOnce (ran : OfCalls) (service : Service) (n : ExitStatus) : Type 0 where
+pub record AreAtOnce (ran : OfCalls) (lost : Type 0) (service : Service) (n : ExitStatus) : Type 0 where
   pub result : Outcome
   pub reported : n ≡ served_at_once result
-  pub shut : result ≡ Err halted.Shut → IsTrue service.while_open
+  pub shut : result ≡ Err halted.Shut → IsTrue service.while_open × lost
   pub sent : AreSent ran service.connections result
 
 -- whether connections are served many at once
@@ -102,25 +106,27 @@ abbrev pub is_at_once : Service → Bool
 is_at_once service = nat_lt 1 service.clients
 
 -- the connections of a port, many at once or not
-abbrev pub AreOfPort : Bool → OfCalls → Service → ExitStatus → Type 0
-AreOfPort false ran service n = AreInTurn ran service n
-AreOfPort true ran service n = AreAtOnce ran service n
+abbrev pub AreOfPort : Bool → OfCalls → Type 0 → Service → ExitStatus → Type 0
+AreOfPort false ran lost service n = AreInTurn ran lost service n
+AreOfPort true ran lost service n = AreAtOnce ran lost service n
 
--- Over an office of which `ran` is true: one session ended, or the connections of a port were served.
-abbrev pub HasServed : OfCalls → Option Service → Bytes → Bytes → Bytes → Bytes → ExitStatus → Type 0
-HasServed ran None unread unread_after written written_after n =
+-- Over an office of which `ran` is true: one session ended, or the connections of a port were served. If a service
+-- ended because a failure had shut the store, `lost` is true of it.
+abbrev pub HasServed : OfCalls → Type 0 → Option Service → Bytes → Bytes → Bytes → Bytes → ExitStatus → Type 0
+HasServed ran lost None unread unread_after written written_after n =
     IsStreamed unread unread_after written written_after ran n
-HasServed ran (Some service) unread unread_after written written_after n = AreOfPort (is_at_once service) ran service n
+HasServed ran lost (Some service) unread unread_after written written_after n =
+    AreOfPort (is_at_once service) ran lost service n
 
 -- an older file was to be migrated
 abbrev pub IsOfMigration : ExitStatus → Type 0
 IsOfMigration n = (outcome : Result (Unit {0}) StoreFault) × (n ≡ status_of_migration outcome)
 
 -- What a line's words ask for was done, or no books were opened for it. A migration reads no request; which files it is
--- of is not said here.
+-- of is not said here, nor which books were served: what became of them is said by `serve_opened` and `serve_file`.
 abbrev pub IsFollowed : Task → Bytes → Bytes → Bytes → Bytes → ExitStatus → Type 0
 IsFollowed (Serve db service) unread unread_after written written_after n =
-    (n ≡ statuses.NoBooks) ⊎ HasServed Whatever service unread unread_after written written_after n
+    (n ≡ statuses.NoBooks) ⊎ HasServed Whatever Anyhow service unread unread_after written written_after n
 IsFollowed (Migrate old new) unread unread_after written written_after n = (unread_after ≡ unread) × IsOfMigration n
 
 -- the words are refused, or ask for help, or what they ask for was done

@@ -11,7 +11,7 @@ ghost use Rattle.plant_office.specs.Served.{Holds};
 ghost use Rattle.plant_server.specs.{Crashes.{IsWhole, LeavesOutcomes}, Files.{HoldBooks}};
 ghost use Rattle.plant_lines.specs.Accounts.{AreSent};
 ghost use Rattle.plant_server.specs.Statuses.{AreOfPort, HasServed, IsExit, IsFollowed, IsObeyed, IsOfMigration};
-ghost use Rattle.plant_server.specs.Statuses.{IsStreamed, Whatever, is_at_once};
+ghost use Rattle.plant_server.specs.Statuses.{Anyhow, IsStreamed, Whatever, is_at_once};
 ghost use Rattle.plant_server.specs.declared.statuses.ExitStatus.TheVariants.{NoBooks};
 ghost use Rattle.plant_wire.specs.Over.{RanOn};
 ghost use Rattle.plant_server.specs.Statuses as statuses;
@@ -265,7 +265,8 @@ pub fn serve_port<B: Books, W: Write, E: Write>(
     output: &mut W,
     errors: &mut E,
 ) -> ExitStatus
-    ensures { AreOfPort (is_at_once service) (RanOn B.Books office.old.books office.new.books) service result }
+    ensures { AreOfPort (is_at_once service) (RanOn B.Books office.old.books office.new.books)
+        (¬ B.is_honest office.new.books) service result }
 {
     if service.clients > 1 {
         let outcome = serve_at_once(rt, office, service, output, errors);
@@ -284,7 +285,7 @@ fn serve_office<B: Books, I: Inlet, O: Outlet + Write, E: Write>(
     outlet: &mut O,
     errors: &mut E,
 ) -> ExitStatus
-    ensures { HasServed (RanOn B.Books office.old.books office.new.books) service
+    ensures { HasServed (RanOn B.Books office.old.books office.new.books) (¬ B.is_honest office.new.books) service
         (I.remaining inlet.old) (I.remaining inlet.new)
         (O.written outlet.old) (O.written outlet.new) result }
 {
@@ -303,7 +304,7 @@ fn serve_over<B: Books + Drop, I: Inlet, O: Outlet + Write, E: Write>(
     outlet: &mut O,
     errors: &mut E,
 ) -> (ExitStatus, B)
-    ensures { HasServed (RanOn B.Books books result.1) service
+    ensures { HasServed (RanOn B.Books books result.1) (¬ B.is_honest result.1) service
         (I.remaining inlet.old) (I.remaining inlet.new)
         (O.written outlet.old) (O.written outlet.new) result.0 }
 {
@@ -324,7 +325,8 @@ fn serve_at_hand<S: Alter + Drop, I: Inlet, O: Outlet + Write, E: Write>(
     errors: &mut E,
 ) -> (ExitStatus, Tables<S>)
     requires { copies.units.entries ≡ [] }
-    ensures { HasServed (RanOn ⟦<Tables<S> as Books>⟧ books result.1) service
+    ensures { HasServed (RanOn ⟦<Tables<S> as Books>⟧ books result.1)
+        (¬ ⟦<Tables<S> as Books>⟧.is_honest result.1) service
         (I.remaining inlet.old) (I.remaining inlet.new)
         (O.written outlet.old) (O.written outlet.new) result.0 }
 {
@@ -344,10 +346,11 @@ fn serve_books<S: Alter + Drop, I: Inlet, O: Outlet + Write, E: Write>(
     outlet: &mut O,
     errors: &mut E,
 ) -> (ExitStatus, Tables<S>)
-    ensures ran { HasServed (RanOn ⟦<Tables<S> as Books>⟧ books result.1) service
+    ensures ran { HasServed (RanOn ⟦<Tables<S> as Books>⟧ books result.1)
+        (¬ ⟦<Tables<S> as Books>⟧.is_honest result.1) service
         (I.remaining inlet.old) (I.remaining inlet.new)
         (O.written outlet.old) (O.written outlet.new) result.0 }
-    ensures served { HasServed Whatever service (I.remaining inlet.old) (I.remaining inlet.new)
+    ensures served { HasServed Whatever Anyhow service (I.remaining inlet.old) (I.remaining inlet.new)
         (O.written outlet.old) (O.written outlet.new) result.0 }
 {
     match Copies::new(rt.alloc(), MAX_ROWS_AT_HAND) {
@@ -370,10 +373,10 @@ fn serve_opened<S: Alter + Drop, I: Inlet, O: Outlet + Write, E: Write>(
     errors: &mut E,
 ) -> (ExitStatus, Option<Tables<S>>)
     ensures ran { IfOk opened (λ books. IsSomeAnd result.1 (λ after.
-        HasServed (RanOn ⟦<Tables<S> as Books>⟧ books after) service
+        HasServed (RanOn ⟦<Tables<S> as Books>⟧ books after) (¬ ⟦<Tables<S> as Books>⟧.is_honest after) service
         (I.remaining inlet.old) (I.remaining inlet.new)
         (O.written outlet.old) (O.written outlet.new) result.0)) }
-    ensures served { IfOk opened (λ _. HasServed Whatever service
+    ensures served { IfOk opened (λ _. HasServed Whatever Anyhow service
         (I.remaining inlet.old) (I.remaining inlet.new)
         (O.written outlet.old) (O.written outlet.new) result.0) }
     ensures unready { IfErr opened (λ _. result.0 ≡ NoBooks) }
@@ -390,7 +393,8 @@ fn serve_opened<S: Alter + Drop, I: Inlet, O: Outlet + Write, E: Write>(
 /// Serves the books of a file, and gives the status and the store as serving left it. Where the file held the rows of a
 /// world, and the disk has returned what was written, whatever a crash now leaves of the files is books: those after
 /// all calls that were confirmed, or after these and one that was answered by a fault. The same is true at each moment
-/// of the serving, read as the end of the serving over a disk that fails from then on.
+/// of the serving, read as the end of the serving over a disk that fails from then on. If the service ended because a
+/// failure had shut the store, the store is shut.
 pub fn serve_file<S: Start, I: Inlet, O: Outlet + Write, E: Write>(
     rt: &HostRuntime,
     path: &str,
@@ -404,12 +408,12 @@ pub fn serve_file<S: Start, I: Inlet, O: Outlet + Write, E: Write>(
     ensures crash { (m : Content) → HoldBooks (image_at S.Start) m → m.admin ≡ admin
         → (w : World) → IsLegalWorld w → Holds m w
         → IfSome result.1 (λ store. IsClean (view store)
-        → HasServed (LeavesOutcomes store w) service
+        → HasServed (LeavesOutcomes store w) (¬ IsTrue (view store).is_open) service
         (I.remaining inlet.old) (I.remaining inlet.new)
         (O.written outlet.old) (O.written outlet.new) result.0) }
     ensures whole { IfSome result.1 (λ store. IsClean (view store) → IsWhole store) }
     ensures served { (result.0 ≡ NoBooks)
-        ⊎ HasServed Whatever service (I.remaining inlet.old) (I.remaining inlet.new)
+        ⊎ HasServed Whatever Anyhow service (I.remaining inlet.old) (I.remaining inlet.new)
         (O.written outlet.old) (O.written outlet.new) result.0 }
 {
     match in_file(rt, path, admin, start) {
@@ -442,7 +446,7 @@ fn serve<I: Inlet, O: Outlet + Write, E: Write>(
     errors: &mut E,
 ) -> ExitStatus
     ensures { (result ≡ NoBooks)
-        ⊎ HasServed Whatever service (I.remaining inlet.old) (I.remaining inlet.new)
+        ⊎ HasServed Whatever Anyhow service (I.remaining inlet.old) (I.remaining inlet.new)
         (O.written outlet.old) (O.written outlet.new) result }
 {
     match db {

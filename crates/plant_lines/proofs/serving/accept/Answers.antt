@@ -45,4 +45,4 @@ returns-else-is_err-clause-prompt g c are =
     let ls = c.args.held.now.lines.items in
     let l = c.new.result in
     let more : c.push.new.self.items ≡ ls ++ l ∷ [] = rw c.if-is_err.ensures.negation at c.push.ensures.items in
-    rw more (prompt_pushed ls l are (λ live none. inl c.new.ensures.unread))
+    rw more (prompt_pushed ls l are (λ live none. (inl c.new.ensures.unread, inl c.new.ensures.unread)))

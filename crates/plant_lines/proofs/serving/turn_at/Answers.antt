@@ -1,4 +1,4 @@
-use Rattle.std.proofs.{Common.{refl, length, slice_set, subst, sym, ◌∙◌}, lemmas.Option.{slice_get_read}}
+use Rattle.std.proofs.{Common.{refl, length, slice_set, subst, sym}, lemmas.Option.{slice_get_read}}
 use Rattle.plant_call.specs.Cut.{WaitsBelow}
 use Rattle.plant_lines.specs.{Prompt.{ArePrompt, IsPrompt}, declared.lines.Line.{Line}}
 use Rattle.plant_lines.proofs.{Handled.{happened_line}, Held.{prompt_closed, prompt_set, read_one, set_got, set_lines, waits_at}}

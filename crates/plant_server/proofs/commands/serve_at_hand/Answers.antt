@@ -9,4 +9,5 @@ returns g c =
     (record { held = c.into_books-below.ensures.represents; leaves = c.into_books-below.ensures.leaves; sound = c.into_books-below.ensures.sound })
     c.into_books-below.ensures.honest c.into_books-below.ensures.clean c.new-mirror.ensures.clean
     c.new-mirror.ensures.stores c.into_books-below.ensures.stores)
+    _ _ (λ not honest. not (c.into_books-below.ensures.honest honest))
     _ _ c.args.service _ _ _ c.serve_over-status.ensures

@@ -14,7 +14,9 @@ returns-in-Ok g c = record {
             ∙ sym same,
         c.in-Ok.ensures.kept m held,
       ) holds legal start.0 start.1) in
-      c.leave.ensures.left w calls answers clean k.sound k.outcomes) _ _ c.args.service _ _ _ c.serve_books-status.ensures.ran;
+      c.leave.ensures.left w calls answers clean k.sound k.outcomes)
+      _ _ (λ not is. not (c.leave.ensures.clean clean, (c.leave.ensures.open clean is).0))
+      _ _ c.args.service _ _ _ c.serve_books-status.ensures.ran;
   whole = c.leave.ensures.whole;
   served = inr c.serve_books-status.ensures.served;
 }

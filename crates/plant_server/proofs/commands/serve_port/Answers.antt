@@ -5,26 +5,26 @@ use Rattle.plant_server.proofs.commands.serve_port.Goals as goal
 
 pub returns-then-service-gt1 : goal.returns-then-service-gt1
 returns-then-service-gt1 g c =
-    subst (λ (many : Bool). AreOfPort many (RanOn g.B.Books c.args.office.now.books c.serve_at_once-outcome.new.office.books) c.args.service
-    c.report_at_once.result)
+    subst (λ (many : Bool). AreOfPort many (RanOn g.B.Books c.args.office.now.books c.serve_at_once-outcome.new.office.books)
+    (¬ g.B.Books.is_honest c.serve_at_once-outcome.new.office.books) c.args.service c.report_at_once.result)
     (sym (lt-ltb 1 c.args.service.clients c.if-service-gt1.true))
     (record {
       result = c.serve_at_once-outcome.result;
       reported = c.report_at_once.ensures;
-      shut = λ is. (c.serve_at_once-outcome.ensures.shut is).0;
+      shut = c.serve_at_once-outcome.ensures.shut;
       sent = c.serve_at_once-outcome.ensures.sent;
     })
 
 pub returns : goal.returns
 returns g c =
     let ran = c.serve_in_turn-outcome.ensures.ran in
-    subst (λ (many : Bool). AreOfPort many (RanOn g.B.Books c.args.office.now.books c.serve_in_turn-outcome.new.office.books) c.args.service
-    c.report_service.result)
+    subst (λ (many : Bool). AreOfPort many (RanOn g.B.Books c.args.office.now.books c.serve_in_turn-outcome.new.office.books)
+    (¬ g.B.Books.is_honest c.serve_in_turn-outcome.new.office.books) c.args.service c.report_service.result)
     (sym (le-ltb 1 c.args.service.clients c.if-service-gt1.false))
     (record {
       result = c.serve_in_turn-outcome.result;
       reported = c.report_service.ensures;
-      shut = λ is. (c.serve_in_turn-outcome.ensures.shut is).0;
+      shut = c.serve_in_turn-outcome.ensures.shut;
       calls = ran.0;
       answers = ran.1;
       made = ran.2;
