@@ -6,7 +6,8 @@ use Rattle.std.proofs.Common.{List, Some, T, [], ap, cond, false, map, refl, sub
 use Rattle.plant_books.specs.Contents.{Content, after_changes, no_units, part_in, rows_in, with_rows}
 use Rattle.plant_books.specs.{Listed.{AllInOrder, IsListed, rows_at, unit_cmp}, declared.opened.OpenedUnit.{OpenedUnit}}
 use Rattle.plant_books.proofs.public.OrderLaws.{changed_in_order, or_none_in_order, put_all_in_order, rows_in_order}
-use Rattle.plant_model.specs.{Order.{AreInOrder}, Parts.{part_of}, RowChanges.{changed_by, no_rows}, Worlds.{unit_named}, declared.call.Call.{Call}}
+use Rattle.plant_model.specs.{Worlds.{unit_named}, declared.call.Call.{Call}}
+use Rattle.plant_model.specs.steps.{Order.{AreInOrder}, Parts.{part_of}, RowChanges.{changed_by, no_rows}}
 use Rattle.plant_model.{specs.declared.rows.{RowEdit.{RowEdit}, UnitRows.{UnitRows}}, proofs.public.RowsFound.{less, turned}}
 use Rattle.plant_types.{specs.{KeyedRows.{put_row, row_at}, Names.{Name, name_cmp}, declared.fault.Fault.{Fault}}, proofs.public.Halves.{first}}
 use Rattle.plant_types.proofs.public.{Orders.{name_total, same_names}, Halves.{second}}

@@ -4,7 +4,8 @@ use Rattle.std.proofs.Common.{List, [], ap, arith, false, refl, sym, true, ◌++
 use Rattle.std.proofs.lemmas.{Bool.{or_right}, List.Folds.{list_any-append}}
 use Rattle.plant_import.proofs.public.Placed.{AllBelow, other}
 use Rattle.plant_books.specs.Asking.{AreSources, is_asked_number}
-use Rattle.plant_model.specs.{Histories.{same_number}, Parts.{is_source}, declared.rows.{RecordEntry.{RecordEntry}, UnitRows.{UnitRows}}}
+use Rattle.plant_model.specs.{Histories.{same_number}, declared.rows.{RecordEntry.{RecordEntry}, UnitRows.{UnitRows}}}
+use Rattle.plant_model.specs.steps.Parts.{is_source}
 use Rattle.plant_types.specs.Names.{Name}
 
 -- a number is one of several

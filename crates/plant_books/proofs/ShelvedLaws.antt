@@ -3,7 +3,8 @@ use Rattle.std.specs.Ordering.{ordering_reverse}
 use Rattle.std.proofs.Common.{ap, append_assoc, cond, drop, get_or, refl, subst, sym, ◌∙◌, option_to_list, is_eq, Bool, List, Option, Some, [], false, length, suc, zero, ℕ, ◌+◌, ◌++◌, ◌<◌, ◌||◌, ◌∷◌, ◌≡◌, ◌≤◌, Ordering, Equal, Greater, Less}
 use Rattle.std.proofs.{Math.ListN.{drop_of_length-le}, lemmas.List.{append-nil, drop_more}}
 use Rattle.plant_books.specs.Found.{shelved}
-use Rattle.plant_model.specs.{Parts.{has_shelf}, RowFacts.{alarm_tag, shelf_tag}, declared.rows.{AlarmRow.{AlarmRow}, ShelfRow.{ShelfRow}}}
+use Rattle.plant_model.specs.declared.rows.{AlarmRow.{AlarmRow}, ShelfRow.{ShelfRow}}
+use Rattle.plant_model.specs.steps.{Parts.{has_shelf}, RowFacts.{alarm_tag, shelf_tag}}
 use Rattle.plant_model.proofs.public.RowsFound.{After, Ordered, after_more, back, none_after, ordered, turned}
 use Rattle.plant_types.{specs.{KeyedRows.{IsInOrder, row_at}, Names.{Name, name_cmp}}, proofs.public.Orders.{name_total, same_names}}
 

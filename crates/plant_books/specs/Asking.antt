@@ -2,8 +2,10 @@
 use Rattle.std.specs.{BTreeSet.{BTreeSet, contains}, List.{list_any}, Ordering.{nat_cmp}}
 use Rattle.std.specs.Prelude.{Bool, IfOk, List, [], None, Option, Result, Some, false, filter, length, true, ℕ, ◌&&◌, ◌||◌, ◌≡◌}
 use Rattle.plant_alarm.specs.declared.event.Event.{Event}
-use Rattle.plant_model.specs.{Histories.{same_number}, Parts.{Selection, has_shelf, is_crowded, is_in_force, is_source, rows_selected}}
-use Rattle.plant_model.specs.{RowFacts.{change_found, pair_of}, Scopes.{number_approved, selection_by}, declared.call.Request.{Request}}
+use Rattle.plant_model.specs.Histories.{same_number}
+use Rattle.plant_model.specs.steps.Parts.{Selection, has_shelf, is_crowded, is_in_force, is_source, rows_selected}
+use Rattle.plant_model.specs.declared.call.Request.{Request}
+use Rattle.plant_model.specs.steps.{RowFacts.{change_found, pair_of}, Scopes.{number_approved, selection_by}}
 use Rattle.plant_model.specs.declared.kinds.Scope.{Scope, TheVariants.{AllAlarms, AllEvents, AllGrants, AllRecords, AllShelves, Approval, Content}}
 use Rattle.plant_model.specs.declared.kinds.Scope.TheVariants.{File, NothingElse, OneAlarm, OneChange, OneRecord, Shelving}
 use Rattle.plant_model.specs.declared.rows.{AlarmRow.{AlarmRow}, ChangeEntry.{ChangeEntry}, GrantRow.{GrantRow}, RecordEntry.{RecordEntry}}

@@ -1,6 +1,7 @@
 -- Changes of a unit's rows, one after another.
 use Rattle.std.specs.{List.{list_any}, Prelude.{Bool, IfOk, List, OnOk, Result, false, true, ◌≡◌}}
-use Rattle.plant_model.specs.{Order.{AreInOrder}, RowChanges.{changed, put}, declared.rows.{Row.{Row}, UnitRows.{UnitRows}}}
+use Rattle.plant_model.specs.declared.rows.{Row.{Row}, UnitRows.{UnitRows}}
+use Rattle.plant_model.specs.steps.{Order.{AreInOrder}, RowChanges.{changed, put}}
 use Rattle.plant_model.specs.declared.rows.Row.TheVariants.{Alarm as AlarmPut, Band as BandPut, Cell as CellPut, Change as ChangePut}
 use Rattle.plant_model.specs.declared.rows.Row.TheVariants.{Event as EventPut, Grant as GrantPut, Record as RecordPut, Shelf as ShelfPut, Unit as UnitPut}
 use Rattle.plant_model.specs.declared.rows.RowEdit.{RowEdit, TheVariants.{Put, PutEvents, Remove}}

@@ -3,7 +3,8 @@ use Rattle.std.specs.{FinMap.{FinMap, contains_key, empty, get, insert, keys}, L
 use Rattle.std.specs.Prelude.{flat_map, Bool, List, None, OnOk, Option, Result, Some, [], false, filter, filter_map, if◌then◌else◌, map, option_map, true, unwrap_or, ℕ, ◌++◌, ◌≡◌, ◌⊎◌}
 use Rattle.plant_alarm.specs.declared.event.Event.{Event}
 use Rattle.plant_books.specs.declared.books.{MineRow.{MineRow}, MineUnit.{MineUnit}}
-use Rattle.plant_model.specs.{Grants.{is_before}, Parts.{part_of}, RowChanges.{changed_by, no_rows, puts_unit}, RowFacts.{last_return_in, unit_read}}
+use Rattle.plant_model.specs.Grants.{is_before}
+use Rattle.plant_model.specs.steps.{Parts.{part_of}, RowChanges.{changed_by, no_rows, puts_unit}, RowFacts.{last_return_in, unit_read}}
 use Rattle.plant_model.specs.declared.{call.Call.{Call}, rows.{GrantRow.{GrantRow}, RowEdit.{RowEdit}, ShelfRow.{ShelfRow}, UnitPart.{UnitPart}}}
 use Rattle.plant_model.specs.declared.rows.UnitRows.{UnitRows}
 use Rattle.plant_types.specs.{Names.{Name, name_cmp, same_name}, Options.{when}, declared.role.Role.{Role}}

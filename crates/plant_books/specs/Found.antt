@@ -1,7 +1,8 @@
 -- Rows whose tags are wanted, alarms that have a shelf, and rows without that of a tag.
 use Rattle.std.specs.Prelude.{List, filter}
 use Rattle.plant_books.specs.{Asking.{is_wanted}, declared.asking.Wanted.{Wanted}}
-use Rattle.plant_model.specs.{Parts.{has_shelf}, declared.rows.{AlarmRow.{AlarmRow}, ShelfRow.{ShelfRow}}}
+use Rattle.plant_model.specs.declared.rows.{AlarmRow.{AlarmRow}, ShelfRow.{ShelfRow}}
+use Rattle.plant_model.specs.steps.Parts.{has_shelf}
 use Rattle.plant_types.specs.{KeyedRows.{remove_row}, Names.{Name, name_cmp}}
 
 -- the rows without that of a tag

@@ -3,7 +3,8 @@ use Rattle.std.specs.{FinMap.{entries}, List.{AllByRecursion}, Prelude.{List, Op
 use Rattle.std.specs.declared.cmp.Ordering.{Ordering}
 use Rattle.plant_books.specs.{Contents.{Content, is_held_in, mine_unit, shelves_mine}, declared.books.{MineRow.{MineRow}, MineUnit.{MineUnit}}}
 use Rattle.plant_books.specs.declared.opened.OpenedUnit.{OpenedUnit}
-use Rattle.plant_model.specs.{Order.{AreInOrder}, RowChanges.{changed_by, no_rows}, declared.rows.{RowEdit.{RowEdit}, UnitRows.{UnitRows}}}
+use Rattle.plant_model.specs.declared.rows.{RowEdit.{RowEdit}, UnitRows.{UnitRows}}
+use Rattle.plant_model.specs.steps.{Order.{AreInOrder}, RowChanges.{changed_by, no_rows}}
 use Rattle.plant_types.specs.{KeyedRows.{put_row, row_at}, Names.{Name, name_cmp}, Options.{when}}
 
 -- units by their codes

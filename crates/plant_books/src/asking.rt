@@ -2,7 +2,8 @@
 
 ghost use Rattle.std.specs.Prelude.{◌≡◌, ◌||◌};
 ghost use Rattle.plant_books.specs.Asking.{AreAlarmsWanted, AreEventsWanted, AreWanted, HasTheirShelves, IsCrowdedWith, TakesChanges, TakesMatrix, TakesSources, is_wanted};
-ghost use Rattle.plant_model.specs.{Scopes.{of_entry, selection_by}, declared.rows.UnitRows.{UnitRows}};
+ghost use Rattle.plant_model.specs.declared.rows.UnitRows.{UnitRows};
+ghost use Rattle.plant_model.specs.steps.Scopes.{of_entry, selection_by};
 ghost use Rattle.plant_types.specs.{Names.{Name, same_name}, Roles.{Pair}};
 ghost use Rattle.plant_books.specs.Asking as asked;
 

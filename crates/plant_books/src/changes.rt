@@ -1,5 +1,5 @@
 ghost use Rattle.std.specs.Prelude.{◌≡◌, ◌∷◌, [], IfOk};
-ghost use Rattle.plant_model.specs.{Order.{AreInOrder, TagsRise}, RowChanges.{changed_by, removed}, RowFacts.{pair_of, shelf_tag}};
+ghost use Rattle.plant_model.specs.steps.{Order.{AreInOrder, TagsRise}, RowChanges.{changed_by, removed}, RowFacts.{pair_of, shelf_tag}};
 ghost use Rattle.plant_books.specs.{Changing.{MakesChange, PutsRow, is_event_put, puts_event}, Found.{without_tag}};
 ghost use Rattle.plant_types.specs.{KeyedRows.{remove_row}, Results.{OnlyMemory}, Roles.{pair_cmp}};
 

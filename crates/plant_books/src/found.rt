@@ -2,7 +2,7 @@
 
 ghost use Rattle.std.specs.Prelude.{◌≡◌, IfOk, option_copied, option_to_list};
 ghost use Rattle.plant_books.specs.Found.{rows_wanted, shelved, without_tag};
-ghost use Rattle.plant_model.specs.{Order.{TagsRise}, RowFacts.{alarm_tag, shelf_tag}};
+ghost use Rattle.plant_model.specs.steps.{Order.{TagsRise}, RowFacts.{alarm_tag, shelf_tag}};
 ghost use Rattle.plant_types.specs.Results.{Gives, OnlyMemory};
 
 use crate::asking::Wanted;

@@ -1,9 +1,9 @@
 ghost use Rattle.std.specs.Prelude.{◌≡◌, IfOk, IfSome, OnErr, OnOk, is_some, option_map, unwrap_or};
 ghost use Rattle.plant_books.specs.Contents.{AddsShelves, without_history};
 ghost use Rattle.plant_books.specs.Listed.{AllInOrder, listed_after, listed_codes, listed_shelves, listed_units, rows_at};
-ghost use Rattle.plant_model.specs.{Order.{AreInOrder, TagsRise}, Parts.{part_of as the_part}, RowChanges.{no_rows}, RowFacts.{alarm_tag, unit_read}};
+ghost use Rattle.plant_model.specs.steps.{Order.{AreInOrder, TagsRise}, Parts.{part_of as the_part}, RowChanges.{no_rows}, RowFacts.{alarm_tag, unit_read}};
 ghost use Rattle.plant_types.specs.Results.{Gives, OnlyMemory};
-ghost use Rattle.plant_model.specs.RowFacts as facts;
+ghost use Rattle.plant_model.specs.steps.RowFacts as facts;
 
 use crate::books::{MineRow, MineUnit};
 use crate::changes::after_changes;

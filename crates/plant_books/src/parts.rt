@@ -1,9 +1,9 @@
 ghost use Rattle.std.specs.Prelude.{◌≡◌, ◌<◌, ◌^◌, IfOk, filter, option_copied, true};
 ghost use Rattle.plant_books.specs.{Asking.{alarms_wanted, IsApprovedBy, changes_by, events_wanted, grants_by, rows_by}, Contents.{without_history}};
-ghost use Rattle.plant_model.specs.Order.{AreInOrder, ChangesRise, EventsRise, TagsRise};
-ghost use Rattle.plant_model.specs.Parts.{counted_for, is_crowded as is_crowded_in, part_of as the_part, part_of_holder as holders_part, selected};
-ghost use Rattle.plant_model.specs.{RowChanges.{no_rows}, RowFacts.{alarm_tag, last_number as last_number_of, shelf_tag}};
-ghost use Rattle.plant_model.specs.Scopes.{is_shelving as is_shelving_by, selection_by};
+ghost use Rattle.plant_model.specs.steps.Order.{AreInOrder, ChangesRise, EventsRise, TagsRise};
+ghost use Rattle.plant_model.specs.steps.Parts.{counted_for, is_crowded as is_crowded_in, part_of as the_part, part_of_holder as holders_part, selected};
+ghost use Rattle.plant_model.specs.steps.{RowChanges.{no_rows}, RowFacts.{alarm_tag, last_number as last_number_of, shelf_tag}};
+ghost use Rattle.plant_model.specs.steps.Scopes.{is_shelving as is_shelving_by, selection_by};
 ghost use Rattle.plant_types.specs.{Names.{same_name}, Results.{Gives, OnlyMemory}};
 
 use crate::asking::{
@@ -176,7 +176,7 @@ fn count_asked(rows: &UnitRows, call: &Call) -> Result<u32, Fault>
     ensures value { Gives result (counted_for rows.now call.now.request) }
     ensures memory { counted_for rows.now call.now.request < 2 ^ 32 → OnlyMemory result }
 {
-    match call.request.kind().count() {
+    match call.request.counted() {
         Counted::Nothing => Ok(0),
         Counted::Alarms => count_of(rows.alarms.len()),
         Counted::Events => count_of(rows.events.len()),

@@ -1,6 +1,7 @@
 ghost use Rattle.std.specs.{Cmp.{IsTotalOrder}, Ordering.{nat_cmp}, Prelude.{◌≡◌, IsTrue}};
-ghost use Rattle.plant_model.specs.{Matrices.{band_cmp, cell_cmp}, Order.{AreInOrder}};
-ghost use Rattle.plant_model.specs.RowFacts.{alarm_tag, band_key, cell_key, change_number, event_number, pair_of, record_tag, shelf_tag};
+ghost use Rattle.plant_model.specs.Matrices.{band_cmp, cell_cmp};
+ghost use Rattle.plant_model.specs.steps.Order.{AreInOrder};
+ghost use Rattle.plant_model.specs.steps.RowFacts.{alarm_tag, band_key, cell_key, change_number, event_number, pair_of, record_tag, shelf_tag};
 ghost use Rattle.plant_types.specs.{KeyedRows.{IsInOrder}, Names.{name_cmp}, Roles.{pair_cmp}};
 
 use crate::keyed::Keyed;

@@ -2,7 +2,8 @@
 
 ghost use Rattle.std.specs.Prelude.{◌≡◌, IfOk};
 ghost use Rattle.plant_books.specs.Asking.{AreSources, GivesChanges, GivesMatrices, is_wanted};
-ghost use Rattle.plant_model.specs.{RowFacts.{unit_read}, declared.rows.UnitRows.{UnitRows}};
+ghost use Rattle.plant_model.specs.declared.rows.UnitRows.{UnitRows};
+ghost use Rattle.plant_model.specs.steps.RowFacts.{unit_read};
 ghost use Rattle.plant_types.specs.Results.{OnlyMemory};
 
 use crate::asking::{Wanted, wanted_change, wanted_records, wants_matrix, wants_sources};

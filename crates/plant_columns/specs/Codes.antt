@@ -3,6 +3,7 @@
 use Rattle.std.specs.Prelude.{Bool, IfOk, List, None, Option, Result, Some, [], find, if◌then◌else◌, negsuc, pos, unwrap_or, ℕ, ◌==◌, ◌∷◌, ◌≡◌}
 use Rattle.sqlite.specs.Values.{or_null}
 use Rattle.sqlite_value.specs.{Order.{Row, column}, declared.value.Value.{Value, TheVariants.{Blob, Int, Null, Real, Text}}}
+use Rattle.plant_import.specs.Merging.{kind_no}
 use Rattle.plant_alarm.specs.declared.{event.EventKind.{EventKind, TheVariants.{Ack, Act, Reset, Rtn, Sup, Unsup}}, summary.AlarmState.{AlarmState}}
 use Rattle.plant_alarm.specs.declared.summary.AlarmState.TheVariants.{Acknowledged, LatchedAck, LatchedUnack, Normal, ReturnedUnack, Unacknowledged}
 use Rattle.plant_model.specs.declared.rows.ChangeTopic.{ChangeTopic, TheVariants.{Limit as LimitTopic, Matrix as MatrixTopic, Record as RecordTopic}}
@@ -90,22 +91,14 @@ abbrev pub state_in : Value → AlarmState
 state_in v = state_numbered (number_in v)
 
 -- the kinds of an event, 1 to 6
-abbrev pub event_kind_code : EventKind → ℕ
-event_kind_code Act = 1
-event_kind_code Rtn = 2
-event_kind_code Ack = 3
-event_kind_code Reset = 4
-event_kind_code Sup = 5
-event_kind_code Unsup = 6
-
 abbrev pub kind : EventKind → Value
-kind k = number (event_kind_code k)
+kind k = number (kind_no k)
 
 abbrev pub all_kinds : List EventKind
 all_kinds = Act ∷ Rtn ∷ Ack ∷ Reset ∷ Sup ∷ Unsup ∷ []
 
 abbrev pub kind_numbered : ℕ → EventKind
-kind_numbered n = numbered event_kind_code all_kinds Act n
+kind_numbered n = numbered kind_no all_kinds Act n
 
 abbrev pub kind_in : Value → EventKind
 kind_in v = kind_numbered (number_in v)

@@ -5,7 +5,7 @@ use Rattle.sqlite_schema.specs.declared.schema.{Column.{Column}, Index.{Index}}
 use Rattle.sqlite_value.specs.{Order.{Row, bytes, column}, declared.value.Value.TheVariants.{Null, Text}}
 use Rattle.plant_alarm.specs.declared.event.Event.{Event}
 use Rattle.plant_model.specs.Matrices.{BandKey, CellKey, band_cmp, cell_cmp}
-use Rattle.plant_model.specs.RowFacts.{alarm_tag, band_key, cell_key, change_number, event_number, pair_of, record_tag, shelf_tag}
+use Rattle.plant_model.specs.steps.RowFacts.{alarm_tag, band_key, cell_key, change_number, event_number, pair_of, record_tag, shelf_tag}
 use Rattle.plant_model.specs.declared.rows.{AlarmRow.{AlarmRow}, BandRow.{BandRow}, CellRow.{CellRow}, ChangeEntry.{ChangeEntry}, GrantRow.{GrantRow}}
 use Rattle.plant_model.specs.declared.rows.{RecordEntry.{RecordEntry}, ShelfRow.{ShelfRow}, UnitRow.{UnitRow}, UnitRows.{UnitRows}}
 use Rattle.plant_columns.specs.Codes.{alarm_state, cell, cell_in, change_state, change_state_in, flag, flag_in, kind, kind_in, number, number_in, open_number, open_number_in, open_text, open_text_in, role, role_in, state_in, topic, topic_in}

@@ -1,7 +1,8 @@
 //! The numbers of roles, states, kinds, topics and cells: one table each, by which columns are written and read.
 
 ghost use Rattle.std.specs.Prelude.{◌≡◌, List, ℕ};
-ghost use Rattle.plant_columns.specs.Codes.{all_cells, all_decisions, all_kinds, all_states, all_topics, cell_no, decision_no, event_kind_code, state_no, topic_no};
+ghost use Rattle.plant_import.specs.Merging.{kind_no};
+ghost use Rattle.plant_columns.specs.Codes.{all_cells, all_decisions, all_kinds, all_states, all_topics, cell_no, decision_no, state_no, topic_no};
 ghost use Rattle.plant_types.specs.Roles.{all_roles, role_no};
 
 use plant_alarm::{AlarmState, EventKind};
@@ -90,7 +91,7 @@ const KINDS: [EventKind; 6] = [
 ];
 
 impl Coded for EventKind {
-    ghost no = { event_kind_code };
+    ghost no = { kind_no };
 
     ghost every = { all_kinds };
 

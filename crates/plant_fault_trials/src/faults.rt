@@ -123,8 +123,8 @@ fn serves_at_hand<B: Books + Drop>(
     hold_the_same(rt, &mut below, &mut theirs, &wanted.units, "below");
 }
 
-/// Makes the calls in one run and returns their answers and our books. If there is no memory for the answers, our books
-/// must be unchanged; the run is then made again.
+/// Makes the calls in one run, which takes our books and gives them back with the answers. If there is no memory for the
+/// answers, our books must be unchanged; the run is then made again.
 fn our_run<B: Books + Drop>(
     rt: &(impl Abort + AllocGlobal + Eprint),
     ours: B,

@@ -5,7 +5,7 @@ use Rattle.std.proofs.Common.{Bool, Err, IfOk, IfSome, List, None, Ok, Result, S
 use Rattle.lru.specs.LruCache.{LruCache, last_entry, promoted, put_entries}
 use Rattle.plant_books.specs.{Changing.{puts_event}, Contents.{Content, after_changes, mine_row, rows_in, shelves_there, without_events, without_history, without_reviews}}
 use Rattle.plant_books.proofs.public.{HistoryLaws.{changed_unreviewed, changed_without, part_unreviewed, part_without}, OrderLaws.{changed_in_order}}
-use Rattle.plant_model.specs.{Order.{AreInOrder}, Parts.{part_of, part_of_holder, part_of_stranger}, RowChanges.{changed_by, no_rows}, RowFacts.{holds_by}, Scopes.{looks_at_events, looks_at_reviews}}
+use Rattle.plant_model.specs.steps.{Order.{AreInOrder}, Parts.{part_of, part_of_holder, part_of_stranger}, RowChanges.{changed_by, no_rows}, RowFacts.{holds_by}, Scopes.{looks_at_events, looks_at_reviews}}
 use Rattle.plant_model.{specs.declared.{call.Call.{Call}, rows.{RowEdit.{RowEdit}, UnitPart.{UnitPart}, UnitRows.{UnitRows}}}, proofs.public.WorldLaws.{same_of}}
 use Rattle.plant_mirror.specs.{Copies.{AreCopies, Copy, IsCopy, There, row_count, rows_of_all, seen}, declared.at_hand.AtHand.{AtHand}}
 use Rattle.plant_types.{specs.{Names.{Name, same_name}, declared.fault.Fault.{Fault}}, proofs.public.Orders.{name_total}}

@@ -1,7 +1,8 @@
 -- Copies of units' rows, beside the books that keep them.
 use Rattle.std.specs.{FinMap.{get}, Prelude.{Bool, List, Option, Some, [], false, length, option_map, true, ℕ, ◌+◌, ◌∷◌, ◌≡◌}}
 use Rattle.plant_books.specs.Contents.{Content, without_history, without_reviews}
-use Rattle.plant_model.specs.{Order.{AreInOrder}, declared.rows.UnitRows.{UnitRows}}
+use Rattle.plant_model.specs.declared.rows.UnitRows.{UnitRows}
+use Rattle.plant_model.specs.steps.Order.{AreInOrder}
 use Rattle.plant_mirror.specs.declared.at_hand.AtHand.{AtHand}
 use Rattle.plant_types.specs.Names.{Name, same_name}
 

@@ -1,7 +1,8 @@
 ghost use Rattle.std.specs.Prelude.{◌≡◌, ◌&&◌, IfSome, IsTrue, not};
 ghost use Rattle.plant_books.specs.{Changing.{puts_event}, Contents.{Content, after_changes as content_after, without_reviews as unreviewed}};
 ghost use Rattle.plant_mirror.specs.Copies.{IsCopy, seen};
-ghost use Rattle.plant_model.specs.{Parts.{part_of}, declared.rows.UnitRows.{UnitRows as TheRows}};
+ghost use Rattle.plant_model.specs.declared.rows.UnitRows.{UnitRows as TheRows};
+ghost use Rattle.plant_model.specs.steps.Parts.{part_of};
 ghost use Rattle.plant_types.specs.Names.{Name};
 ghost use Rattle.std.specs.FinMap as fin;
 ghost use Rattle.plant_mirror.specs.Copies as copies;

@@ -1,7 +1,7 @@
 ghost use Rattle.std.specs.{Map.{lookup, lookup_entry}, Prelude.{◌≡◌, ◌≤◌, ◌+◌, [], flat_map, IfOk, IfSome, option_copied, unwrap_or}};
 ghost use Rattle.plant_books.specs.Contents.{shelves_there};
 ghost use Rattle.plant_mirror.specs.Copies.{AreCopies, There, DiffersAt, StayCopies, StayCopiesWith};
-ghost use Rattle.plant_model.specs.RowChanges.{no_rows};
+ghost use Rattle.plant_model.specs.steps.RowChanges.{no_rows};
 ghost use Rattle.plant_types.specs.{Limits.{max_rows_at_hand}, Names.{same_name}, Results.{OnlyMemory}};
 ghost use Rattle.plant_mirror.specs.Copies as copies;
 

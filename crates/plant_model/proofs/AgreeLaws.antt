@@ -9,7 +9,8 @@ use Rattle.plant_model.specs.{Alarms.{latching, limit}, Changes.{limit_revision}
 use Rattle.plant_model.{specs.{Histories.{last_moment}, declared.rows.UnitRows.{UnitRows}}, proofs.public.LegalLaws.{followed}}
 use Rattle.plant_model.specs.ImportLaw.{AreAccepted, AreImportsInto, ImportsAgree, but_last, new_counted, new_in, rows_imported, through}
 use Rattle.plant_model.specs.{Legality.{IsLegal}, Refusals.{fault_entries, first_refusal, holds_some, tags_of}, Replies.{import_reply}}
-use Rattle.plant_model.specs.{RowFacts.{event_number}, Rows.{alarm_as, rows_of}, Service.{outage}, Verdicts.{changes_history, refused_or, verdict}}
+use Rattle.plant_model.specs.{Rows.{alarm_as, rows_of}, Service.{outage}, Verdicts.{changes_history, refused_or, verdict}}
+use Rattle.plant_model.specs.steps.RowFacts.{event_number}
 use Rattle.plant_model.specs.declared.{call.{Call.{Call}, Request.{Request, TheVariants.{Import}}}, reply.Full.TheVariants.{Events as TooManyEvents}}
 use Rattle.plant_model.specs.declared.reply.Refused.TheVariants.{MomentBehind, NotGranted, RoleLacking, UnitFull}
 use Rattle.plant_model.proofs.EventLists.{IsOf, distinct_rising, of_both, of_find, of_same, one_said, rises}
@@ -183,8 +184,9 @@ module _ (h : List Call) (u : Name) (all : List Event) (fit : is_fit all ≡ tru
         counted_new = (λ i. counted i + (more.counted_new ∙ alike) i) ∙ sym split;
         rows_last = more.rows_last;
       }
-  goes_one calls on c (Import v (Err fault)) g reached t behind imports within room = absurd imports.0.import
-  goes_one calls on c _ g reached t behind imports within room = absurd imports.0.import
+  goes_one calls on c (Import v (Err fault)) g reached t behind imports within room =
+      absurd (let no : Some false ≡ Some true = imports.0.import.file in cc)
+  goes_one calls on c _ g reached t behind imports within room = absurd (let no : None ≡ Some true = imports.0.import.file in cc)
 
   goes : (calls : List Call) → GoOn calls
   goes [] g reached t behind imports within room =

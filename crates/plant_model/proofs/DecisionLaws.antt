@@ -3,8 +3,9 @@ use Rattle.std.proofs.Common.{ap, cond, refl, sym, ◌∙◌, option_to_list, na
 use Rattle.std.proofs.lemmas.Simd.{map-map}
 use Rattle.plant_model.specs.{Alarms.{latching, limit, quota}, Events.{events_of}, Facts.{facts}, Histories.{latest, same_number}}
 use Rattle.plant_model.specs.Changes.{Decision, Draft, change, change_as, decision, draft, kind_of_change, limit_in, limit_revision, matrix, matrix_in, matrix_revision, no_matrix, proposals, record_as, record_of, record_revision, said_of_matrix, sheet, sheet_in}
-use Rattle.plant_model.specs.{Matrices.{band_at, band_cmp, band_places, cell_of, cell_places}, RowFacts.{band_key, change_number, record_tag}}
-use Rattle.plant_model.specs.RowChanges.{approval_changes, approved_row, cells_of, changed_by, decided_as, for_change, put, rerated}
+use Rattle.plant_model.specs.Matrices.{band_at, band_cmp, band_places, cell_of, cell_places}
+use Rattle.plant_model.specs.steps.RowFacts.{band_key, change_number, record_tag}
+use Rattle.plant_model.specs.steps.RowChanges.{approval_changes, approved_row, cells_of, changed_by, decided_as, for_change, put, rerated}
 use Rattle.plant_model.specs.Rows.{alarm_as, alarm_row, band_row, band_rows, cell_row, change_entry, change_rows, changes_of, record_entry, record_rows, records_of, rows_of, unit_row, with_limit}
 use Rattle.plant_model.specs.{Service.{outage}, declared.{call.{Call.{Call}, Request.{Request}}, rows.{UnitRow.{UnitRow}, UnitRows.{UnitRows}}}}
 use Rattle.plant_model.specs.declared.{call.Request.TheVariants.{Approve, Propose, Reject, WithdrawChange}, reply.ChangeRow.{ChangeRow}}

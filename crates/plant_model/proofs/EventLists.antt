@@ -9,7 +9,8 @@ use Rattle.plant_import.specs.{Merging.{IsRising, clashes, first_fault, fresh, m
 use Rattle.plant_import.specs.declared.bad_file.Cause.TheVariants.{MomentAhead, MomentOutOfOrder, SequenceClash, TagUnknown}
 use Rattle.plant_import.proofs.public.FileLaws.{clash_of, file_fits, first_member, fit_member, fit_of, fit_within, in_back, in_front, kept_fresh, member, none_within}
 use Rattle.plant_import.proofs.public.{Nearest.{order_above, same_any, same_is}, EachLaws.{Each}, Risings.{Before, Rising, is_rising}}
-use Rattle.plant_model.{specs.RowFacts.{event_number}, proofs.public.{FactLaws.{same_number_of}, PutLaws.{said}, RowsFound.{less}}}
+use Rattle.plant_model.proofs.public.{FactLaws.{same_number_of}, PutLaws.{said}, RowsFound.{less}}
+use Rattle.plant_model.specs.steps.RowFacts.{event_number}
 use Rattle.plant_types.{specs.{KeyedRows.{IsInOrder}, Names.{Name, same_name}, Options.{or_else, when}}, proofs.public.Halves.{first, second}}
 
 -- what a list has at a number: one of its events, or none

@@ -5,12 +5,14 @@ use Rattle.std.proofs.lemmas.{Bool.{and_parts, not-true, or_left, or_right}, Lis
 use Rattle.plant_alarm.specs.declared.event.Event.{Event}
 use Rattle.plant_floods.specs.Activations.{of_alarm}
 use Rattle.plant_import.{specs.{Merging.{first_fault, fresh}, Numbers.{has_number}, declared.bad_file.BadFile.{BadFile}}, proofs.public.Counted.{any_fresh, any_puts}}
-use Rattle.plant_model.specs.{Calls.{changes_for, unit_after}, Changes.{change, change_as, draft, proposals}, Events.{events}, Facts.{facts}, Histories.{same_number}}
-use Rattle.plant_model.specs.{Keys.{AllPutOverSeen, PutsOverSeen, has_key}, Laws.{PutsOverWhatIsSeen}, Legality.{IsLegal}, Refusals.{tags_of}}
+use Rattle.plant_model.specs.{Changes.{change, change_as, draft, proposals}, Events.{events}, Facts.{facts}, Histories.{same_number}}
+use Rattle.plant_model.specs.steps.CallChanges.{changes_for, unit_after}
+use Rattle.plant_model.specs.{Legality.{IsLegal}, Refusals.{tags_of}}
+use Rattle.plant_model.specs.steps.Keys.{AllPutOverSeen, PutsOverSeen, has_key, PutsOverWhatIsSeen}
 use Rattle.plant_model.specs.Matrices.{BandKey, CellKey, band_at, band_cmp, cell_cmp, cell_of, cells_of_row, band_places, cell_places, matrix_numbered}
-use Rattle.plant_model.specs.Parts.{Selection, is_crowded, of_approved, of_content, of_records, of_topic, part_of, part_of_holder, part_of_stranger, rows_selected, selected, with_number}
-use Rattle.plant_model.specs.RowChanges.{events_with_file, approval_changes, cells_of, changed, decided_as, decision_change, for_change, in_force, is_touched, kind_changes, new_events, placed_in, put, rerated, taken_out, with_state}
-use Rattle.plant_model.specs.RowFacts.{alarm_tag, band_key, cell_key, change_found, change_number, holds_by, pair_of, record_tag, shelf_tag}
+use Rattle.plant_model.specs.steps.Parts.{Selection, is_crowded, of_approved, of_content, of_records, of_topic, part_of, part_of_holder, part_of_stranger, rows_selected, selected, with_number}
+use Rattle.plant_model.specs.steps.RowChanges.{events_with_file, approval_changes, cells_of, changed, decided_as, decision_change, for_change, in_force, is_touched, kind_changes, new_events, placed_in, put, rerated, taken_out, with_state}
+use Rattle.plant_model.specs.steps.RowFacts.{alarm_tag, band_key, cell_key, change_found, change_number, holds_by, pair_of, record_tag, shelf_tag}
 use Rattle.plant_model.specs.Rows.{alarm_row, alarm_rows, band_row, cell_row, change_entry, record_entry, records_of, rows_of, tag_of_kind, topic_of, with_limit}
 use Rattle.plant_model.specs.{Verdicts.{changes_history, is_opening, verdict, verdict_of}, declared.call.{Call.{Call}, Request.{Request}}}
 use Rattle.plant_model.specs.declared.call.Request.TheVariants.{Approve, Grant, Import, OneShotShelve, OpenUnit, PlaceInService, Propose, Register, Reject, RemoveFromService, TimedShelve, Unshelve, Withdraw, WithdrawChange}

@@ -2,9 +2,10 @@
 use Rattle.std.specs.{Cmp.{eq_by_cmp_equiv, IsTotalOrder}, List.{enumerate_from, list_any, range_with_len, slice_get}}
 use Rattle.std.{specs.Ordering.{eq_by_cmp, ordering_then}, proofs.lemmas.{Bool.{or_left, or_right}, List.Folds.{list_any-append}}}
 use Rattle.std.proofs.Common.{if◌then◌else◌, ◌≤◌, List, None, Option, Some, [], cond, false, filter_map, flat_map, length, map, option_and_then, option_map, suc, true, zero, ℕ, ◌+◌, ◌||◌, ◌∷◌, ◌≡◌, ◌⊎◌, ap, arith, inl, inr, refl, subst, sym, ◌∙◌, is_eq, nat_cmp, Ordering, Equal, true≢false, Less, Greater}
-use Rattle.plant_model.specs.{Changes.{is_proposal, matrix_in, proposals}, Histories.{all_named, same_number}}
-use Rattle.plant_model.specs.Matrices.{BandKey, CellKey, at_place, band_at, band_cmp, band_places, cell_cmp, cell_of, cell_places, cells_of_row, matrix_numbered, numbered_matrix, places_in, when_number}
-use Rattle.plant_model.specs.{Parts.{none}, RowFacts.{band_key, cell_key}, Rows.{band_row, cell_row}, declared.call.{Call.{Call}, Request.{Request}}}
+use Rattle.plant_model.specs.{Changes.{is_proposal, matrix_in, proposals}, Histories.{all_named, of_key, same_number}}
+use Rattle.plant_model.specs.Matrices.{BandKey, CellKey, at_place, band_at, band_cmp, band_places, cell_cmp, cell_of, cell_places, cells_of_row, matrix_numbered, numbered_matrix, places_in}
+use Rattle.plant_model.specs.{Rows.{band_row, cell_row}, declared.call.{Call.{Call}, Request.{Request}}}
+use Rattle.plant_model.specs.steps.{Parts.{none}, RowFacts.{band_key, cell_key}}
 use Rattle.plant_model.specs.declared.{call.Request.TheVariants.{OpenUnit, Propose}, rows.{BandRow.{BandRow}, CellRow.{CellRow}}}
 use Rattle.plant_model.proofs.public.{FactLaws.{same_number_of}, HistoryLaws.{latest-named, mapped_key, when_Some}}
 use Rattle.plant_model.proofs.public.PlaceOrders.{band_total, cell_total, same_bands, same_cells}
@@ -125,7 +126,7 @@ module _ {K X : Type 0} {R : K → K → Ordering} (total : IsTotalOrder R) (sam
     (of : K → Grid → Option X) (places : ℕ → Grid → List K)
     (keyed : (k : K) (m : Grid) (r : X) → of k m ≡ Some r → key r ≡ k)
     (here : (k : K) (m : Grid) → (of k m ≡ None) ⊎ (list_any (eq_by_cmp R k) (places (number k) m) ≡ true)) where
-  named : (k : K) (o : Option (ℕ × Grid)) (m : Grid) → when_number (number k) o ≡ Some m
+  named : (k : K) (o : Option (ℕ × Grid)) (m : Grid) → of_key same_number (number k) o ≡ Some m
       → (of k m ≡ None) ⊎ (list_any (eq_by_cmp R k) (places_in places o) ≡ true)
   named k None m e = cc
   named k (Some x) m e =
@@ -147,7 +148,7 @@ module _ {K X : Type 0} {R : K → K → Ordering} (total : IsTotalOrder R) (sam
         order = total;
         same = same;
         at_key = λ k r e. keyed_in k (matrix_numbered h (number k)) r e;
-        among = λ k. latest-named R (λ c before. when_number (number k) (numbered_matrix before c.request)) (option_and_then (of k))
+        among = λ k. latest-named R (λ c before. of_key same_number (number k) (numbered_matrix before c.request)) (option_and_then (of k))
             (λ c before. places_in places (numbered_matrix before c.request)) k refl
             (λ c before m is. named k (numbered_matrix before c.request) m is) h;
       }
@@ -210,7 +211,7 @@ cells_anew h n no_such m q =
 
 -- no matrix has the next number
 kind_bound : (h : List Call) (n : ℕ) (k : ChangeKind) (m : Grid) (rest : Option Grid) → (rest ≡ Some m → n ≤ proposals h)
-    → or_else (when_number n (matrix_in (proposals h + 1) (Some k))) rest ≡ Some m → n ≤ proposals h + 1
+    → or_else (of_key same_number n (matrix_in (proposals h + 1) (Some k))) rest ≡ Some m → n ≤ proposals h + 1
 kind_bound h n (Matrix x) m rest before e =
     elim (same_number n (proposals h + 1)) as (λ b. same_number n (proposals h + 1) ≡ b → or_else (when b x) rest ≡ Some m → n ≤ proposals h + 1) [
       | true ↦ λ s _. let is : n ≡ proposals h + 1 = same_number_of n (proposals h + 1) s in omega (arith, is)
@@ -220,7 +221,7 @@ kind_bound h n (Rationale a s) m rest before e = let less : n ≤ proposals h = 
 kind_bound h n (Limit a x) m rest before e = let less : n ≤ proposals h = before e in omega (arith, less)
 
 number_step : (h : List Call) (n : ℕ) (q : Request) (m : Grid) (rest : Option Grid) → (rest ≡ Some m → n ≤ proposals h)
-    → or_else (when_number n (numbered_matrix h q)) rest ≡ Some m → n ≤ (if is_proposal q then proposals h + 1 else proposals h)
+    → or_else (of_key same_number n (numbered_matrix h q)) rest ≡ Some m → n ≤ (if is_proposal q then proposals h + 1 else proposals h)
 number_step h n (OpenUnit u s x qu) m rest before e =
     elim (same_number n 0) as (λ b. same_number n 0 ≡ b → or_else (when b x) rest ≡ Some m → n ≤ proposals h) [
       | true ↦ λ s _. let is : n ≡ 0 = same_number_of n 0 s in omega (arith, is)

@@ -1,7 +1,9 @@
 -- Worked examples: the rows that calls leave, and that the part which a call looks at gives its verdict and its changes.
 use Rattle.std.proofs.Common.{refl, List, Some, [], codes, true, ◌∷◌, ◌≡◌}
-use Rattle.plant_model.specs.{Calls.{changes_for}, Facts.{facts}, Parts.{part_of}, Refusals.{holds_some}, RowChanges.{changed_by, no_rows}}
-use Rattle.plant_model.specs.{RowFacts.{facts_in}, Rows.{rows_of}, Verdicts.{verdict, verdict_of}, declared.call.Call.{Call}}
+use Rattle.plant_model.specs.{Facts.{facts}, Refusals.{holds_some}}
+use Rattle.plant_model.specs.steps.{CallChanges.{changes_for}, Parts.{part_of}, RowChanges.{changed_by, no_rows}}
+use Rattle.plant_model.specs.{Rows.{rows_of}, Verdicts.{verdict, verdict_of}, declared.call.Call.{Call}}
+use Rattle.plant_model.specs.steps.RowFacts.{facts_in}
 use Rattle.plant_model.specs.declared.call.Request.TheVariants.{Grant, OneShotShelve, OpenUnit, Register, TimedShelve, Unshelve, Withdraw}
 use Rattle.plant_model.proofs.public.Base.{amy, ann, at, base, bob, call, eve, grid, lt, opened, pt, root, ste, u1, vic, x}
 use Rattle.plant_ration.specs.declared.cell.Cell.TheVariants.{P1, P2, P3, P4}

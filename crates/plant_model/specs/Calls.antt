@@ -1,21 +1,16 @@
--- What each call does to a unit: its refusals in their order, its reply and its changes, with one line a kind in each
--- table.
-use Rattle.std.specs.Prelude.{Bool, List, None, Option, Some, [], false, is_none, is_some, nat_le, nat_lt, not, true, ℕ, ◌&&◌, ◌++◌, ◌+◌, ◌∷◌}
+-- What a unit answers to each call: its refusals in their order and its reply, with one line a kind in each table.
+use Rattle.std.specs.Prelude.{Bool, List, None, Option, Some, [], is_none, is_some, nat_le, nat_lt, not, ℕ, ◌&&◌, ◌++◌, ◌+◌, ◌∷◌}
 use Rattle.plant_alarm.specs.Shelves.{is_one_shot, is_timed, is_unshelved}
-use Rattle.plant_model.specs.{Changes.{change_as}, Events.{flood_lines, is_aligned, rows_of_file}, Facts.{Facts, is_out, limit_of, shelf_now}}
-use Rattle.plant_model.specs.{Grants.{is_before}, Refusals.{file_refusals, kind_refusals, kind_unknown, of_change, over_quota, unknown}}
+use Rattle.plant_model.specs.{Events.{flood_lines, is_aligned, rows_of_file}, Facts.{Facts, is_out, limit_of, shelf_now}}
+use Rattle.plant_model.specs.Grants.{is_before}
+use Rattle.plant_model.specs.{Refusals.{file_refusals, kind_refusals, kind_unknown, of_change, over_quota, unknown}}
 use Rattle.plant_model.specs.Replies.{alarm_lines, change_reply, import_reply, shelf_lines, standing_lines, status_reply}
-use Rattle.plant_model.specs.RowChanges.{approval_changes, approved_row, decision_change, for_change, import_changes, kind_changes, matrix_changes, placed_in, taken_out, with_alarm}
-use Rattle.plant_model.specs.{Rows.{alarm_as, change_entry, grant_as}, Shelves.{shelf_row_as}, declared.call.{Call.{Call}, Request.{Request}}}
+use Rattle.plant_model.specs.declared.call.Request.{Request}
 use Rattle.plant_model.specs.declared.call.Request.TheVariants.{Alarms, Approve, ChangeOf, Floods, Grant, Import, MyShelves, MyUnits, OneShotShelve, OpenUnit, PlaceInService, Propose, RecordOf, Register, Reject, RemoveFromService, Shelves, Standing, Status, TimedShelve, Unshelve, Withdraw, WithdrawChange}
 use Rattle.plant_model.specs.declared.reply.Full.TheVariants.{Alarms as TooManyAlarms, Changes as TooManyChanges, Grants as TooManyGrants}
 use Rattle.plant_model.specs.declared.reply.{RecordRow.{RecordRow}, Refused.{Refused}, Reply.{Reply}}
 use Rattle.plant_model.specs.declared.reply.Refused.TheVariants.{AlarmTaken, AlreadyHeld, AlreadyOutOfService, ChangeUnknown, ConditionAlreadyShelved, ConditionNotShelved, EndNotAhead, LastSteward, NotHeld, NotOutOfService, NotProposer, RangeNotAligned, RecordUnknown, SamePerson, ShelvingTimeOutOfRange, UnitFull}
 use Rattle.plant_model.specs.declared.reply.Reply.TheVariants.{Alarms as AlarmsOf, Done, Floods as FloodsOf, Number, RecordOf as RecordReply, Shelves as ShelvesOf, Standing as StandingOf}
-use Rattle.plant_model.specs.declared.rows.Key.TheVariants.{Grant as GrantKey, Shelf as ShelfKey}
-use Rattle.plant_model.specs.declared.rows.Row.TheVariants.{Alarm as AlarmPut, Change as ChangePut, Grant as GrantPut, Shelf as ShelfPut, Unit as UnitPut}
-use Rattle.plant_model.specs.declared.rows.{RowEdit.{RowEdit, TheVariants.{Put, Remove}}, UnitRow.{UnitRow}}
-use Rattle.plant_ration.specs.declared.change.ChangeState.TheVariants.{Rejected, Withdrawn}
 use Rattle.plant_types.specs.{Limits.{max_alarms, max_changes, max_grants}, Names.{Name, same_name}, Roles.{same_role}}
 use Rattle.plant_types.specs.declared.role.Role.TheVariants.{Steward}
 
@@ -85,70 +80,3 @@ reply f t (Approve u n) = Done
 reply f t (Reject u n) = Done
 reply f t MyUnits = Done
 reply f t MyShelves = Done
-
--- the changes that an accepted call makes beside that of the unit's row
-abbrev pub own_changes : Facts → Name → ℕ → Request → List RowEdit
-own_changes f p t (OpenUnit u s m q) = Put (GrantPut (grant_as (s, Steward) None)) ∷ matrix_changes 0 m
-own_changes f p t (Grant u q r) = Put (GrantPut (grant_as (q, r.0) r.1)) ∷ []
-own_changes f p t (Withdraw u q r) = Remove (GrantKey q r) ∷ []
-own_changes f p t (Register u a l max) = Put (AlarmPut (alarm_as a max 0 [] None l)) ∷ []
-own_changes f p t (Import u file) = import_changes f (rows_of_file file)
-own_changes f p t (TimedShelve u a d w) = Put (ShelfPut (shelf_row_as false t (t + d) p w a)) ∷ []
-own_changes f p t (OneShotShelve u a w) = Put (ShelfPut (shelf_row_as true t (t + limit_of f a) p w a)) ∷ []
-own_changes f p t (Unshelve u a) = Remove (ShelfKey a) ∷ []
-own_changes f p t (RemoveFromService u a w) = with_alarm f a (taken_out p t w)
-own_changes f p t (PlaceInService u a) = with_alarm f a placed_in
-own_changes f p t (Propose u x) =
-    Put (ChangePut
-    (change_entry (change_as (f.change_count + 1) None (record {
-      proposer = p;
-      proposed = t;
-      kind = x.kind;
-      base = x.base;
-    })))) ∷ kind_changes (f.change_count + 1) x.kind
-own_changes f p t (WithdrawChange u n) = for_change (f.change n) (λ c. decision_change Withdrawn p t c ∷ [])
-own_changes f p t (Approve u n) = for_change (f.change n) (approval_changes f p t)
-own_changes f p t (Reject u n) = for_change (f.change n) (λ c. decision_change Rejected p t c ∷ [])
-own_changes f p t (Status u a) = []
-own_changes f p t (RecordOf u a) = []
-own_changes f p t (ChangeOf u n) = []
-own_changes f p t (Shelves u) = []
-own_changes f p t (Alarms u) = []
-own_changes f p t (Standing u) = []
-own_changes f p t (Floods u begin until) = []
-own_changes f p t MyUnits = []
-own_changes f p t MyShelves = []
-
--- the unit's row with this last moment
-abbrev pub at_moment : Facts → ℕ → UnitRow
-at_moment f t = record f.unit { last_s = t }
-
--- the unit's row after it: its last moment, the matrix in force and the quota. Reading leaves it
-abbrev pub unit_after : Facts → ℕ → Request → UnitRow
-unit_after f t (OpenUnit u s m q) = record { last_s = t; matrix_no = 0; matrix_rev = 0; quota = q }
-unit_after f t (Approve u n) = approved_row t f.unit (f.change n)
-unit_after f t (Grant u q r) = at_moment f t
-unit_after f t (Withdraw u q r) = at_moment f t
-unit_after f t (Register u a l max) = at_moment f t
-unit_after f t (Import u file) = at_moment f t
-unit_after f t (TimedShelve u a d w) = at_moment f t
-unit_after f t (OneShotShelve u a w) = at_moment f t
-unit_after f t (Unshelve u a) = at_moment f t
-unit_after f t (RemoveFromService u a w) = at_moment f t
-unit_after f t (PlaceInService u a) = at_moment f t
-unit_after f t (Propose u x) = at_moment f t
-unit_after f t (WithdrawChange u n) = at_moment f t
-unit_after f t (Reject u n) = at_moment f t
-unit_after f t (Status u a) = f.unit
-unit_after f t (RecordOf u a) = f.unit
-unit_after f t (ChangeOf u n) = f.unit
-unit_after f t (Shelves u) = f.unit
-unit_after f t (Alarms u) = f.unit
-unit_after f t (Standing u) = f.unit
-unit_after f t (Floods u begin until) = f.unit
-unit_after f t MyUnits = f.unit
-unit_after f t MyShelves = f.unit
-
--- all changes that an accepted call makes
-abbrev pub changes_for : Facts → Call → List RowEdit
-changes_for f c = Put (UnitPut (unit_after f c.moment c.request)) ∷ own_changes f c.person c.moment c.request

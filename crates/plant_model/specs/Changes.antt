@@ -1,6 +1,6 @@
 -- Management of change (ISA-18.2, IEC 62682): proposals, their decisions, and what is in force.
 use Rattle.std.specs.Prelude.{Bool, List, None, Option, Some, [], is_some, option_and_then, option_map, unwrap_or, ℕ, ◌+◌}
-use Rattle.plant_model.specs.{Histories.{counted, latest, same_number}, Kinds.{Opening, says}, declared.call.{Call.{Call}, Request.{Request}}}
+use Rattle.plant_model.specs.{Histories.{counted, latest, of_key, same_number}, Kinds.{Opening, says}, declared.call.{Call.{Call}, Request.{Request}}}
 use Rattle.plant_model.specs.declared.reply.{ChangeRow.{ChangeRow}, RecordRow.{RecordRow}}
 use Rattle.plant_ration.specs.{Grid.{Grid}, Matrix.{priority_of}, declared.{cell.Cell.{Cell, TheVariants.{N}}, change.ChangeKind.{ChangeKind}}}
 use Rattle.plant_ration.specs.declared.change.{ChangeKind.TheVariants.{Limit, Matrix, Rationale}, ChangeState.{ChangeState}}
@@ -41,14 +41,12 @@ said_of_draft n p t before r = draft_by n p t before (says r).proposal
 abbrev pub draft : List Call → ℕ → Option Draft
 draft h n = latest (λ c before. said_of_draft n c.person c.moment before c.request) h
 
--- what a decision says of the change of a number: nothing where it decides another
-abbrev pub decision_by : ℕ → Name → ℕ → Option (ℕ × ChangeState) → Option Decision
-decision_by n p t None = None
-decision_by n p t (Some (m, state)) = when (same_number n m) (record { state = state; decider = p; decided = t })
+abbrev pub decision_as : Name → ℕ → ℕ × ChangeState → ℕ × Decision
+decision_as p t e = (e.0, record { state = e.1; decider = p; decided = t })
 
 -- that the change of a number is withdrawn, approved or rejected
 abbrev pub said_of_decision : ℕ → Name → ℕ → Request → Option Decision
-said_of_decision n p t r = decision_by n p t (says r).decision
+said_of_decision n p t r = of_key same_number n (option_map (decision_as p t) (says r).decision)
 
 abbrev pub decision : List Call → ℕ → Option Decision
 decision h n = latest (λ c before. said_of_decision n c.person c.moment c.request) h
@@ -78,24 +76,31 @@ change h n = option_map (change_as n (decision h n)) (draft h n)
 abbrev pub kind_of_change : List Call → ℕ → Option ChangeKind
 kind_of_change h n = option_map (λ d. d.kind) (draft h n)
 
+-- what a change is of: a matrix, an alarm's record, an alarm's limit
+abbrev pub matrix_of_kind : ChangeKind → Option Grid
+matrix_of_kind (Rationale b s) = None
+matrix_of_kind (Matrix m) = Some m
+matrix_of_kind (Limit b max) = None
+
+abbrev pub rationale_of_kind : ChangeKind → Option (Name × Sheet)
+rationale_of_kind (Rationale b s) = Some (b, s)
+rationale_of_kind (Matrix m) = None
+rationale_of_kind (Limit b max) = None
+
+abbrev pub limit_of_kind : ChangeKind → Option (Name × ℕ)
+limit_of_kind (Rationale b s) = None
+limit_of_kind (Matrix m) = None
+limit_of_kind (Limit b max) = Some (b, max)
+
 -- a change of the matrix, with its number; of an alarm's record, with its number; of an alarm's limit
 abbrev pub matrix_in : ℕ → Option ChangeKind → Option (ℕ × Grid)
-matrix_in n None = None
-matrix_in n (Some (Rationale b s)) = None
-matrix_in n (Some (Matrix m)) = Some (n, m)
-matrix_in n (Some (Limit b max)) = None
+matrix_in n kind = option_map (λ m. (n, m)) (option_and_then matrix_of_kind kind)
 
 abbrev pub sheet_in : Name → ℕ → Option ChangeKind → Option (ℕ × Sheet)
-sheet_in a n None = None
-sheet_in a n (Some (Rationale b s)) = when (same_name a b) (n, s)
-sheet_in a n (Some (Matrix m)) = None
-sheet_in a n (Some (Limit b max)) = None
+sheet_in a n kind = of_key same_name a (option_map (λ e. (e.0, (n, e.1))) (option_and_then rationale_of_kind kind))
 
 abbrev pub limit_in : Name → Option ChangeKind → Option ℕ
-limit_in a None = None
-limit_in a (Some (Rationale b s)) = None
-limit_in a (Some (Matrix m)) = None
-limit_in a (Some (Limit b max)) = when (same_name a b) max
+limit_in a kind = of_key same_name a (option_and_then limit_of_kind kind)
 
 abbrev pub number_if_approved : Option (ℕ × ChangeState) → Option ℕ
 number_if_approved None = None

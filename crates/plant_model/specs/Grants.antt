@@ -1,16 +1,11 @@
 -- Which roles a person holds in a unit, and until when.
 use Rattle.std.specs.{List.{list_any}, Prelude.{Bool, List, None, Option, Some, false, filter, is_some, nat_lt, option_map, true, unwrap_or, ℕ}}
-use Rattle.plant_model.specs.{Histories.{Said, latest, still}, Kinds.{says}, declared.call.{Call.{Call}, Request.{Request}}}
-use Rattle.plant_types.specs.{Names.{Name}, Options.{when}, Roles.{Pair, all_roles, same_pair}, declared.role.Role.{Role}}
-
--- what a grant or a withdrawal says of a pair: nothing where it is of another pair
-abbrev pub pair_by : Pair → Option (Pair × Said (Option ℕ)) → Option (Said (Option ℕ))
-pair_by k None = None
-pair_by k (Some (l, said)) = when (same_pair k l) said
+use Rattle.plant_model.specs.{Histories.{Said, latest, of_key, still}, Kinds.{says}, declared.call.{Call.{Call}, Request.{Request}}}
+use Rattle.plant_types.specs.{Names.{Name}, Roles.{Pair, all_roles, same_pair}, declared.role.Role.{Role}}
 
 -- what a request says of a pair: that it stands until an end (None: for good), or that it is over
 abbrev pub said_of_pair : Pair → Request → Option (Said (Option ℕ))
-said_of_pair k r = pair_by k (says r).pair
+said_of_pair k r = of_key same_pair k (says r).pair
 
 -- until when the pair stands, where the last that was said of it is that it stands
 abbrev pub standing : List Call → Pair → Option (Option ℕ)

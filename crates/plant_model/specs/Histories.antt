@@ -1,7 +1,7 @@
 -- A unit's history: the list of its accepted changing calls, the newest first.
-use Rattle.std.specs.{Ordering.{eq_by_cmp, nat_cmp}, Prelude.{if◌then◌else◌, ◌+◌, Bool, List, None, Option, Some, [], ℕ, ◌++◌, ◌∷◌}}
+use Rattle.std.specs.{Ordering.{eq_by_cmp, nat_cmp}, Prelude.{if◌then◌else◌, ◌+◌, Bool, List, None, Option, Some, [], true, ℕ, ◌++◌, ◌∷◌}}
 use Rattle.plant_model.specs.declared.call.Call.{Call}
-use Rattle.plant_types.specs.Options.{or_else}
+use Rattle.plant_types.specs.Options.{or_else, when}
 
 -- what the newest entry that says something says. An entry is seen with what came before it
 abbrev pub latest : {A : Type 0} → (Call → List Call → Option A) → List Call → Option A
@@ -17,10 +17,25 @@ abbrev pub what_stands : {A : Type 0} → Said A → Option A
 what_stands (Begins x) = Some x
 what_stands Over = None
 
+-- the same of what is made of the thing
+abbrev pub said_as : {A B : Type 0} → (A → B) → Said A → Said B
+said_as make (Begins x) = Begins (make x)
+said_as make Over = Over
+
 -- what still stands, by what was said last
 abbrev pub still : {A : Type 0} → Option (Said A) → Option A
 still None = None
 still (Some said) = what_stands said
+
+-- what is said of this key: nothing where it is said of another
+abbrev pub of_key : {K A : Type 0} → (K → K → Bool) → K → Option (K × A) → Option A
+of_key same k None = None
+of_key same k (Some e) = when (same k e.0) e.1
+
+-- it passes, if there is one
+abbrev pub passes : {A : Type 0} → (A → Bool) → Option A → Bool
+passes test None = true
+passes test (Some x) = test x
 
 -- how many entries pass
 abbrev pub counted : (Call → List Call → Bool) → List Call → ℕ

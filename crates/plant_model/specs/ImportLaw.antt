@@ -1,10 +1,10 @@
 -- Imports agree: which file has which rows, and in which order they come, makes no difference.
 use Rattle.std.specs.List.{list_all}
-use Rattle.std.specs.Prelude.{flat_map, Err, List, None, Ok, Option, Result, Some, [], is_some, length, map, nat_le, true, ℕ, ◌++◌, ◌+◌, ◌∷◌, ◌≡◌, ◌≤◌}
+use Rattle.std.specs.Prelude.{flat_map, Err, List, Ok, Result, Some, [], is_ok, is_some, length, map, nat_le, option_map, true, ℕ, ◌++◌, ◌+◌, ◌∷◌, ◌≡◌, ◌≤◌}
 use Rattle.plant_alarm.specs.declared.event.Event.{Event}
-use Rattle.plant_import.specs.{Files.{SameMembers, is_fit}, Merging.{fresh}, declared.bad_file.BadFile.{BadFile}}
+use Rattle.plant_import.specs.{Files.{SameMembers, is_fit}, Merging.{fresh}}
 use Rattle.plant_model.specs.{Alarms.{latching}, Events.{events, imported}, Grants.{held}, Histories.{last_moment}}
-use Rattle.plant_model.specs.{Kinds.{OneUnit, OwnShelves, OwnUnits, Subject, says, subject_of}, Legality.{IsLegal}, Rows.{rows_of}}
+use Rattle.plant_model.specs.{Kinds.{says, unit_named}, Legality.{IsLegal}, Rows.{rows_of}}
 use Rattle.plant_model.specs.{Verdicts.{changes_history, verdict}, declared.{call.{Call.{Call}, Request.{Request}}, reply.Refused.{Refused}}}
 use Rattle.plant_model.specs.declared.{reply.Reply.{Reply}, rows.{UnitRow.{UnitRow}, UnitRows.{UnitRows}}}
 use Rattle.plant_types.specs.{Limits.{max_events}, Names.{Name}, declared.role.Role.TheVariants.{Operator}}
@@ -14,16 +14,10 @@ use Rattle.plant_model.specs.declared.reply.Reply.TheVariants as reply
 abbrev pub rows_imported : List Call → List Event
 rows_imported calls = flat_map (λ c. imported c.request) calls
 
--- a request that imports a file that was read without fault
-abbrev pub IsFileFor : Name → Option (Result (List Event) BadFile) → Subject → Type 0
-IsFileFor u None about = ⊥
-IsFileFor u (Some (Err fault)) about = ⊥
-IsFileFor u (Some (Ok rows)) (OneUnit v) = v ≡ u
-IsFileFor u (Some (Ok rows)) OwnUnits = ⊥
-IsFileFor u (Some (Ok rows)) OwnShelves = ⊥
-
-abbrev pub IsImportOf : Name → Request → Type 0
-IsImportOf u r = IsFileFor u (says r).file (subject_of r)
+-- a request on this unit that imports a file that was read without fault
+pub record IsImportOf (u : Name) (r : Request) : Type 0 where
+  pub unit : unit_named r ≡ Some u
+  pub file : option_map is_ok (says r).file ≡ Some true
 
 -- an import by a person who holds Operator at its moment, of rows of registered alarms; the moment lies before no event
 pub record IsImportInto (h : List Call) (u : Name) (es : List Event) (c : Call) : Type 0 where

@@ -1,41 +1,15 @@
--- The kinds of calls: what all calls of a kind have in common, and what a request of each kind is about, says and looks
--- at. Each table has one line a kind.
+-- The kinds of calls: what all calls of a kind have in common, and what a request of each kind says. Each table has one
+-- line a kind.
 use Rattle.std.specs.Prelude.{Bool, Err, List, None, Ok, Option, Result, Some, [], false, true, ℕ}
 use Rattle.plant_alarm.specs.declared.event.Event.{Event}
 use Rattle.plant_import.specs.declared.bad_file.BadFile.{BadFile}
-use Rattle.plant_model.specs.{Histories.{Begins, Over, Said}, declared.{call.Request.{Request}, kinds.{CallKind.{CallKind}, Counted.{Counted}}}}
+use Rattle.plant_model.specs.{Histories.{Begins, Over, Said}, declared.{call.Request.{Request}, kinds.Counted.{Counted}}}
 use Rattle.plant_model.specs.declared.kinds.Effect.{Effect, TheVariants.{Changes, Opens, Reads}}
-use Rattle.plant_ration.specs.{Grid.{Grid}, declared.change.ChangeKind.{ChangeKind, TheVariants.{Limit, Matrix, Rationale}}}
+use Rattle.plant_ration.specs.Grid.{Grid}
 use Rattle.plant_ration.specs.declared.change.{ChangeState.{ChangeState, TheVariants.{Approved, Rejected, Withdrawn}}, Proposal.{Proposal}}
 use Rattle.plant_types.specs.{Names.{Name}, Roles.{Pair}, declared.role.Role.{Role, TheVariants.{Approver, Engineer, Maintainer, Operator, Steward}}}
 use Rattle.plant_model.specs.declared.call.Request.TheVariants as request
-use Rattle.plant_model.specs.declared.kinds.CallKind.TheVariants as kind
 use Rattle.plant_model.specs.declared.kinds.Counted.TheVariants as count
-
-abbrev pub kind_of : Request → CallKind
-kind_of (request.OpenUnit u s m q) = kind.OpenUnit
-kind_of (request.Grant u p t) = kind.Grant
-kind_of (request.Withdraw u p r) = kind.Withdraw
-kind_of (request.Register u a latching max) = kind.Register
-kind_of (request.Import u file) = kind.Import
-kind_of (request.TimedShelve u a d words) = kind.TimedShelve
-kind_of (request.OneShotShelve u a words) = kind.OneShotShelve
-kind_of (request.Unshelve u a) = kind.Unshelve
-kind_of (request.RemoveFromService u a words) = kind.RemoveFromService
-kind_of (request.PlaceInService u a) = kind.PlaceInService
-kind_of (request.Propose u x) = kind.Propose
-kind_of (request.WithdrawChange u n) = kind.WithdrawChange
-kind_of (request.Approve u n) = kind.Approve
-kind_of (request.Reject u n) = kind.Reject
-kind_of (request.Status u a) = kind.Status
-kind_of (request.RecordOf u a) = kind.RecordOf
-kind_of (request.ChangeOf u n) = kind.ChangeOf
-kind_of (request.Shelves u) = kind.Shelves
-kind_of (request.Alarms u) = kind.Alarms
-kind_of (request.Standing u) = kind.Standing
-kind_of (request.Floods u begin until) = kind.Floods
-kind_of request.MyUnits = kind.MyUnits
-kind_of request.MyShelves = kind.MyShelves
 
 -- what a request is about: one unit, or the units in which its caller holds a role, as a list of them or of their
 -- shelves
@@ -44,30 +18,45 @@ pub data Subject : Type 0 where
   OwnUnits : Subject
   OwnShelves : Subject
 
+-- what a request does to its unit's history, the role that it needs, where it needs one in particular, the count that
+-- it needs, and what it is about
+abbrev pub traits_of : Request → Effect × Option Role × Counted × Subject
+traits_of (request.OpenUnit u s m q) = (Opens, None, count.Nothing, OneUnit u)
+traits_of (request.Grant u p t) = (Changes, Some Steward, count.Nothing, OneUnit u)
+traits_of (request.Withdraw u p r) = (Changes, Some Steward, count.Nothing, OneUnit u)
+traits_of (request.Register u a latching max) = (Changes, Some Engineer, count.Alarms, OneUnit u)
+traits_of (request.Import u file) = (Changes, Some Operator, count.Events, OneUnit u)
+traits_of (request.TimedShelve u a d words) = (Changes, Some Operator, count.Nothing, OneUnit u)
+traits_of (request.OneShotShelve u a words) = (Changes, Some Operator, count.Nothing, OneUnit u)
+traits_of (request.Unshelve u a) = (Changes, Some Operator, count.Nothing, OneUnit u)
+traits_of (request.RemoveFromService u a words) = (Changes, Some Maintainer, count.Nothing, OneUnit u)
+traits_of (request.PlaceInService u a) = (Changes, Some Maintainer, count.Nothing, OneUnit u)
+traits_of (request.Propose u x) = (Changes, Some Engineer, count.Changes, OneUnit u)
+traits_of (request.WithdrawChange u n) = (Changes, Some Engineer, count.Nothing, OneUnit u)
+traits_of (request.Approve u n) = (Changes, Some Approver, count.Nothing, OneUnit u)
+traits_of (request.Reject u n) = (Changes, Some Approver, count.Nothing, OneUnit u)
+traits_of (request.Status u a) = (Reads, None, count.Nothing, OneUnit u)
+traits_of (request.RecordOf u a) = (Reads, None, count.Nothing, OneUnit u)
+traits_of (request.ChangeOf u n) = (Reads, None, count.Nothing, OneUnit u)
+traits_of (request.Shelves u) = (Reads, None, count.Nothing, OneUnit u)
+traits_of (request.Alarms u) = (Reads, None, count.Nothing, OneUnit u)
+traits_of (request.Standing u) = (Reads, None, count.Nothing, OneUnit u)
+traits_of (request.Floods u begin until) = (Reads, None, count.Nothing, OneUnit u)
+traits_of request.MyUnits = (Reads, None, count.Nothing, OwnUnits)
+traits_of request.MyShelves = (Reads, None, count.Nothing, OwnShelves)
+
+-- each of them by itself
+abbrev pub effect_of : Request → Effect
+effect_of r = (traits_of r).0
+
+abbrev pub role_needed : Request → Option Role
+role_needed r = (traits_of r).1
+
+abbrev pub count_of : Request → Counted
+count_of r = (traits_of r).2
+
 abbrev pub subject_of : Request → Subject
-subject_of (request.OpenUnit u s m q) = OneUnit u
-subject_of (request.Grant u p t) = OneUnit u
-subject_of (request.Withdraw u p r) = OneUnit u
-subject_of (request.Register u a latching max) = OneUnit u
-subject_of (request.Import u file) = OneUnit u
-subject_of (request.TimedShelve u a d words) = OneUnit u
-subject_of (request.OneShotShelve u a words) = OneUnit u
-subject_of (request.Unshelve u a) = OneUnit u
-subject_of (request.RemoveFromService u a words) = OneUnit u
-subject_of (request.PlaceInService u a) = OneUnit u
-subject_of (request.Propose u x) = OneUnit u
-subject_of (request.WithdrawChange u n) = OneUnit u
-subject_of (request.Approve u n) = OneUnit u
-subject_of (request.Reject u n) = OneUnit u
-subject_of (request.Status u a) = OneUnit u
-subject_of (request.RecordOf u a) = OneUnit u
-subject_of (request.ChangeOf u n) = OneUnit u
-subject_of (request.Shelves u) = OneUnit u
-subject_of (request.Alarms u) = OneUnit u
-subject_of (request.Standing u) = OneUnit u
-subject_of (request.Floods u begin until) = OneUnit u
-subject_of request.MyUnits = OwnUnits
-subject_of request.MyShelves = OwnShelves
+subject_of r = (traits_of r).3
 
 abbrev pub unit_of : Subject → Option Name
 unit_of (OneUnit u) = Some u
@@ -77,43 +66,6 @@ unit_of OwnShelves = None
 -- the unit that a request names
 abbrev pub unit_named : Request → Option Name
 unit_named r = unit_of (subject_of r)
-
--- what calls of a kind do to their unit's history, the role that they need, where they need one in particular, and the
--- count that they need
-abbrev pub traits_of : CallKind → Effect × Option Role × Counted
-traits_of kind.OpenUnit = (Opens, None, count.Nothing)
-traits_of kind.Grant = (Changes, Some Steward, count.Nothing)
-traits_of kind.Withdraw = (Changes, Some Steward, count.Nothing)
-traits_of kind.Register = (Changes, Some Engineer, count.Alarms)
-traits_of kind.Import = (Changes, Some Operator, count.Events)
-traits_of kind.TimedShelve = (Changes, Some Operator, count.Nothing)
-traits_of kind.OneShotShelve = (Changes, Some Operator, count.Nothing)
-traits_of kind.Unshelve = (Changes, Some Operator, count.Nothing)
-traits_of kind.RemoveFromService = (Changes, Some Maintainer, count.Nothing)
-traits_of kind.PlaceInService = (Changes, Some Maintainer, count.Nothing)
-traits_of kind.Propose = (Changes, Some Engineer, count.Changes)
-traits_of kind.WithdrawChange = (Changes, Some Engineer, count.Nothing)
-traits_of kind.Approve = (Changes, Some Approver, count.Nothing)
-traits_of kind.Reject = (Changes, Some Approver, count.Nothing)
-traits_of kind.Status = (Reads, None, count.Nothing)
-traits_of kind.RecordOf = (Reads, None, count.Nothing)
-traits_of kind.ChangeOf = (Reads, None, count.Nothing)
-traits_of kind.Shelves = (Reads, None, count.Nothing)
-traits_of kind.Alarms = (Reads, None, count.Nothing)
-traits_of kind.Standing = (Reads, None, count.Nothing)
-traits_of kind.Floods = (Reads, None, count.Nothing)
-traits_of kind.MyUnits = (Reads, None, count.Nothing)
-traits_of kind.MyShelves = (Reads, None, count.Nothing)
-
--- each of them by itself
-abbrev pub effect_of : CallKind → Effect
-effect_of k = (traits_of k).0
-
-abbrev pub role_of : CallKind → Option Role
-role_of k = (traits_of k).1
-
-abbrev pub count_of : CallKind → Counted
-count_of k = (traits_of k).2
 
 abbrev pub is_opens : Effect → Bool
 is_opens Opens = true
@@ -126,13 +78,10 @@ is_reads Changes = false
 is_reads Reads = true
 
 abbrev pub is_opening : Request → Bool
-is_opening r = is_opens (effect_of (kind_of r))
+is_opening r = is_opens (effect_of r)
 
 abbrev pub is_read : Request → Bool
-is_read r = is_reads (effect_of (kind_of r))
-
-abbrev pub role_needed : Request → Option Role
-role_needed r = role_of (kind_of r)
+is_read r = is_reads (effect_of r)
 
 -- the rows of a file that was read without fault
 abbrev pub rows_of_file : Result (List Event) BadFile → List Event
@@ -216,60 +165,3 @@ says (request.Standing u) = silent
 says (request.Floods u begin until) = silent
 says request.MyUnits = silent
 says request.MyShelves = silent
-
--- what a call looks at, beside the unit's own row and the caller's grants
-pub data Scope : Type 0 where
-  -- nothing else
-  NothingElse : Scope
-  AllGrants : Scope
-  -- an alarm with its shelf
-  OneAlarm : Name → Scope
-  -- an alarm with its shelf, and all others where the quota may be used up
-  Shelving : Name → Scope
-  -- an alarm with its record and the change that it came from
-  OneRecord : Name → Scope
-  -- a change with its matrix
-  OneChange : ℕ → Scope
-  -- a change with its matrix, and what it is a change of
-  Approval : ℕ → Scope
-  -- an alarm with its record, and the matrix in force
-  Content : Name → Scope
-  -- all records with the changes that they came from, and the matrix in force
-  AllRecords : Scope
-  -- all alarms, and the events that a file's rows are seen beside
-  File : List Event → Scope
-  -- all shelves with their alarms
-  AllShelves : Scope
-  -- all alarms, shelves and records
-  AllAlarms : Scope
-  AllEvents : Scope
-
-abbrev pub scope_of_proposal : ChangeKind → Scope
-scope_of_proposal (Rationale a s) = Content a
-scope_of_proposal (Matrix m) = AllRecords
-scope_of_proposal (Limit a max) = Content a
-
-abbrev pub scope_of : Request → Scope
-scope_of (request.OpenUnit u s m q) = NothingElse
-scope_of (request.Grant u p t) = AllGrants
-scope_of (request.Withdraw u p r) = AllGrants
-scope_of (request.Register u a l m) = OneAlarm a
-scope_of (request.Import u file) = File (rows_of_file file)
-scope_of (request.TimedShelve u a d w) = Shelving a
-scope_of (request.OneShotShelve u a w) = Shelving a
-scope_of (request.Unshelve u a) = OneAlarm a
-scope_of (request.RemoveFromService u a w) = OneAlarm a
-scope_of (request.PlaceInService u a) = OneAlarm a
-scope_of (request.Propose u x) = scope_of_proposal x.kind
-scope_of (request.WithdrawChange u n) = OneChange n
-scope_of (request.Approve u n) = Approval n
-scope_of (request.Reject u n) = OneChange n
-scope_of (request.Status u a) = OneAlarm a
-scope_of (request.RecordOf u a) = OneRecord a
-scope_of (request.ChangeOf u n) = OneChange n
-scope_of (request.Shelves u) = AllShelves
-scope_of (request.Alarms u) = AllAlarms
-scope_of (request.Standing u) = AllAlarms
-scope_of (request.Floods u begin until) = AllEvents
-scope_of request.MyUnits = NothingElse
-scope_of request.MyShelves = NothingElse

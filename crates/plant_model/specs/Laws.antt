@@ -1,11 +1,11 @@
 -- What holds of the definitions alone: isolation, legality, ends, the quota, and what is said of shelves.
 use Rattle.std.specs.{FinMap.{keys}, List.{AllByRecursion, list_all}}
-use Rattle.std.specs.Prelude.{Bool, List, None, Option, Some, count_by, false, filter_map, flat_map, is_none, is_some, map, not, true, ℕ, ◌&&◌, ◌<◌, ◌≡◌}
+use Rattle.std.specs.Prelude.{Bool, List, Option, Some, count_by, false, filter_map, flat_map, is_none, is_some, map, not, true, ℕ, ◌&&◌, ◌<◌, ◌≡◌}
 use Rattle.plant_types.specs.{Limits.{max_quota}, Names.{Name, same_name}, Roles.{Pair}}
-use Rattle.plant_model.specs.{Events.{events_of}, Facts.{facts, others_shelved, shelf_now}, Grants.{held, holds_any, stands}, Histories.{Begins}}
-use Rattle.plant_model.specs.{Histories.{Over, Said}, Kinds.{says}, Keys.{AllPutOverSeen}, Legality.{IsLegal, has_matrix, may_follow}}
-use Rattle.plant_model.specs.{Replies.{alarm_lines, line_of, shelf_lines, standing_lines}, Rows.{alarm_row, rows_of, shelf_rows}}
-use Rattle.plant_model.specs.{Calls.{changes_for}, Parts.{part_of}, Shelves.{shelf, shelf_left}}
+use Rattle.plant_model.specs.{Events.{events_of}, Facts.{facts, others_shelved, shelf_now}, Grants.{held, holds_any, stands}, Histories.{Said}}
+use Rattle.plant_model.specs.{Histories.{passes, what_stands}, Kinds.{says}, Legality.{IsLegal, has_matrix}}
+use Rattle.plant_model.specs.{Replies.{alarm_lines, line_of, shelf_lines, standing_lines}, Rows.{alarm_row, shelf_rows}}
+use Rattle.plant_model.specs.Shelves.{shelf, shelf_left}
 use Rattle.plant_model.specs.{Views.{IsAlwaysInside, answers_to, grants_to, purge, view}, Worlds.{IsLegalWorld, World, answer, empty_world, history}}
 use Rattle.plant_model.specs.{Worlds.{mine_line, mine_lines, next, unit_named, units_held}, declared.call.{Call.{Call}, Request.{Request}}}
 use Rattle.plant_model.specs.declared.reply.{AlarmLine.{AlarmLine}, ShelfLine.{ShelfLine}, StandingLine.{StandingLine}}
@@ -60,13 +60,11 @@ abbrev pub FirstWorldsAreLegal : Type 0
 FirstWorldsAreLegal = (admin : Name) → IsLegalWorld (empty_world admin)
 
 -- no grant of the request has an end
-abbrev pub is_for_good : Option (Pair × Said (Option ℕ)) → Bool
-is_for_good None = true
-is_for_good (Some (k, Begins until)) = is_none until
-is_for_good (Some (k, Over)) = true
+abbrev pub is_for_good : Pair × Said (Option ℕ) → Bool
+is_for_good e = passes is_none (what_stands e.1)
 
 abbrev pub has_no_end : Request → Bool
-has_no_end r = is_for_good (says r).pair
+has_no_end r = passes is_for_good (says r).pair
 
 -- without ends, standing is holding: at every moment
 abbrev pub WithoutEndsStandingIsHolding : Type 0
@@ -113,9 +111,3 @@ abbrev pub AllShelvesEndByReturns : Type 0
 AllShelvesEndByReturns =
     (units : List (Name × List Call)) → AllByRecursion (λ (e : Name × List Call). IsLegal e.1) units → (t : ℕ)
     → mine_lines t units ≡ flat_map (λ e. map (mine_line e.0) (lines_in_history e.1 t)) units
-
--- each row that an accepted call puts over another lies in what the call looks at, whatever the legal history
-abbrev pub PutsOverWhatIsSeen : Type 0
-PutsOverWhatIsSeen =
-    (h : List Call) (c : Call) → IsLegal h → may_follow h c ≡ true
-    → AllPutOverSeen (rows_of h) (part_of c (rows_of h)).rows (changes_for (facts h) c)

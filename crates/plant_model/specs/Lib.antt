@@ -13,16 +13,10 @@ pub mod Refusals
 pub mod Replies
 pub mod Verdicts
 pub mod Legality
-pub mod RowFacts
-pub mod Order
-pub mod Found
-pub mod Parts
-pub mod Scopes
-pub mod RowChanges
-pub mod Keys
 pub mod Calls
 pub mod Worlds
 pub mod Views
 pub mod Openings
 pub mod ImportLaw
 pub mod Laws
+pub mod steps

@@ -1,10 +1,9 @@
 -- The priority matrices of a unit (ISA-18.2: rationalisation), by number, and the places of their bands and cells.
 use Rattle.std.specs.{List.{enumerate_from, range_with_len, slice_get}, Ordering.{nat_cmp, ordering_then}, declared.cmp.Ordering.{Ordering}}
 use Rattle.std.specs.Prelude.{◌+◌, List, None, Option, Some, [], flat_map, length, map, option_and_then, option_map, suc, zero, ℕ}
-use Rattle.plant_model.specs.{Changes.{matrix_in, proposals}, Histories.{latest, same_number}, Kinds.{Opening, says}, declared.call.Call.{Call}}
+use Rattle.plant_model.specs.{Changes.{matrix_in, proposals}, Histories.{latest, of_key, same_number}, Kinds.{Opening, says}, declared.call.Call.{Call}}
 use Rattle.plant_model.specs.declared.{call.Request.{Request}, rows.{BandRow.{BandRow}, CellRow.{CellRow}}}
 use Rattle.plant_ration.specs.{Grid.{Grid}, declared.{cell.Cell.{Cell}, change.Proposal.{Proposal}}}
-use Rattle.plant_types.specs.Options.{when}
 
 abbrev pub numbered_by : List Call → Option Opening → Option Proposal → Option (ℕ × Grid)
 numbered_by before (Some o) x = Some (0, o.matrix)
@@ -15,13 +14,9 @@ numbered_by before None (Some x) = matrix_in (proposals before + 1) (Some x.kind
 abbrev pub numbered_matrix : List Call → Request → Option (ℕ × Grid)
 numbered_matrix before r = numbered_by before (says r).opening (says r).proposal
 
-abbrev pub when_number : {A : Type 0} → ℕ → Option (ℕ × A) → Option A
-when_number n None = None
-when_number n (Some e) = when (same_number n e.0) e.1
-
 -- the matrix of a number
 abbrev pub matrix_numbered : List Call → ℕ → Option Grid
-matrix_numbered h n = latest (λ c before. when_number n (numbered_matrix before c.request)) h
+matrix_numbered h n = latest (λ c before. of_key same_number n (numbered_matrix before c.request)) h
 
 -- the place of a finite limit: its matrix and its band; the place of a cell: its matrix, severity and band; each from 1
 abbrev pub BandKey : Type 0

@@ -3,7 +3,7 @@
 use Rattle.std.specs.List.{list_any}
 use Rattle.std.specs.Prelude.{Bool, Err, List, None, Ok, Option, Result, Some, [], false, if◌then◌else◌, is_none, is_some, length, map, nat_le, nat_lt, not, true, ℕ, ◌+◌, ◌∷◌}
 use Rattle.plant_model.specs.{Facts.{Facts, limit_revision_of, matrix_revision_of, others_shelved, quota_of}, Histories.{same_number}}
-use Rattle.plant_model.specs.{RowFacts.{alarm_tag}, declared.reply.{ChangeRow.{ChangeRow}, Full.TheVariants.{Events as TooManyEvents}}}
+use Rattle.plant_model.specs.declared.reply.{ChangeRow.{ChangeRow}, Full.TheVariants.{Events as TooManyEvents}}
 use Rattle.plant_model.specs.declared.reply.Refused.{Refused}
 use Rattle.plant_model.specs.declared.reply.Refused.TheVariants.{BaseChanged, ChangeUnknown, NotAnAlarm, NotProposed, OutsideMatrix, AlarmUnknown, BadFile as FileRefused, RoleLacking, ShelfQuota, UnitFull}
 use Rattle.plant_ration.specs.{Grid.{Grid}, Matrix.{priority_of, row_of}, declared.cell.Cell.{Cell, TheVariants.{N, P1, P2, P3, P4}}}
@@ -23,7 +23,7 @@ over_quota f a t = (nat_le (quota_of f) (others_shelved f a t), ShelfQuota (quot
 
 -- a file: its fault of reading; else no room for its numbers, or its first fault of merging
 abbrev pub tags_of : Facts → List Name
-tags_of f = map alarm_tag f.alarms
+tags_of f = map (λ r. r.tag) f.alarms
 
 abbrev pub fault_entries : Option BadFile → List (Bool × Refused)
 fault_entries None = []

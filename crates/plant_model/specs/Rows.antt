@@ -2,7 +2,7 @@
 use Rattle.std.specs.Ordering.{nat_cmp}
 use Rattle.std.specs.Prelude.{option_to_list, Bool, List, None, Option, Some, [], filter_map, map, option_and_then, option_map, unwrap_or, ℕ, ◌+◌, ◌∷◌}
 use Rattle.plant_model.specs.{Alarms.{latching, limit, quota}, declared.rows.UnitRows.{UnitRows}}
-use Rattle.plant_model.specs.Changes.{change, kind_of_change, limit_revision, matrix, matrix_revision, number_approved, proposals, record_of}
+use Rattle.plant_model.specs.Changes.{change, kind_of_change, limit_of_kind, limit_revision, matrix, matrix_revision, number_approved, proposals, rationale_of_kind, record_of}
 use Rattle.plant_model.specs.{Events.{events, events_of}, Grants.{standing}, Histories.{all_named, last_moment}, Kinds.{says}}
 use Rattle.plant_model.specs.Matrices.{BandKey, CellKey, band_at, band_cmp, band_places, cell_cmp, cell_of, cell_places, matrix_numbered, numbered_matrix, places_in}
 use Rattle.plant_model.specs.{Service.{Outage, outage}, Shelves.{shelf}, declared.call.{Call.{Call}, Request.{Request}}}
@@ -89,10 +89,7 @@ cell_rows h =
     (in_order cell_cmp (all_named (λ c before. places_in cell_places (numbered_matrix before c.request)) h))
 
 abbrev pub tag_rationalised : Option ChangeKind → List Name
-tag_rationalised None = []
-tag_rationalised (Some (Rationale a s)) = a ∷ []
-tag_rationalised (Some (Matrix m)) = []
-tag_rationalised (Some (Limit a max)) = []
+tag_rationalised kind = option_to_list (option_map (λ e. e.0) (option_and_then rationale_of_kind kind))
 
 abbrev pub tags_approved : List Call → Request → List Name
 tags_approved before r = tag_rationalised (option_and_then (kind_of_change before) (number_approved r))
@@ -118,14 +115,10 @@ tag_of_kind (Matrix m) = None
 tag_of_kind (Limit a max) = Some a
 
 abbrev pub sheet_of_kind : ChangeKind → Option Sheet
-sheet_of_kind (Rationale a s) = Some s
-sheet_of_kind (Matrix m) = None
-sheet_of_kind (Limit a max) = None
+sheet_of_kind kind = option_map (λ e. e.1) (rationale_of_kind kind)
 
 abbrev pub max_of_kind : ChangeKind → Option ℕ
-max_of_kind (Rationale a s) = None
-max_of_kind (Matrix m) = None
-max_of_kind (Limit a max) = Some max
+max_of_kind kind = option_map (λ e. e.1) (limit_of_kind kind)
 
 -- a change's row; columns that its kind lacks are None
 abbrev pub change_entry : ChangeRow → ChangeEntry

@@ -1,5 +1,5 @@
 ghost use Rattle.std.specs.Prelude.{◌≡◌};
-ghost use Rattle.plant_model.specs.RowChanges.{no_rows};
+ghost use Rattle.plant_model.specs.steps.RowChanges.{no_rows};
 
 use crate::{
     AlarmRow, BandRow, CellRow, ChangeEntry, GrantRow, Key, RecordEntry, Row, RowEdit, ShelfRow,

@@ -1,10 +1,10 @@
 //! Rows found by their tags, in a table that stands in the order of the tags, and changes by their numbers.
 
 ghost use Rattle.std.specs.Prelude.{◌≡◌, ◌≤◌, length, option_copied};
-ghost use Rattle.plant_model.specs.{Found.{IsPlaceOfNumber, IsPlaceOfTag, change_by_number, row_by_tag}, Order.{ChangesRise, TagsRise}};
-ghost use Rattle.plant_model.specs.RowFacts.{alarm_tag, record_tag, shelf_tag};
+ghost use Rattle.plant_model.specs.steps.{Found.{IsPlaceOfNumber, IsPlaceOfTag, change_by_number, row_by_tag}, Order.{ChangesRise, TagsRise}};
+ghost use Rattle.plant_model.specs.steps.RowFacts.{alarm_tag, record_tag, shelf_tag};
 ghost use Rattle.plant_types.specs.{KeyedRows.{row_at}, Names.{Name, name_cmp}};
-ghost use Rattle.plant_model.specs.RowFacts as facts;
+ghost use Rattle.plant_model.specs.steps.RowFacts as facts;
 
 use crate::{AlarmRow, ChangeEntry, RecordEntry, ShelfRow};
 use plant_types::{Moment, Tag};

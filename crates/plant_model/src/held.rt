@@ -1,7 +1,7 @@
 //! Which grants are held at a moment.
 
 ghost use Rattle.std.specs.{List.{list_any}, Prelude.{◌≡◌, option_copied}};
-ghost use Rattle.plant_model.specs.RowFacts.{held_by, holds_by, pair_of};
+ghost use Rattle.plant_model.specs.steps.RowFacts.{held_by, holds_by, pair_of};
 ghost use Rattle.plant_types.specs.{KeyedRows.{row_at}, Roles.{pair_cmp, same_pair}};
 ghost use Rattle.plant_model.specs.Grants as grants;
 

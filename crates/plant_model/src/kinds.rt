@@ -1,7 +1,8 @@
 ghost use Rattle.std.specs.Prelude.{◌≡◌, option_copied, option_map};
-ghost use Rattle.plant_model.specs.{Events.{rows_of_file}, Kinds.{scope_of_proposal}, Parts.{selection}, Scopes.{IsScopeOf, Selects}};
+ghost use Rattle.plant_model.specs.Events.{rows_of_file};
+ghost use Rattle.plant_model.specs.steps.{LooksAt.{scope_of_proposal}, Parts.{selection}, Scopes.{IsScopeOf, Selects}};
 ghost use Rattle.plant_model.specs.Kinds as kinds;
-ghost use Rattle.plant_model.specs.Scopes as scopes;
+ghost use Rattle.plant_model.specs.steps.Scopes as scopes;
 
 use crate::{ChangeEntry, Request};
 use plant_alarm::Event;
@@ -85,93 +86,66 @@ pub enum Scope<'a> {
     AllEvents,
 }
 
-impl CallKind {
-    /// What calls of this kind do, the role that they need, and what is counted for them.
-    fn traits(self) -> (Effect, Option<Role>, Counted)
-        ensures { result ≡ kinds.traits_of self }
+impl Request {
+    /// What the request does, the role that it needs, and what is counted for it.
+    fn traits(&self) -> (Effect, Option<Role>, Counted)
+        ensures effect { result.0 ≡ kinds.effect_of self.now }
+        ensures role { result.1 ≡ kinds.role_needed self.now }
+        ensures count { result.2 ≡ kinds.count_of self.now }
     {
         match self {
-            CallKind::OpenUnit => (Effect::Opens, None, Counted::Nothing),
-            CallKind::Grant | CallKind::Withdraw => {
+            Request::OpenUnit { .. } => (Effect::Opens, None, Counted::Nothing),
+            Request::Grant { .. } | Request::Withdraw { .. } => {
                 (Effect::Changes, Some(Role::Steward), Counted::Nothing)
             }
-            CallKind::Register => (Effect::Changes, Some(Role::Engineer), Counted::Alarms),
-            CallKind::Import => (Effect::Changes, Some(Role::Operator), Counted::Events),
-            CallKind::TimedShelve | CallKind::OneShotShelve | CallKind::Unshelve => {
+            Request::Register { .. } => (Effect::Changes, Some(Role::Engineer), Counted::Alarms),
+            Request::Import { .. } => (Effect::Changes, Some(Role::Operator), Counted::Events),
+            Request::TimedShelve { .. }
+            | Request::OneShotShelve { .. }
+            | Request::Unshelve { .. } => {
                 (Effect::Changes, Some(Role::Operator), Counted::Nothing)
             }
-            CallKind::RemoveFromService | CallKind::PlaceInService => {
+            Request::RemoveFromService { .. } | Request::PlaceInService { .. } => {
                 (Effect::Changes, Some(Role::Maintainer), Counted::Nothing)
             }
-            CallKind::Propose => (Effect::Changes, Some(Role::Engineer), Counted::Changes),
-            CallKind::WithdrawChange => (Effect::Changes, Some(Role::Engineer), Counted::Nothing),
-            CallKind::Approve | CallKind::Reject => {
+            Request::Propose { .. } => (Effect::Changes, Some(Role::Engineer), Counted::Changes),
+            Request::WithdrawChange { .. } => {
+                (Effect::Changes, Some(Role::Engineer), Counted::Nothing)
+            }
+            Request::Approve { .. } | Request::Reject { .. } => {
                 (Effect::Changes, Some(Role::Approver), Counted::Nothing)
             }
-            CallKind::Status
-            | CallKind::RecordOf
-            | CallKind::ChangeOf
-            | CallKind::Shelves
-            | CallKind::Alarms
-            | CallKind::Standing
-            | CallKind::Floods
-            | CallKind::MyUnits
-            | CallKind::MyShelves => (Effect::Reads, None, Counted::Nothing),
+            Request::Status { .. }
+            | Request::RecordOf { .. }
+            | Request::ChangeOf { .. }
+            | Request::Shelves { .. }
+            | Request::Alarms { .. }
+            | Request::Standing { .. }
+            | Request::Floods { .. }
+            | Request::MyUnits
+            | Request::MyShelves => (Effect::Reads, None, Counted::Nothing),
         }
     }
 
-    /// What calls of this kind do to the history of their unit.
-    pub fn effect(self) -> Effect
-        ensures { result ≡ kinds.effect_of self }
+    /// What the request does to the history of its unit.
+    pub fn effect(&self) -> Effect
+        ensures { result ≡ kinds.effect_of self.now }
     {
         self.traits().0
     }
 
-    /// The role that calls of this kind need, if they need one in particular.
-    pub fn role_needed(self) -> Option<Role>
-        ensures { result ≡ kinds.role_of self }
+    /// The role that the request needs, if it needs one in particular.
+    pub fn role_needed(&self) -> Option<Role>
+        ensures { result ≡ kinds.role_needed self.now }
     {
         self.traits().1
     }
 
-    /// What of a unit is counted for calls of this kind.
-    pub fn count(self) -> Counted
-        ensures { result ≡ kinds.count_of self }
+    /// What of a unit is counted for the request.
+    pub fn counted(&self) -> Counted
+        ensures { result ≡ kinds.count_of self.now }
     {
         self.traits().2
-    }
-}
-
-impl Request {
-    /// The kind of the request.
-    pub fn kind(&self) -> CallKind
-        ensures { result ≡ kinds.kind_of self.now }
-    {
-        match self {
-            Request::OpenUnit { .. } => CallKind::OpenUnit,
-            Request::Grant { .. } => CallKind::Grant,
-            Request::Withdraw { .. } => CallKind::Withdraw,
-            Request::Register { .. } => CallKind::Register,
-            Request::Import { .. } => CallKind::Import,
-            Request::TimedShelve { .. } => CallKind::TimedShelve,
-            Request::OneShotShelve { .. } => CallKind::OneShotShelve,
-            Request::Unshelve { .. } => CallKind::Unshelve,
-            Request::RemoveFromService { .. } => CallKind::RemoveFromService,
-            Request::PlaceInService { .. } => CallKind::PlaceInService,
-            Request::Propose { .. } => CallKind::Propose,
-            Request::WithdrawChange { .. } => CallKind::WithdrawChange,
-            Request::Approve { .. } => CallKind::Approve,
-            Request::Reject { .. } => CallKind::Reject,
-            Request::Status { .. } => CallKind::Status,
-            Request::RecordOf { .. } => CallKind::RecordOf,
-            Request::ChangeOf { .. } => CallKind::ChangeOf,
-            Request::Shelves { .. } => CallKind::Shelves,
-            Request::Alarms { .. } => CallKind::Alarms,
-            Request::Standing { .. } => CallKind::Standing,
-            Request::Floods { .. } => CallKind::Floods,
-            Request::MyUnits => CallKind::MyUnits,
-            Request::MyShelves => CallKind::MyShelves,
-        }
     }
 
     /// The unit that the request names, if it names one.
@@ -210,8 +184,8 @@ pub fn is_shelving(request: &Request) -> bool
     ensures { result ≡ scopes.is_shelving request.now }
 {
     matches!(
-        request.kind(),
-        CallKind::TimedShelve | CallKind::OneShotShelve
+        request,
+        Request::TimedShelve { .. } | Request::OneShotShelve { .. }
     )
 }
 
@@ -219,7 +193,7 @@ pub fn is_shelving(request: &Request) -> bool
 pub fn looks_at_events(request: &Request) -> bool
     ensures { result ≡ scopes.looks_at_events request.now }
 {
-    matches!(request.kind(), CallKind::Import | CallKind::Floods)
+    matches!(request, Request::Import { .. } | Request::Floods { .. })
 }
 
 /// Whether the request looks at the unit's matrices or changes.
@@ -227,13 +201,13 @@ pub fn looks_at_reviews(request: &Request) -> bool
     ensures { result ≡ scopes.looks_at_reviews request.now }
 {
     matches!(
-        request.kind(),
-        CallKind::Propose
-            | CallKind::WithdrawChange
-            | CallKind::Approve
-            | CallKind::Reject
-            | CallKind::RecordOf
-            | CallKind::ChangeOf
+        request,
+        Request::Propose { .. }
+            | Request::WithdrawChange { .. }
+            | Request::Approve { .. }
+            | Request::Reject { .. }
+            | Request::RecordOf { .. }
+            | Request::ChangeOf { .. }
     )
 }
 

@@ -1,7 +1,8 @@
 //! What holds of the definitions alone: contracts that stand on empty bodies.
 
 ghost use Rattle.plant_model.specs.ImportLaw.{ImportsAgree};
-ghost use Rattle.plant_model.specs.Laws.{AllShelvesEndByReturns, UnseenCallsChangeNothing, CodesAreTheAdministrators, EqualViewsEqualAnswers, CallsToSeenUnits, FirstWorldsAreLegal, OthersCallsCanGo, NextWorldsAreLegal, WithoutEndsStandingIsHolding, PutsOverWhatIsSeen, QuotaOf2000RefusesNothing, ShelvesEndByReturns};
+ghost use Rattle.plant_model.specs.Laws.{AllShelvesEndByReturns, UnseenCallsChangeNothing, CodesAreTheAdministrators, EqualViewsEqualAnswers, CallsToSeenUnits, FirstWorldsAreLegal, OthersCallsCanGo, NextWorldsAreLegal, WithoutEndsStandingIsHolding, QuotaOf2000RefusesNothing, ShelvesEndByReturns};
+ghost use Rattle.plant_model.specs.steps.Keys.{PutsOverWhatIsSeen};
 ghost use Rattle.plant_model.specs.Openings.{HistoriesAreOwn};
 
 /// Isolation: what one person sees of two worlds.

@@ -3,8 +3,10 @@ use Rattle.std.specs.{FinMap.{contains_key, get, get-insert, keys, Entries.{find
 use Rattle.std.proofs.Common.{true≢false, ap, arith, inl, inr, refl, subst, sym, ◌++◌, ◌∙◌, flat_map, Bool, Err, IfOk, IfSome, IsErrAnd, List, None, Ok, OnErr, Option, Result, Some, [], cond, false, filter_map, ◌⊎◌, fold, if◌then◌else◌, is_ok, is_some, map, max, nat_lt, not, option_and_then, option_map, true, unwrap_or, ℕ, ◌<◌, ◌∷◌, ◌≡◌, ◌≤◌}
 use Rattle.std.proofs.lemmas.{Bool.Decides.{nat_tests}, List.Elements.{filter_map-append}, Simd.{map-map}}
 use Rattle.plant_model.specs.{Calls.{reply}, Facts.{facts, returned}, Grants.{held, holds_any, roles_held}, Histories.{last_moment}}
-use Rattle.plant_model.specs.{Legality.{has_matrix}, Parts.{part_of, part_of_holder, part_of_stranger}, Replies.{line_of, shelf_lines}}
-use Rattle.plant_model.specs.{RowChanges.{changed_by, no_rows}, RowFacts.{holds_by, last_return_in}, Rows.{alarm_rows, rows_of, shelf_rows}}
+use Rattle.plant_model.specs.{Legality.{has_matrix}, Replies.{line_of, shelf_lines}}
+use Rattle.plant_model.specs.steps.Parts.{part_of, part_of_holder, part_of_stranger}
+use Rattle.plant_model.specs.Rows.{alarm_rows, rows_of, shelf_rows}
+use Rattle.plant_model.specs.steps.{RowChanges.{changed_by, no_rows}, RowFacts.{holds_by, last_return_in}}
 use Rattle.plant_model.specs.{Shelves.{shelf_left}, Verdicts.{changes_history, is_opening, is_read, verdict}, Views.{view}}
 use Rattle.plant_model.specs.Worlds.{IsLegalWorld, World, answer, answer_at, answer_of_units, by_admin, greatest_last, history, is_taken, mine_line, mine_lines, next, next_at, opening, reply_of_units, unit_lines, unit_named, unit_seen, units_held, with_call}
 use Rattle.plant_model.specs.declared.{call.{Call.{Call}, Request.{Request, TheVariants.{MyShelves, MyUnits, OpenUnit}}}, reply.Answer.{Answer}}

@@ -1,7 +1,8 @@
 ghost use Rattle.std.specs.Prelude.{◌≡◌, ◌<◌, ◌^◌, ◌-◌, ◌+◌, ◌≤◌, Some, None, true, false, IfOk, IfSome, IsTrue, OnErr, List, [], ◌∷◌, ◌++◌, filter_map, map, max, fold, length, option_copied, option_map, vec_len, vec_capacity};
 ghost use Rattle.plant_books.specs.{Books.{WasHonest}, Contents.{Content}, declared.books.MineUnit.{MineUnit}};
 ghost use Rattle.plant_types.specs.Results.{OnlyMemory};
-ghost use Rattle.plant_model.specs.{Legality.{has_matrix, is_matrix_kind}, RowChanges.{changed, changed_by}, Verdicts.{changes_history, is_opening}};
+ghost use Rattle.plant_model.specs.{Legality.{has_matrix, is_matrix_kind}, Verdicts.{changes_history, is_opening}};
+ghost use Rattle.plant_model.specs.steps.RowChanges.{changed, changed_by};
 ghost use Rattle.plant_model.specs.{Views.{view}, Worlds.{World, IsLegalWorld, unit_named}, declared.call.Request.TheVariants.{MyShelves, MyUnits}};
 ghost use Rattle.plant_model.specs.declared.rows.UnitRows.{UnitRows};
 ghost use Rattle.plant_office.specs.{Answers.{CountsAnswer, IfSaid, OnFault, answer_as}, Lines.{line_of_mine, line_of_shelf}};

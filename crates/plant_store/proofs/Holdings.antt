@@ -13,7 +13,8 @@ use Rattle.plant_columns.specs.{Codes.{open_number_in}, Kept.{by_columns, is_of,
 use Rattle.plant_columns.specs.{Tables.{AreBooks, books_schema, grant_shape}, declared.tables.TableKind.TheVariants.{Grants}}
 use Rattle.plant_columns.proofs.public.{Kept.{all-sort, sort-filter}, Keys.{by_columns_total}, ShapeLaws.{good, open_number_back}}
 use Rattle.plant_columns.proofs.public.Shapes.{finds_rows}
-use Rattle.plant_model.specs.{Grants.{is_before}, RowChanges.{no_rows}, declared.rows.{GrantRow.{GrantRow}, UnitRows.{UnitRows}}}
+use Rattle.plant_model.specs.{Grants.{is_before}, declared.rows.{GrantRow.{GrantRow}, UnitRows.{UnitRows}}}
+use Rattle.plant_model.specs.steps.RowChanges.{no_rows}
 use Rattle.plant_model.proofs.public.RowsFound.{less}
 use Rattle.plant_store.specs.{Keeping.{HasContent}, Mine.{AreCodes, holding_cells}, Texts.{holdings_text}, declared.mine.Holding.{Holding}}
 use Rattle.plant_store.proofs.{Meanings.{by_holder, by_key, holdings}, Queries.{is_named, named_same, one_test}, Reading.{told}}

@@ -17,7 +17,8 @@ use Rattle.plant_columns.specs.{Codes.{flag_in, open_number_in, number_in, role_
 use Rattle.plant_columns.specs.{Tables.{RowOf, alarm_shape, books_schema, grant_shape, rows_of_table, rows_seen, shape, shelf_shape}, declared.tables.TableKind.{TableKind, TheVariants.{Alarms, Grants, Shelves, Units}}}
 use Rattle.plant_columns.proofs.public.{Keys.{by_columns_total, same_text}, Kept.{all-sort, sort-filter, strict-sort}, ShapeLaws.{flag_back, good, open_number_back, role_back}}
 use Rattle.plant_columns.proofs.public.Shapes.{IsShape, named, some_kept}
-use Rattle.plant_model.specs.{RowChanges.{no_rows}, RowFacts.{alarm_tag, last_return_in}, declared.rows.{AlarmRow.{AlarmRow}, GrantRow.{GrantRow}, ShelfRow.{ShelfRow}, UnitRows.{UnitRows}}}
+use Rattle.plant_model.specs.declared.rows.{AlarmRow.{AlarmRow}, GrantRow.{GrantRow}, ShelfRow.{ShelfRow}, UnitRows.{UnitRows}}
+use Rattle.plant_model.specs.steps.{RowChanges.{no_rows}, RowFacts.{alarm_tag, last_return_in}}
 use Rattle.plant_model.proofs.public.PartLists.{row_at-filter}
 use Rattle.plant_store.specs.{Keeping.{HasContent, has_any}, Texts.{shelf_lines_text, unit_lines_text}, declared.{mine.UnitLine.{UnitLine}, shelves.ShelfLine.{ShelfLine}}}
 use Rattle.plant_store.specs.Mine.{lines_of, shelf_line, shelf_line_cells, unit_line, unit_line_cells}

@@ -11,7 +11,8 @@ use Rattle.sqlite_keyed.proofs.ListLemmas.{ascending-map, ascending-append, all-
 use Rattle.sqlite_keyed.proofs.SortLemmas.{sorted_unique, IsPermutation-sort_by}
 use Rattle.sqlite_sql.proofs.QueryLemmas.{output_cmp_total}
 use Rattle.sqlite_value.specs.{Order.{Row, column}, declared.{keys.Key.{Key}, value.Value.TheVariants.{Null, Int, Text}}}
-use Rattle.plant_model.specs.{RowFacts.{change_number, last_number}, declared.rows.ChangeEntry.{ChangeEntry}}
+use Rattle.plant_model.specs.declared.rows.ChangeEntry.{ChangeEntry}
+use Rattle.plant_model.specs.steps.RowFacts.{change_number, last_number}
 use Rattle.plant_types.specs.Names.{Name}
 use Rattle.plant_columns.specs.{Codes.{number}, Kept.{by_columns, is_of, kept, plain_query}, declared.tables.TableKind.TheVariants.{Changes}}
 use Rattle.plant_columns.specs.{Tables.{AreBooks, books_schema, rows_seen, change_shape}, Tidy.{AreApart}}

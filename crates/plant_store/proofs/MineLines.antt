@@ -9,7 +9,8 @@ use Rattle.sqlite_trees.specs.Tree.{IsAscending}
 use Rattle.plant_books.specs.{Contents.{Content, is_held_by, is_held_in, mine_as, mine_row, mine_shelves, mine_unit, mine_units, rows_in, shelves_mine}, declared.books.{MineRow.{MineRow}, MineUnit.{MineUnit}}}
 use Rattle.plant_columns.specs.{Tables.{grant_shape, own_key, unit_shape}, declared.tables.TableKind.TheVariants.{Grants, Units}}
 use Rattle.plant_columns.proofs.public.{Bridge.{AreRising}, ShapeLaws.{good}, Shapes.{rising as rows_rise}}
-use Rattle.plant_model.specs.{Grants.{is_before}, RowChanges.{no_rows}, RowFacts.{no_unit, pair_of}, declared.rows.{GrantRow.{GrantRow}, ShelfRow.{ShelfRow}, UnitRow.{UnitRow}, UnitRows.{UnitRows}}}
+use Rattle.plant_model.specs.{Grants.{is_before}, declared.rows.{GrantRow.{GrantRow}, ShelfRow.{ShelfRow}, UnitRow.{UnitRow}, UnitRows.{UnitRows}}}
+use Rattle.plant_model.specs.steps.{RowChanges.{no_rows}, RowFacts.{no_unit, pair_of}}
 use Rattle.plant_store.specs.{Keeping.{HasContent, has_any}, declared.{mine.UnitLine.{UnitLine}, shelves.ShelfLine.{ShelfLine}}}
 use Rattle.plant_store.specs.Mine.{as_mine, lines_of, put_run, repeats, runs_of, shelf_line, own_shelf_lines, standing_shelves, standing_units, started, unit_line, own_unit_lines}
 use Rattle.plant_store.proofs.{Holdings.{own_roles, rising}, LineOrder.{own_rise}, public.Contents.{same_codes}}

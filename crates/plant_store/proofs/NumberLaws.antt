@@ -4,7 +4,8 @@ use Rattle.sqlite.specs.Effect.{Database}
 use Rattle.plant_books.{specs.Numbered.{NumbersRise}, proofs.public.NumberRanges.{bands_rise, cells_rise, changes_rise}}
 use Rattle.plant_columns.specs.Tables.{AreBooks, band_shape, cell_shape, change_shape, rows_seen}
 use Rattle.plant_columns.{proofs.public.{ShapeLaws.{good}, Shapes.{rises}}, specs.declared.tables.TableKind.TheVariants.{Bands, Cells, Changes}}
-use Rattle.plant_model.specs.{Histories.{same_number}, RowFacts.{change_number}, declared.rows.{BandRow.{BandRow}, CellRow.{CellRow}}}
+use Rattle.plant_model.specs.{Histories.{same_number}, declared.rows.{BandRow.{BandRow}, CellRow.{CellRow}}}
+use Rattle.plant_model.specs.steps.RowFacts.{change_number}
 use Rattle.plant_types.specs.Names.{Name}
 
 pub other_way : (m n : ℕ) → same_number m n ≡ same_number n m

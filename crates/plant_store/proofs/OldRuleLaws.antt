@@ -7,7 +7,8 @@ use Rattle.plant_import.specs.{Merging.{first_fault}, Numbers.{new_numbers}, dec
 use Rattle.plant_model.specs.{Alarms.{quota, said_of_quota}, Calls.{own_refusals, reply}, Facts.{Facts, facts, limit_of, others_shelved, shelf_now}}
 use Rattle.plant_model.specs.{Grants.{held, standing, stands}, Histories.{all_named, latest, same_number}, Kinds.{role_needed}, Laws.{has_no_end}, Legality.{IsLegal}}
 use Rattle.plant_model.specs.Refusals.{fault_entries, file_refusals, first_refusal, holds_some, is_not_needed, is_open, kind_refusals, kind_unknown, lacks_role, of_change}
-use Rattle.plant_model.specs.{RowFacts.{alarm_tag}, Rows.{alarm_row, grant_as, grant_row, pairs_named}}
+use Rattle.plant_model.specs.Rows.{alarm_row, grant_as, grant_row, pairs_named}
+use Rattle.plant_model.specs.steps.RowFacts.{alarm_tag}
 use Rattle.plant_model.specs.{Verdicts.{changes_history, is_opening, refusals, refused_or, verdict}, declared.call.{Call.{Call}, Request.{Request}}}
 use Rattle.plant_model.specs.declared.call.Request.TheVariants.{Approve, Grant, Import, OneShotShelve, OpenUnit, Propose, Reject, TimedShelve, WithdrawChange}
 use Rattle.plant_model.specs.declared.{reply.{ChangeRow.{ChangeRow}, Refused.{Refused}}, rows.GrantRow.{GrantRow}}

@@ -4,7 +4,8 @@ use Rattle.std.proofs.Common.{◌≡◌, Bool, true, false, cond, List, [], ◌�
 use Rattle.sqlite.specs.Effect.{Database}
 use Rattle.plant_columns.specs.{Tables.{AreBooks, AreSeen, grant_shape, shelf_shape}, declared.tables.TableKind.TheVariants.{Grants, Shelves}}
 use Rattle.plant_columns.proofs.public.{ShapeLaws.{good}, Shapes.{rises}}
-use Rattle.plant_model.specs.{RowFacts.{pair_of, shelf_tag}, declared.rows.{GrantRow.{GrantRow}, ShelfRow.{ShelfRow}, Key.TheVariants.{Grant as GrantKey, Shelf as ShelfKey}}}
+use Rattle.plant_model.specs.declared.rows.{GrantRow.{GrantRow}, ShelfRow.{ShelfRow}, Key.TheVariants.{Grant as GrantKey, Shelf as ShelfKey}}
+use Rattle.plant_model.specs.steps.RowFacts.{pair_of, shelf_tag}
 use Rattle.plant_model.specs.declared.rows.{Row.TheVariants.{Grant as GrantPut, Shelf as ShelfPut}, RowEdit.TheVariants.{Put, Remove}}
 use Rattle.plant_store.{specs.Changes.{Applies}, proofs.Writes.{applies_then}}
 use Rattle.plant_types.specs.{KeyedRows.{IsInOrder, put_row, remove_row, row_at}, Names.{Name, name_cmp}, Roles.{pair_cmp}}

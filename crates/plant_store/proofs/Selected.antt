@@ -7,11 +7,13 @@ use Rattle.plant_books.specs.{Asking.{HasTheirShelves, is_alarm_wanted, is_wante
 use Rattle.plant_books.specs.declared.asking.{Wanted.{Wanted, TheVariants.{Every, Nothing, One}}, WantedAlarms.{WantedAlarms}}
 use Rattle.plant_books.{specs.declared.asking.WantedAlarms.TheVariants.{Shelved, Those}, proofs.public.HistoryLaws.{none_asked}}
 use Rattle.plant_alarm.specs.declared.event.{Event.{Event}, EventKind.TheVariants.{Act}}
-use Rattle.plant_model.specs.{Histories.{same_number}, Order.{TagsRise}}
-use Rattle.plant_model.specs.Parts.{Selection, counted_for, has_shelf, part_of, part_of_holder, part_of_stranger, rows_selected, selected}
-use Rattle.plant_model.specs.RowChanges.{no_rows}
-use Rattle.plant_model.specs.RowFacts.{alarm_tag, change_found, event_number, holds_by, pair_of, record_tag, shelf_tag}
-use Rattle.plant_model.specs.{Scopes.{looks_at_events}, declared.call.{Call.{Call}, Request.{Request, TheVariants.{Floods, Import}}}}
+use Rattle.plant_model.specs.Histories.{same_number}
+use Rattle.plant_model.specs.steps.Order.{TagsRise}
+use Rattle.plant_model.specs.steps.Parts.{Selection, counted_for, has_shelf, part_of, part_of_holder, part_of_stranger, rows_selected, selected}
+use Rattle.plant_model.specs.steps.RowChanges.{no_rows}
+use Rattle.plant_model.specs.steps.RowFacts.{alarm_tag, change_found, event_number, holds_by, pair_of, record_tag, shelf_tag}
+use Rattle.plant_model.specs.declared.call.{Call.{Call}, Request.{Request, TheVariants.{Floods, Import}}}
+use Rattle.plant_model.specs.steps.Scopes.{looks_at_events}
 use Rattle.plant_model.specs.declared.rows.{AlarmRow.{AlarmRow}, BandRow.{BandRow}, CellRow.{CellRow}, ChangeEntry.{ChangeEntry}, GrantRow.{GrantRow}}
 use Rattle.plant_model.specs.declared.rows.{RecordEntry.{RecordEntry}, ShelfRow.{ShelfRow}, UnitPart.{UnitPart}, UnitRow.{UnitRow}}
 use Rattle.plant_model.{specs.declared.rows.UnitRows.{UnitRows}, proofs.public.{PartLaws.{own_holds}, PartLists.{filter-true}}}

@@ -16,7 +16,8 @@ use Rattle.plant_columns.specs.declared.tables.TableKind.TheVariants.{Units}
 use Rattle.plant_columns.specs.Tables.{AreSeen, RowOf, rows_of_table, shape}
 use Rattle.plant_columns.proofs.public.{Bridge.{AreRising as Rise}, Kept.{all-sort, sort-filter, strict-sort}}
 use Rattle.plant_columns.proofs.public.{Keys.{by_columns_total}, ShapeLaws.{good}, Shapes.{named, rising}}
-use Rattle.plant_model.specs.{RowChanges.{changed_by, no_rows}, RowFacts.{pair_of}, declared.rows.Row.TheVariants.{Unit as UnitPut}}
+use Rattle.plant_model.specs.declared.rows.Row.TheVariants.{Unit as UnitPut}
+use Rattle.plant_model.specs.steps.{RowChanges.{changed_by, no_rows}, RowFacts.{pair_of}}
 use Rattle.plant_model.specs.declared.rows.{RowEdit.{RowEdit, TheVariants.{Put}}, UnitRow.{UnitRow}, UnitRows.{UnitRows}}
 use Rattle.plant_store.specs.{Changes.{Applies, IsOfficeOf}, Keeping.{HaveRows, has_any}, Making.{AreNew}}
 use Rattle.plant_store.specs.OldTables.{AreOldBooks, old_rows, old_unit_shape}

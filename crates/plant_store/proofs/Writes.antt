@@ -6,7 +6,8 @@ use Rattle.sqlite.specs.{Effect.{Database, IsDatabase, value_rows}, Rows.{stampe
 use Rattle.sqlite_value.specs.{Keys.{first_key}, declared.value.Value.TheVariants.{Null, Text}}
 use Rattle.plant_alarm.specs.declared.event.Event.{Event}
 use Rattle.plant_import.specs.Numbers.{event_number, with_events}
-use Rattle.plant_model.specs.{RowChanges.{changed_by}, declared.rows.{GrantRow.{GrantRow}, Key.TheVariants.{Grant as GrantKey, Shelf as ShelfKey}}}
+use Rattle.plant_model.specs.declared.rows.{GrantRow.{GrantRow}, Key.TheVariants.{Grant as GrantKey, Shelf as ShelfKey}}
+use Rattle.plant_model.specs.steps.RowChanges.{changed_by}
 use Rattle.plant_model.specs.declared.rows.Row.TheVariants.{Event as EventPut, Unit as UnitPut}
 use Rattle.plant_model.specs.declared.rows.{RowEdit.{RowEdit, TheVariants.{Put, PutEvents, Remove}}, ShelfRow.{ShelfRow}, UnitRow.{UnitRow}}
 use Rattle.plant_model.specs.declared.rows.UnitRows.{UnitRows}

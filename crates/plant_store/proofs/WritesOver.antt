@@ -10,7 +10,7 @@ use Rattle.sqlite_value.specs.{Keys.{first_key, plain}, Order.{Row, value_cmp}, 
 use Rattle.sqlite_value.specs.declared.value.ValueRef.{ValueRef}
 use Rattle.plant_model.specs.declared.rows.GrantRow.{GrantRow}
 use Rattle.plant_model.specs.declared.rows.{RowEdit.{RowEdit, TheVariants.{Put}}, UnitRow.{UnitRow}}
-use Rattle.plant_model.specs.RowFacts.{alarm_tag, record_tag, shelf_tag}
+use Rattle.plant_model.specs.steps.RowFacts.{alarm_tag, record_tag, shelf_tag}
 use Rattle.plant_types.{specs.{KeyedRows.{put_row}, Names.{Name}, Roles.{role_no}}, proofs.public.KeyedRowLaws.{tied}}
 use Rattle.plant_columns.specs.{Codes.{number, open_number, role}, Kept.{by_columns}, Shape.{row_in}}
 use Rattle.plant_columns.specs.declared.tables.TableKind.{TableKind, TheVariants.{Alarms, Changes, Grants, Records, Shelves, Units}}

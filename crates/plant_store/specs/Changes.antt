@@ -1,7 +1,8 @@
 -- What changes of a unit's rows do to the tables.
 use Rattle.std.specs.Prelude.{IsTrue, List, [], ◌∷◌, ◌≡◌, ◌≢◌}
 use Rattle.sqlite.specs.{Effect.{Database, IsDatabase}, State.{HasCleanDisk, State}}
-use Rattle.plant_model.specs.{RowChanges.{changed_by}, declared.rows.{RowEdit.{RowEdit}, UnitRows.{UnitRows}}}
+use Rattle.plant_model.specs.declared.rows.{RowEdit.{RowEdit}, UnitRows.{UnitRows}}
+use Rattle.plant_model.specs.steps.RowChanges.{changed_by}
 use Rattle.plant_columns.specs.{Tables.{AreBooks, AreSeen, office_row, rows_seen}, declared.tables.TableKind.{TableKind}}
 use Rattle.plant_types.specs.Names.{Name}
 

@@ -5,7 +5,7 @@ use Rattle.plant_books.specs.{Contents.{Content, rows_in}, Crashes.{Alike}}
 use Rattle.plant_store.specs.Changes.{IsHonest, IsOfficeOf}
 use Rattle.plant_columns.specs.Tables.{AreBooks, AreSeen}
 use Rattle.plant_types.specs.Names.{Name}
-pub use Rattle.plant_model.specs.Keys.{has_any}
+pub use Rattle.plant_model.specs.steps.Keys.{has_any}
 
 -- the tables have the rows of each unit, and a unit was opened where it has a row of its own
 pub record HaveRows (m : Content) (db : Database) : Type 0 where

@@ -5,7 +5,8 @@ use Rattle.std.specs.Prelude.{flat_map, Bool, List, None, Option, Some, [], filt
 use Rattle.sqlite_value.specs.{Order.{Row}, declared.value.Value.TheVariants.{Text}}
 use Rattle.plant_books.specs.{Contents.{Content, rows_in}, declared.books.{MineRow.{MineRow}, MineUnit.{MineUnit}}}
 use Rattle.plant_columns.specs.{Codes.{number, open_number, role}, Tables.{shelf_shape}}
-use Rattle.plant_model.specs.{Grants.{is_before}, RowFacts.{last_return_in}, declared.rows.{GrantRow.{GrantRow}, ShelfRow.{ShelfRow}, UnitRow.{UnitRow}, UnitRows.{UnitRows}}}
+use Rattle.plant_model.specs.{Grants.{is_before}, declared.rows.{GrantRow.{GrantRow}, ShelfRow.{ShelfRow}, UnitRow.{UnitRow}, UnitRows.{UnitRows}}}
+use Rattle.plant_model.specs.steps.RowFacts.{last_return_in}
 use Rattle.plant_store.specs.declared.{mine.{Holding.{Holding}, UnitLine.{UnitLine}}, shelves.ShelfLine.{ShelfLine}}
 use Rattle.plant_types.specs.{Names.{Name, name_cmp, same_name}, Roles.{role_no, same_role}}
 

@@ -6,8 +6,9 @@ use Rattle.std.specs.Prelude.{Bool, Err, IsTrue, List, None, Ok, Option, Result,
 use Rattle.plant_alarm.specs.{Shelves.{is_one_shot, is_timed, is_unshelved}, declared.event.Event.{Event}}
 use Rattle.plant_import.specs.{Merging.{first_fault}, Numbers.{new_numbers}, declared.bad_file.BadFile.{BadFile}}
 use Rattle.plant_model.specs.{Calls.{reply}, Facts.{Facts, facts, is_out, last_of, limit_of, limit_revision_of, matrix_revision_of, shelf_now}}
-use Rattle.plant_model.specs.{Histories.{Said, same_number}, Kinds.{Opening, says}, Laws.{is_for_good}, Legality.{IsLegal, has_matrix}}
-use Rattle.plant_model.specs.{Refusals.{first_refusal}, RowFacts.{alarm_tag}, Rows.{rows_of}}
+use Rattle.plant_model.specs.{Histories.{Said, passes, same_number}, Kinds.{Opening, says}, Laws.{is_for_good}, Legality.{IsLegal, has_matrix}}
+use Rattle.plant_model.specs.{Refusals.{first_refusal}, Rows.{rows_of}}
+use Rattle.plant_model.specs.steps.RowFacts.{alarm_tag}
 use Rattle.plant_model.specs.{Verdicts.{changes_history, is_opening, refused_or, verdict}, declared.call.{Call.{Call}, Request.{Request}}}
 use Rattle.plant_model.specs.declared.reply.{ChangeRow.{ChangeRow}, Refused.{Refused}, Reply.{Reply}}
 use Rattle.plant_model.specs.declared.rows.{GrantRow.{GrantRow}, UnitRow.{UnitRow}, UnitRows.{UnitRows}}
@@ -184,7 +185,7 @@ old_verdict h c = refused_or (first_refusal (old_refusals (facts h) c)) (reply (
 -- what was said is of schema 1: an opening gives the quota of those units, a grant has no end
 abbrev pub was_said : Option Opening → Option (Pair × Said (Option ℕ)) → Bool
 was_said (Some o) pair = same_number o.quota old_quota
-was_said None pair = is_for_good pair
+was_said None pair = passes is_for_good pair
 
 -- a request of today that stands for one of schema 1
 abbrev pub is_of_old : Request → Bool

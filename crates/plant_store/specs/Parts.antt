@@ -3,8 +3,10 @@ use Rattle.std.specs.{BTreeSet.{BTreeSet}, Prelude.{Bool, IfOk, List, Result, So
 use Rattle.sqlite.specs.{Held.{Held, state}, State.{HasCleanDisk}, Tree.{Trees}}
 use Rattle.sqlite_trees.specs.declared.store.Store.{Ghosts}
 use Rattle.plant_alarm.specs.declared.event.Event.{Event}
-use Rattle.plant_model.specs.{Histories.{same_number}, Parts.{counted_for, is_crowded}, RowFacts.{last_number}}
-use Rattle.plant_model.specs.{Scopes.{is_shelving, looks_at_events, number_approved, selection_by}, declared.call.Request.{Request}}
+use Rattle.plant_model.specs.Histories.{same_number}
+use Rattle.plant_model.specs.steps.{Parts.{counted_for, is_crowded}, RowFacts.{last_number}}
+use Rattle.plant_model.specs.declared.call.Request.{Request}
+use Rattle.plant_model.specs.steps.Scopes.{is_shelving, looks_at_events, number_approved, selection_by}
 use Rattle.plant_model.specs.declared.{kinds.Scope.{Scope}, rows.{AlarmRow.{AlarmRow}}}
 use Rattle.plant_model.specs.declared.rows.{ChangeEntry.{ChangeEntry}, GrantRow.{GrantRow}, RecordEntry.{RecordEntry}, UnitRow.{UnitRow}}
 use Rattle.plant_model.specs.declared.rows.UnitRows.{UnitRows}

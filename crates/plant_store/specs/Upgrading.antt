@@ -9,7 +9,8 @@ use Rattle.plant_columns.specs.Kept.{by_columns, kept}
 use Rattle.plant_columns.specs.declared.tables.TableKind.{TableKind, TheVariants.{Alarms, Bands, Cells, Changes, Events, Grants, Records, Shelves}}
 use Rattle.plant_columns.specs.declared.tables.TableKind.TheVariants.{Units}
 use Rattle.plant_columns.specs.Tables.{AreBooks, AreSeen, RowOf, all_tables, rows_of_table}
-use Rattle.plant_model.specs.{RowChanges.{no_rows}, declared.rows.GrantRow.{GrantRow}}
+use Rattle.plant_model.specs.declared.rows.GrantRow.{GrantRow}
+use Rattle.plant_model.specs.steps.RowChanges.{no_rows}
 use Rattle.plant_model.specs.declared.rows.Row.TheVariants.{Alarm as AlarmPut, Band as BandPut, Cell as CellPut, Change as ChangePut, Event as EventPut, Grant as GrantPut, Record as RecordPut, Shelf as ShelfPut, Unit as UnitPut}
 use Rattle.plant_model.specs.declared.rows.{Row.{Row}, RowEdit.{RowEdit, TheVariants.{Put}}, UnitRow.{UnitRow}, UnitRows.{UnitRows}}
 use Rattle.plant_store.specs.{Keeping.{has_any}, OldTables.{AreOldBooks, old_office_row, old_rows}}

@@ -3,7 +3,8 @@ use Rattle.std.specs.Prelude.{Bool, List, [], false, filter, true}
 use Rattle.plant_alarm.specs.declared.event.Event.{Event}
 use Rattle.plant_books.specs.{Found.{shelved}, declared.asking.{Wanted.{Wanted, TheVariants.{Every, Nothing, One}}, WantedAlarms.{WantedAlarms}}}
 use Rattle.plant_books.specs.declared.asking.WantedAlarms.TheVariants.{Shelved, Those}
-use Rattle.plant_model.specs.{RowFacts.{alarm_tag}, declared.rows.{AlarmRow.{AlarmRow}, ShelfRow.{ShelfRow}}}
+use Rattle.plant_model.specs.declared.rows.{AlarmRow.{AlarmRow}, ShelfRow.{ShelfRow}}
+use Rattle.plant_model.specs.steps.RowFacts.{alarm_tag}
 use Rattle.plant_types.specs.Names.{Name, same_name}
 
 -- of rows with tags those that are wanted

@@ -2,7 +2,8 @@
 
 ghost use Rattle.std.specs.{Ordering.{nat_cmp}, Prelude.{◌≡◌, false, IfOk, None, Some}};
 ghost use Rattle.sqlite.specs.Held.{state};
-ghost use Rattle.plant_model.specs.{Order.{TagsRise}, Parts.{part_of_holder}, RowFacts.{alarm_tag, event_number, shelf_tag}, Worlds.{unit_named}};
+ghost use Rattle.plant_model.specs.Worlds.{unit_named};
+ghost use Rattle.plant_model.specs.steps.{Order.{TagsRise}, Parts.{part_of_holder}, RowFacts.{alarm_tag, event_number, shelf_tag}};
 ghost use Rattle.plant_types.specs.{KeyedRows.{IsInOrder}, Names.{Name}};
 ghost use Rattle.plant_books.specs.Contents.{Content, part_in, rows_in};
 ghost use Rattle.plant_store.specs.{Changes.{IsHonest}, Keeping.{HasContent}};
@@ -150,7 +151,7 @@ fn count_for<S: Alter>(
     ensures rows { LoadsCount S.Store conn.old conn.new unit.now request.now events.now result }
     ensures reads { IsOnlyRead S.Store conn.old conn.new }
 {
-    match request.kind().count() {
+    match request.counted() {
         Counted::Nothing => Ok(0),
         Counted::Alarms => count_of_alarms(conn, unit),
         Counted::Events => count_of(events.len()),

@@ -3,7 +3,8 @@ use Rattle.std.proofs.Common.{ap, arith, cond, get_or, refl, set, subst, sym, â—
 use Rattle.std.proofs.lemmas.{List.{Elements.{filter-append}, get_or-map}, Option.{slice_get-map}}
 use Rattle.plant_alarm.specs.{States.{summary}, declared.{event.Event.{Event}, summary.Summary.{Summary}}}
 use Rattle.plant_floods.specs.Activations.{of_alarm}
-use Rattle.plant_model.specs.{RowChanges.{with_state}, RowFacts.{alarm_tag}, declared.rows.AlarmRow.{AlarmRow}}
+use Rattle.plant_model.specs.declared.rows.AlarmRow.{AlarmRow}
+use Rattle.plant_model.specs.steps.{RowChanges.{with_state}, RowFacts.{alarm_tag}}
 use Rattle.plant_model.proofs.public.RowsFound.{After as TagsAfter, Ordered as TagsOrdered, Parts as TagsParts, after_more, greater, later, lesser, ordered, turned, back}
 use Rattle.plant_types.{specs.{KeyedRows.{IsInOrder}, Names.{Name, name_cmp, same_name}}, proofs.public.KeyedRowLaws.{tied}}
 use Rattle.plant_types.proofs.public.Orders.{same_names, name_total}

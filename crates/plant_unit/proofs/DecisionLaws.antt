@@ -1,8 +1,10 @@
 -- Calls on changes: what a decision makes.
 use Rattle.std.proofs.Common.{ap, refl, sym, ◌∙◌, Bool, Err, List, None, Ok, Option, Result, Some, [], false, if◌then◌else◌, is_ok, true, ℕ, ◌&&◌, ◌∷◌, ◌≡◌}
-use Rattle.plant_model.specs.{Calls.{changes_for, own_refusals}, Facts.{Facts}, Refusals.{first_refusal, kind_refusals, of_change}}
-use Rattle.plant_model.specs.RowChanges.{approval_changes, approved_row, decision_change, for_change, in_force, kind_row}
-use Rattle.plant_model.specs.{RowFacts.{change_found, change_read}, Rows.{change_entry}, Verdicts.{refused_or}}
+use Rattle.plant_model.specs.{Calls.{own_refusals}, Facts.{Facts}, Refusals.{first_refusal, kind_refusals, of_change}}
+use Rattle.plant_model.specs.steps.CallChanges.{changes_for}
+use Rattle.plant_model.specs.steps.RowChanges.{approval_changes, approved_row, decision_change, for_change, in_force, kind_row}
+use Rattle.plant_model.specs.{Rows.{change_entry}, Verdicts.{refused_or}}
+use Rattle.plant_model.specs.steps.RowFacts.{change_found, change_read}
 use Rattle.plant_model.specs.declared.{call.{Call.{Call}, Request.TheVariants.{Approve}}, reply.{ChangeRow.{ChangeRow}, Refused.{Refused}}}
 use Rattle.plant_model.specs.declared.{reply.{Refused.TheVariants.{SamePerson}, Reply.{Reply, TheVariants.{Done}}}, rows.ChangeEntry.{ChangeEntry}}
 use Rattle.plant_model.specs.declared.rows.{Row.TheVariants.{Change as ChangePut, Unit as UnitPut}, RowEdit.{RowEdit, TheVariants.{Put}}}

@@ -1,8 +1,10 @@
 -- The judgement of an import.
 use Rattle.std.proofs.Common.{ap, append_assoc, arith, refl, subst, sym, ◌∙◌, Bool, Err, IfOk, List, None, Ok, Option, Result, Some, [], false, if◌then◌else◌, length, nat_lt, not, true, ℕ, ◌++◌, ◌+◌, ◌∷◌, ◌≡◌, ◌≤◌}
 use Rattle.std.proofs.lemmas.{Bool.{ltb-false}, Result.{IfOk-weaker}}
-use Rattle.plant_model.specs.{Calls.{changes_for, own_refusals, reply, unit_after}, Facts.{Facts}, Kinds.{role_needed}}
-use Rattle.plant_model.specs.{Refusals.{fault_entries, file_refusals, first_refusal, holds_some, lacks_role, tags_of}, RowChanges.{import_changes}}
+use Rattle.plant_model.specs.{Calls.{own_refusals, reply}, Facts.{Facts}, Kinds.{role_needed}}
+use Rattle.plant_model.specs.steps.CallChanges.{changes_for, unit_after}
+use Rattle.plant_model.specs.Refusals.{fault_entries, file_refusals, first_refusal, holds_some, lacks_role, tags_of}
+use Rattle.plant_model.specs.steps.RowChanges.{import_changes}
 use Rattle.plant_model.specs.{Verdicts.{changes_history, refusals, refused_or, verdict_of}, declared.call.Call.{Call}}
 use Rattle.plant_model.specs.declared.{call.Request.TheVariants.{Import}, reply.{Full.TheVariants.{Events as TooManyEvents}, Refused.{Refused}}}
 use Rattle.plant_model.specs.declared.reply.{Refused.TheVariants.{BadFile as FileRefused, MomentBehind, NotGranted, UnitFull}, Reply.{Reply}}

@@ -1,9 +1,12 @@
 -- From the facts of a part to the history whose rows it is of.
 use Rattle.std.{specs.List.{slice_get}, proofs.lemmas.{Bool.{false_from_ne_true}, Result.{IfOk-weaker}}}
 use Rattle.std.proofs.Common.{ap, refl, subst, sym, ◌∙◌, Bool, Err, IfOk, List, None, Option, Result, Some, [], false, if◌then◌else◌, true, ℕ, ◌∷◌, ◌≡◌}
-use Rattle.plant_model.specs.{Calls.{changes_for}, Events.{events}, Facts.{facts}, Legality.{IsLegal}}
-use Rattle.plant_model.specs.{Parts.{none, part_of, part_of_holder, part_of_stranger}, Refusals.{holds_some}}
-use Rattle.plant_model.specs.{RowChanges.{changed_by, no_rows, puts_unit}, RowFacts.{facts_among, facts_in, holds_by}, Rows.{rows_of, unit_row}}
+use Rattle.plant_model.specs.{Events.{events}, Facts.{facts}, Legality.{IsLegal}}
+use Rattle.plant_model.specs.steps.CallChanges.{changes_for}
+use Rattle.plant_model.specs.Refusals.{holds_some}
+use Rattle.plant_model.specs.steps.Parts.{none, part_of, part_of_holder, part_of_stranger}
+use Rattle.plant_model.specs.Rows.{rows_of, unit_row}
+use Rattle.plant_model.specs.steps.{RowChanges.{changed_by, no_rows, puts_unit}, RowFacts.{facts_among, facts_in, holds_by}}
 use Rattle.plant_model.specs.{Verdicts.{changes_history, is_opening, verdict, verdict_of}, declared.call.{Call.{Call}, Request.{Request}}}
 use Rattle.plant_model.specs.declared.{call.Request.TheVariants.{Floods, Import, OpenUnit}, reply.Refused.TheVariants.{NotGranted}}
 use Rattle.plant_model.specs.declared.{reply.Reply.TheVariants.{Done}, rows.{RowEdit.{RowEdit}, UnitPart.{UnitPart}, UnitRows.{UnitRows}}}

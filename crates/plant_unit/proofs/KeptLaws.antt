@@ -6,9 +6,9 @@ use Rattle.std.proofs.lemmas.{List.{Folds.{list_any_none}, Sums.{list_all-from_A
 use Rattle.plant_alarm.specs.{States.{summary}, declared.event.Event.{Event}}
 use Rattle.plant_model.specs.{Alarms.{latching}, Changes.{Draft, change, draft, kind_of_change, matrix, record_of, sheet}}
 use Rattle.plant_model.specs.{Events.{events}, Histories.{same_number}, Legality.{IsLegal}, Matrices.{matrix_numbered}}
-use Rattle.plant_model.specs.Kinds.{AllEvents, AllRecords, Approval, File, OneChange, OneRecord, Scope, scope_of, scope_of_proposal}
-use Rattle.plant_model.specs.Parts.{Selection, counted_for, every, is_source, none, of_approved, of_topic, part_of, part_of_holder, part_of_stranger, rows_selected, selected, selection}
-use Rattle.plant_model.specs.RowFacts.{alarm_tag, cells_at, change_found, change_number, change_read, has_cells, holds_by, matrix_read, record_found, record_tag, shelf_tag}
+use Rattle.plant_model.specs.steps.LooksAt.{AllEvents, AllRecords, Approval, File, OneChange, OneRecord, Scope, scope_of, scope_of_proposal}
+use Rattle.plant_model.specs.steps.Parts.{Selection, counted_for, every, is_source, none, of_approved, of_topic, part_of, part_of_holder, part_of_stranger, rows_selected, selected, selection}
+use Rattle.plant_model.specs.steps.RowFacts.{alarm_tag, cells_at, change_found, change_number, change_read, has_cells, holds_by, matrix_read, record_found, record_tag, shelf_tag}
 use Rattle.plant_model.specs.Rows.{alarm_row, alarm_rows, cell_rows, change_entry, change_rows, changes_of, max_of_kind, record_entry, record_rows, records_of, revision_of_limit, rows_of, shelf_rows, sheet_of_kind, tag_of_kind, topic_of}
 use Rattle.plant_model.specs.{Shelves.{shelf}, declared.call.{Call.{Call}, Request.{Request, TheVariants.{Floods, Import, Propose, Register}}}}
 use Rattle.plant_model.specs.declared.rows.{AlarmRow.{AlarmRow}, CellRow.{CellRow}, ChangeEntry.{ChangeEntry}}

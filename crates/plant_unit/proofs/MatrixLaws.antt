@@ -1,7 +1,8 @@
 -- The rows of a matrix, one after another as its limits and cells stand.
 use Rattle.std.{specs.List.{enumerate_from, list_all, range_with_len}, proofs.lemmas.{Bool.{and_parts, leb-true}, List.Elements.{filter_map-append}}}
 use Rattle.std.proofs.Common.{eqb→eq, ap, append_assoc, arith, get_or, length-append, refl, subst, sym, ◌∙◌, Err, List, Ok, OnOk, Result, Some, T, [], filter_map, flat_map, length, map, option_and_then, option_map, suc, true, zero, ℕ, ◌++◌, ◌+◌, ◌<◌, ◌==◌, ◌∷◌, ◌≡◌, ◌≤◌}
-use Rattle.plant_model.specs.{Matrices.{at_place, band_at, cell_of, cells_of_row}, RowChanges.{bands_of, cells_of, matrix_changes}}
+use Rattle.plant_model.specs.Matrices.{at_place, band_at, cell_of, cells_of_row}
+use Rattle.plant_model.specs.steps.RowChanges.{bands_of, cells_of, matrix_changes}
 use Rattle.plant_model.specs.declared.rows.{Row.TheVariants.{Band as BandPut, Cell as CellPut}, RowEdit.{RowEdit, TheVariants.{Put}}}
 use Rattle.plant_model.proofs.public.ReadLaws.{filter_map-map, listed, place-after}
 use Rattle.plant_ration.specs.{Grid.{Grid}, Matrix.{is_matrix}, declared.cell.Cell.{Cell}}

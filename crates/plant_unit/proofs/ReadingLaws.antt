@@ -4,7 +4,7 @@ use Rattle.std.proofs.lemmas.List.{map-append, nil_from_length, FromFn.{filter_o
 use Rattle.std.proofs.Common.{find, IfOk, filter_map, option_and_then, option_map, option_to_list, unwrap_or, ◌-◌, ◌||◌, Bool, List, None, Option, Result, Some, [], false, filter, length, map, not, true, ℕ, ◌&&◌, ◌++◌, ◌+◌, ◌==◌, ◌∷◌, ◌≡◌, ap, arith, cond, get_or, refl, subst, sym, take, ◌<◌, ◌∙◌, append-nil}
 use Rattle.std.proofs.lemmas.{Option.{get_or_from_slice_get, slice_get_within}, Bool.{eqb-true}}
 use Rattle.plant_model.{specs.{Histories.{same_number}, Refusals.{has_row}}, proofs.public.HistoryLaws.{when_Some}}
-use Rattle.plant_model.specs.RowFacts.{change_found, facts_in, record_found, record_from, record_read, sheet_read, unit_read, cells_at, has_cells, matrix_read}
+use Rattle.plant_model.specs.steps.RowFacts.{change_found, facts_in, record_found, record_from, record_read, sheet_read, unit_read, cells_at, has_cells, matrix_read}
 use Rattle.plant_model.specs.declared.{reply.RecordRow.{RecordRow}, rows.{BandRow.{BandRow}, CellRow.{CellRow}, ChangeEntry.{ChangeEntry}}}
 use Rattle.plant_model.specs.declared.rows.{RecordEntry.{RecordEntry}, UnitPart.{UnitPart}, UnitRow.{UnitRow}, UnitRows.{UnitRows}}
 use Rattle.plant_ration.specs.{Grid.{Grid}, Matrix.{row_of, has_shape, is_matrix, is_ordered, is_rising, made_or, matrix_of}}

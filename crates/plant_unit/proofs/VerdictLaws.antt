@@ -1,7 +1,8 @@
 -- Verdicts, from what was decided about a call.
 use Rattle.std.proofs.Common.{ap, refl, subst, sym, ◌∙◌, Err, IfOk, IsOkAnd, List, None, Ok, Option, Result, Some, [], false, if◌then◌else◌, is_ok, not, true, ◌&&◌, ◌∷◌, ◌≡◌}
 use Rattle.std.proofs.lemmas.Bool.{and_right}
-use Rattle.plant_model.specs.{Calls.{changes_for, own_changes, own_refusals, reply, unit_after}, Facts.{Facts}, Refusals.{first_refusal}}
+use Rattle.plant_model.specs.{Calls.{own_refusals, reply}, Facts.{Facts}, Refusals.{first_refusal}}
+use Rattle.plant_model.specs.steps.CallChanges.{changes_for, own_changes, unit_after}
 use Rattle.plant_model.specs.{Verdicts.{changes_history, is_read, refused_or}, declared.call.{Call.{Call}, Request.{Request}}}
 use Rattle.plant_model.specs.declared.{reply.{Refused.{Refused}, Reply.{Reply, TheVariants.{Done}}}, rows.Row.TheVariants.{Unit as UnitPut}}
 use Rattle.plant_model.specs.declared.rows.{RowEdit.{RowEdit, TheVariants.{Put}}, UnitRow.{UnitRow}, Verdict.{Verdict}}

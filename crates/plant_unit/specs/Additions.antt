@@ -1,10 +1,12 @@
 -- What a file adds to a unit, or why it is refused.
 use Rattle.std.specs.{List.{list_all}, Ordering.{nat_cmp}}
 use Rattle.std.specs.Prelude.{Err, List, None, Ok, Option, Result, Some, length, true, ℕ, ◌-◌, ◌<◌, ◌||◌, ◌∷◌, ◌≡◌, ◌≤◌}
-use Rattle.plant_model.specs.{Calls.{unit_after}, Facts.{Facts, limit_revision_of}}
-use Rattle.plant_model.specs.Kinds.{Scope, scope_of, AllAlarms, AllEvents, AllGrants, AllRecords, AllShelves, Approval, Content, File, NothingElse, OneAlarm, OneChange, OneRecord, Shelving}
-use Rattle.plant_model.specs.{Refusals.{file_refusals, first_refusal}, RowChanges.{import_changes}}
-use Rattle.plant_model.specs.RowFacts.{alarm_tag, change_found, change_number, change_read, facts_among, facts_in, record_tag, shelf_tag, unit_read}
+use Rattle.plant_model.specs.Facts.{Facts, limit_revision_of}
+use Rattle.plant_model.specs.steps.CallChanges.{unit_after}
+use Rattle.plant_model.specs.steps.LooksAt.{Scope, scope_of, AllAlarms, AllEvents, AllGrants, AllRecords, AllShelves, Approval, Content, File, NothingElse, OneAlarm, OneChange, OneRecord, Shelving}
+use Rattle.plant_model.specs.Refusals.{file_refusals, first_refusal}
+use Rattle.plant_model.specs.steps.RowChanges.{import_changes}
+use Rattle.plant_model.specs.steps.RowFacts.{alarm_tag, change_found, change_number, change_read, facts_among, facts_in, record_tag, shelf_tag, unit_read}
 use Rattle.plant_model.specs.{Rows.{change_entry}, declared.{call.Request.{Request, TheVariants.{Import}}, reply.{Refused.{Refused}, Reply.{Reply}}}}
 use Rattle.plant_model.specs.declared.{reply.Reply.TheVariants.{Imported}, rows.{ChangeEntry.{ChangeEntry}, Row.TheVariants.{Unit as UnitPut}}}
 use Rattle.plant_model.specs.declared.rows.{RowEdit.{RowEdit, TheVariants.{Put}}, UnitPart.{UnitPart}}

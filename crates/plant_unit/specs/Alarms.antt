@@ -3,7 +3,8 @@ use Rattle.std.specs.BTreeSet.{BTreeSet}
 use Rattle.std.specs.Prelude.{option_to_list, Bool, IfOk, List, OnOk, Option, Result, Some, [], filter, if◌then◌else◌, map, slice_get, slice_set, ℕ, ◌++◌, ◌∷◌, ◌≡◌}
 use Rattle.plant_alarm.specs.{States.{summary}, declared.{event.Event.{Event}, summary.Summary.{Summary}}}
 use Rattle.plant_import.specs.{Merging.{IsRising}, Needed.{needed}, Numbers.{with_events}}
-use Rattle.plant_model.specs.{RowChanges.{state_put}, RowFacts.{alarm_tag}, declared.rows.{AlarmRow.{AlarmRow}, RowEdit.{RowEdit}}}
+use Rattle.plant_model.specs.declared.rows.{AlarmRow.{AlarmRow}, RowEdit.{RowEdit}}
+use Rattle.plant_model.specs.steps.{RowChanges.{state_put}, RowFacts.{alarm_tag}}
 use Rattle.plant_types.specs.{KeyedRows.{IsInOrder}, Names.{Name, name_cmp}, Results.{Gives}}
 use Rattle.plant_unit.specs.{Additions.{AreAdded}, Summaries.{AreNamed, HaveSummaries, has_event_of, summaries, summary_of}}
 

@@ -1,6 +1,7 @@
 -- The rows that proposals and decisions about changes put.
 use Rattle.std.specs.Prelude.{List, None, Option, Result, ℕ, map, option_map, true, ◌≡◌}
-use Rattle.plant_model.specs.{Changes.{change_as}, Facts.{Facts}, RowChanges.{rerated}, RowFacts.{record_read}, Rows.{change_entry, max_of_kind, sheet_of_kind, tag_of_kind}, declared.call.Call.{Call}}
+use Rattle.plant_model.specs.{Changes.{change_as}, Facts.{Facts}, Rows.{change_entry, max_of_kind, sheet_of_kind, tag_of_kind}, declared.call.Call.{Call}}
+use Rattle.plant_model.specs.steps.{RowChanges.{rerated}, RowFacts.{record_read}}
 use Rattle.plant_model.specs.declared.rows.{ChangeEntry.{ChangeEntry}, RecordEntry.{RecordEntry}, UnitPart.{UnitPart}}
 use Rattle.plant_model.specs.declared.rows.{Row.TheVariants.{Change as ChangePut, Record as RecordPut}, RowEdit.{RowEdit, TheVariants.{Put}}}
 use Rattle.plant_ration.specs.{Grid.{Grid}, declared.change.{ChangeKind.{ChangeKind}, ChangeState.{ChangeState}, Proposal.{Proposal}}}

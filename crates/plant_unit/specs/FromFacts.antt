@@ -1,7 +1,9 @@
 -- What a function gives, decides or answers by the facts of a part.
 use Rattle.std.specs.Prelude.{IfOk, List, OnOk, Option, Result, ℕ, ◌++◌, ◌≡◌}
-use Rattle.plant_model.specs.{Calls.{own_changes, own_refusals}, Facts.{Facts}, Refusals.{first_refusal, kind_refusals}}
-use Rattle.plant_model.specs.{RowFacts.{facts_among, facts_in}, declared.call.{Call.{Call}, Request.{Request, TheVariants.{Import, Propose}}}}
+use Rattle.plant_model.specs.{Calls.{own_refusals}, Facts.{Facts}, Refusals.{first_refusal, kind_refusals}}
+use Rattle.plant_model.specs.steps.CallChanges.{own_changes}
+use Rattle.plant_model.specs.declared.call.{Call.{Call}, Request.{Request, TheVariants.{Import, Propose}}}
+use Rattle.plant_model.specs.steps.RowFacts.{facts_among, facts_in}
 use Rattle.plant_model.specs.declared.{reply.{ChangeRow.{ChangeRow}, Refused.{Refused}, Reply.{Reply}}, rows.ChangeEntry.{ChangeEntry}}
 use Rattle.plant_model.specs.declared.rows.{RowEdit.{RowEdit}, UnitPart.{UnitPart}, Verdict.{Verdict}}
 use Rattle.plant_alarm.specs.declared.event.Event.{Event}

@@ -1,9 +1,13 @@
 -- What a judgement says.
 use Rattle.std.specs.Prelude.{Bool, Err, IsOkAnd, List, None, Ok, Option, Result, Some, [], false, if◌then◌else◌, is_ok, is_some, nat_lt, not, true, ℕ, ◌++◌, ◌∷◌, ◌≡◌}
-use Rattle.plant_model.specs.{Calls.{changes_for, own_changes, own_refusals, reply}, Changes.{priority_by}, Facts.{Facts, last_of}}
-use Rattle.plant_model.specs.{Kinds.{role_needed, says}, Legality.{IsLegal}, Parts.{part_of}, Refusals.{base_changed, first_refusal, has_row}}
-use Rattle.plant_model.specs.{Refusals.{holds_some, is_not_needed, kind_refusals, lacks_role, of_change}, RowChanges.{changed_by, in_force, kind_row}}
-use Rattle.plant_model.specs.{RowChanges.{no_rows, puts_unit}, RowFacts.{change_read, facts_in}, Rows.{rows_of}, Verdicts.{after, changes_history}}
+use Rattle.plant_model.specs.{Calls.{own_refusals, reply}, Changes.{priority_by}, Facts.{Facts, last_of}}
+use Rattle.plant_model.specs.steps.CallChanges.{changes_for, own_changes}
+use Rattle.plant_model.specs.{Kinds.{role_needed, says}, Legality.{IsLegal}, Refusals.{base_changed, first_refusal, has_row}}
+use Rattle.plant_model.specs.steps.Parts.{part_of}
+use Rattle.plant_model.specs.Refusals.{holds_some, is_not_needed, kind_refusals, lacks_role, of_change}
+use Rattle.plant_model.specs.steps.RowChanges.{changed_by, in_force, kind_row}
+use Rattle.plant_model.specs.{Rows.{rows_of}, Verdicts.{after, changes_history}}
+use Rattle.plant_model.specs.steps.{RowChanges.{no_rows, puts_unit}, RowFacts.{change_read, facts_in}}
 use Rattle.plant_model.specs.{Verdicts.{refused_or, verdict, verdict_of}, Worlds.{opening}, declared.call.{Call.{Call}, Request.{Request}}}
 use Rattle.plant_model.specs.declared.reply.{ChangeRow.{ChangeRow}, Refused.{Refused, TheVariants.{MomentBehind, NotAnAlarm, NotGranted}}}
 use Rattle.plant_model.specs.declared.reply.{Refused.TheVariants.{NotProposer, OutsideMatrix, SamePerson}, Reply.{Reply, TheVariants.{Done}}}

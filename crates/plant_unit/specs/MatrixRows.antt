@@ -1,6 +1,7 @@
 -- The rows of a matrix, one after another as its limits and cells stand.
 use Rattle.std.specs.{List.{enumerate_from, range_with_len}, Prelude.{List, Vec, filter, flat_map, map, ℕ}}
-use Rattle.plant_model.specs.{Histories.{same_number}, RowFacts.{cells_at, has_cells}, declared.rows.{BandRow.{BandRow}, CellRow.{CellRow}}}
+use Rattle.plant_model.specs.{Histories.{same_number}, declared.rows.{BandRow.{BandRow}, CellRow.{CellRow}}}
+use Rattle.plant_model.specs.steps.RowFacts.{cells_at, has_cells}
 use Rattle.plant_model.specs.declared.rows.{Row.TheVariants.{Band as BandPut, Cell as CellPut}, RowEdit.{RowEdit, TheVariants.{Put}}}
 use Rattle.plant_ration.specs.declared.cell.Cell.{Cell}
 

@@ -1,7 +1,7 @@
 -- What is read from rows, where all of it is there.
 use Rattle.std.specs.{List.{list_any}, Prelude.{Bool, Option, false, not, is_some, length, option_map, true, unwrap_or, ℕ, ◌&&◌, ◌==◌}}
 use Rattle.plant_model.specs.{Facts.{Facts}, Refusals.{has_row}}
-use Rattle.plant_model.specs.RowFacts.{change_found, change_read, record_read, kind_read, matrix_read, sheet_read}
+use Rattle.plant_model.specs.steps.RowFacts.{change_found, change_read, record_read, kind_read, matrix_read, sheet_read}
 use Rattle.plant_model.specs.declared.{reply.ChangeRow.{ChangeRow}, rows.{ChangeEntry.{ChangeEntry}, ChangeTopic.{ChangeTopic}}}
 use Rattle.plant_model.specs.declared.rows.{ChangeTopic.TheVariants.{Limit, Matrix, Record}, RecordEntry.{RecordEntry}, UnitRows.{UnitRows}}
 use Rattle.plant_ration.specs.{Grid.{Grid}, Matrix.{is_matrix}, declared.change.{ChangeKind.{ChangeKind}, Sheet.{Sheet}}}

@@ -3,7 +3,8 @@ use Rattle.std.specs.Prelude.{Bool, List, Option, Result, Some, [], false, not, 
 use Rattle.plant_alarm.specs.{Shelves.{is_unshelved}, declared.shelf.Shelf.{Shelf, TheVariants.{Clear, OneShot, Timed}}}
 use Rattle.plant_alarm.specs.declared.shelf.ShelfRefused.{ShelfRefused}
 use Rattle.plant_alarm.specs.declared.shelf.ShelfRefused.TheVariants.{ConditionAlreadyShelved, ConditionNotShelved, ShelvingTimeOutOfRange}
-use Rattle.plant_model.specs.{Facts.{Facts, returned}, Refusals.{first_refusal, over_quota}, Replies.{line_of}, RowFacts.{facts_in}}
+use Rattle.plant_model.specs.{Facts.{Facts, returned}, Refusals.{first_refusal, over_quota}, Replies.{line_of}}
+use Rattle.plant_model.specs.steps.RowFacts.{facts_in}
 use Rattle.plant_model.specs.{Shelves.{shelf_row_as, state_of_shelf}, declared.{call.Call.{Call}, reply.Refused.{Refused}, rows.UnitPart.{UnitPart}}}
 use Rattle.plant_model.specs.declared.reply.Refused.TheVariants.{ConditionAlreadyShelved as IsShelved, ConditionNotShelved as IsUnshelved, ShelvingTimeOutOfRange as IsOutOfRange}
 use Rattle.plant_model.specs.declared.{reply.ShelfLine.{ShelfLine}, rows.{AlarmRow.{AlarmRow}, Key.TheVariants.{Shelf as ShelfKey}}}

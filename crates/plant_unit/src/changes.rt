@@ -1,7 +1,8 @@
 //! The changes of an opening, and which requests change nothing.
 
 ghost use Rattle.std.specs.Prelude.{◌≡◌, [], IfOk, true};
-ghost use Rattle.plant_model.specs.{Calls.{changes_for}, Facts.{facts}, Verdicts.{is_opening, is_read}};
+ghost use Rattle.plant_model.specs.{Facts.{facts}, Verdicts.{is_opening, is_read}};
+ghost use Rattle.plant_model.specs.steps.CallChanges.{changes_for};
 ghost use Rattle.plant_types.specs.Results.{OnlyMemory};
 
 use crate::matrices::push_matrix;
@@ -13,7 +14,7 @@ use std::alloc::Global;
 pub fn is_read(request: &Request) -> bool
     ensures { result ≡ is_read request.now }
 {
-    matches!(request.kind().effect(), Effect::Reads)
+    matches!(request.effect(), Effect::Reads)
 }
 
 /// The changes of an opening.

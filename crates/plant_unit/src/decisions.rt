@@ -3,7 +3,8 @@
 ghost use Rattle.std.specs.Prelude.{◌≡◌, ◌<◌, ◌+◌, ◌++◌, IfOk, None};
 ghost use Rattle.plant_types.specs.Results.{Gives, OnlyMemory};
 ghost use Rattle.plant_ration.specs.declared.change.ChangeKind.TheVariants.{Limit, Matrix as MatrixKind, Rationale};
-ghost use Rattle.plant_model.specs.{Changes.{priority_by}, RowChanges.{in_force, kind_row}, RowFacts.{facts_in, unit_read}, Rows.{change_entry}};
+ghost use Rattle.plant_model.specs.{Changes.{priority_by}, Rows.{change_entry}};
+ghost use Rattle.plant_model.specs.steps.{RowChanges.{in_force, kind_row}, RowFacts.{facts_in, unit_read}};
 ghost use Rattle.plant_model.specs.declared.call.Request.TheVariants.{Approve, Propose, Reject, WithdrawChange};
 ghost use Rattle.plant_unit.specs.{Additions.{AreKept}, Deciding.{GivesRerated, decided_put, rerated_puts}};
 ghost use Rattle.plant_unit.specs.FromFacts.{AddsFrom, AddsProposal, ApprovesFrom, DecidesFrom, JudgesFrom, RefusesFrom, refusal_of_kind};

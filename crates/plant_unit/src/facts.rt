@@ -4,7 +4,7 @@ ghost use Rattle.std.specs.Prelude.{◌≡◌, count_by, option_copied};
 ghost use Rattle.plant_types.specs.{KeyedRows.{row_at}, Names.{name_cmp}};
 ghost use Rattle.plant_alarm.specs.Shelves.{is_unshelved};
 ghost use Rattle.plant_model.specs.{Facts.{is_steward_row, others_shelved, returned, shelf_now}, Refusals.{holds_some}};
-ghost use Rattle.plant_model.specs.RowFacts.{facts_in, shelf_tag};
+ghost use Rattle.plant_model.specs.steps.RowFacts.{facts_in, shelf_tag};
 ghost use Rattle.plant_unit.specs.Additions.{AreKept};
 ghost use Rattle.plant_model.specs.Shelves as shelves;
 ghost use Rattle.plant_unit.specs.Shelving as shelving;

@@ -2,7 +2,8 @@
 
 ghost use Rattle.std.specs.Prelude.{◌≡◌, ◌≤◌, ◌+◌, IfOk, map, nat_lt};
 ghost use Rattle.plant_types.specs.Results.{OnlyMemory};
-ghost use Rattle.plant_model.specs.{RowFacts.{alarm_tag, unit_read}, declared.reply.Reply.TheVariants.{Imported}};
+ghost use Rattle.plant_model.specs.declared.reply.Reply.TheVariants.{Imported};
+ghost use Rattle.plant_model.specs.steps.RowFacts.{alarm_tag, unit_read};
 ghost use Rattle.plant_unit.specs.{Additions.{GivesAddition, GivesImport}, FromFacts.{JudgesImport}};
 
 use crate::alarms::push_alarms;

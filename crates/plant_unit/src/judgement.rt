@@ -1,7 +1,8 @@
 ghost use Rattle.std.specs.Prelude.{◌≡◌, List, IfOk, option_copied, true, false};
 ghost use Rattle.plant_types.specs.Results.{OnlyMemory};
 ghost use Rattle.plant_alarm.specs.declared.event.Event.{Event as TheEvent};
-ghost use Rattle.plant_model.specs.{RowFacts.{facts_among, facts_in, unit_read}, Verdicts.{is_opening}, declared.call.Call.{Call}};
+ghost use Rattle.plant_model.specs.{Verdicts.{is_opening}, declared.call.Call.{Call}};
+ghost use Rattle.plant_model.specs.steps.RowFacts.{facts_among, facts_in, unit_read};
 ghost use Rattle.plant_unit.specs.Additions.{AreKept};
 ghost use Rattle.plant_unit.specs.Judged.{AreEventsSeen, IsJudged, IsJudgedOwn, IsOpeningFor, IsPartOf, IsVerdictOn, is_import};
 

@@ -2,7 +2,7 @@
 
 ghost use Rattle.std.specs.Prelude.{◌≡◌, ◌≤◌, ◌++◌, All, IfOk, OnOk, length};
 ghost use Rattle.plant_types.specs.Results.{OnlyMemory};
-ghost use Rattle.plant_model.specs.{RowChanges.{matrix_changes}, RowFacts.{cells_at}};
+ghost use Rattle.plant_model.specs.steps.{RowChanges.{matrix_changes}, RowFacts.{cells_at}};
 ghost use Rattle.plant_unit.specs.{MatrixRows.{band_puts, cell_lists, cell_puts, items_of, limits_at, row_puts}, Readings.{matrix_found}};
 
 use plant_model::{BandRow, CellRow, Row, RowEdit, UnitRows};

@@ -3,7 +3,8 @@
 ghost use Rattle.std.specs.Prelude.{◌≡◌, option_copied};
 ghost use Rattle.plant_types.specs.Results.{OnlyMemory};
 ghost use Rattle.plant_ration.specs.declared.change.ChangeKind.TheVariants.{Matrix as MatrixKind};
-ghost use Rattle.plant_model.specs.{Refusals.{first_refusal, kind_unknown}, RowFacts.{facts_in, unit_read}, Rows.{revision_of_limit}};
+ghost use Rattle.plant_model.specs.{Refusals.{first_refusal, kind_unknown}, Rows.{revision_of_limit}};
+ghost use Rattle.plant_model.specs.steps.RowFacts.{facts_in, unit_read};
 ghost use Rattle.plant_model.specs.declared.call.Request.TheVariants.{Propose};
 ghost use Rattle.plant_unit.specs.{Additions.{AreKept}, FromFacts.{GivesFrom, RefusesAlways, RefusesFrom, refusal_of_kind}};
 ghost use Rattle.plant_unit.specs.Judged.{IsRefusalOf, base_refusal, if_not_proposer, if_proposer, record_decision, sheet_decision};

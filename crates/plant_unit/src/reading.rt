@@ -2,7 +2,7 @@
 
 ghost use Rattle.std.specs.Prelude.{◌≡◌, IfOk, option_copied, option_map};
 ghost use Rattle.plant_types.specs.{KeyedRows.{row_at}, Names.{name_cmp}, Results.{Gives, OnlyMemory}};
-ghost use Rattle.plant_model.specs.RowFacts.{change_found, facts_in, record_from, record_tag};
+ghost use Rattle.plant_model.specs.steps.RowFacts.{change_found, facts_in, record_from, record_tag};
 ghost use Rattle.plant_model.specs.declared.rows.ChangeTopic.TheVariants.{Limit as LimitTopic, Matrix as MatrixTopic, Record as RecordTopic};
 ghost use Rattle.plant_model.specs.declared.rows.UnitRows.{UnitRows as TheRows};
 ghost use Rattle.plant_unit.specs.{Additions.{AreKept}, FromFacts.{GivesFrom}, Readings.{change_whole, kind_found, sheet_found, source_found}};

@@ -1,7 +1,8 @@
 //! The refusals of a caller who may not make the call, whatever it asks for.
 
 ghost use Rattle.std.specs.Prelude.{◌≡◌};
-ghost use Rattle.plant_model.specs.{Refusals.{first_refusal}, RowFacts.{facts_in, unit_read}};
+ghost use Rattle.plant_model.specs.Refusals.{first_refusal};
+ghost use Rattle.plant_model.specs.steps.RowFacts.{facts_in, unit_read};
 ghost use Rattle.plant_unit.specs.Judged.{holder_refusals};
 
 use crate::facts::{holds_any, is_held};
@@ -17,7 +18,7 @@ pub fn holder_refusal(unit: &UnitRow, part: &UnitPart, call: &Call) -> Option<Re
     if !holds_any(part, person, now) {
         return Some(Refused::NotGranted);
     }
-    if let Some(role) = call.request.kind().role_needed() {
+    if let Some(role) = call.request.role_needed() {
         if !is_held(part, person, role, now) {
             return Some(Refused::RoleLacking(role));
         }

@@ -2,7 +2,8 @@
 
 ghost use Rattle.std.specs.Prelude.{◌≡◌, ℕ};
 ghost use Rattle.plant_types.specs.{Names.{Name}, Results.{Gives, OnlyMemory}};
-ghost use Rattle.plant_model.specs.{Facts.{returned}, Replies.{shelf_lines}, RowFacts.{facts_in}};
+ghost use Rattle.plant_model.specs.{Facts.{returned}, Replies.{shelf_lines}};
+ghost use Rattle.plant_model.specs.steps.RowFacts.{facts_in};
 ghost use Rattle.plant_model.specs.declared.call.Request.TheVariants.{Alarms as AlarmsCall, ChangeOf as ChangeCall, Floods as FloodsCall, RecordOf as RecordCall, Shelves as ShelvesCall, Standing as StandingCall, Status as StatusCall};
 ghost use Rattle.plant_unit.specs.{Additions.{AreCountable, AreKept}, FromFacts.{Answers, AnswersAlways, AnswersAnyone, GivesFrom}};
 ghost use Rattle.plant_unit.specs.Shelving.{is_shelved, line_at};

@@ -2,7 +2,7 @@
 
 ghost use Rattle.std.specs.Prelude.{◌≡◌, IfOk};
 ghost use Rattle.plant_types.specs.Results.{Gives, OnlyMemory};
-ghost use Rattle.plant_model.specs.RowChanges.{placed_in, taken_out};
+ghost use Rattle.plant_model.specs.steps.RowChanges.{placed_in, taken_out};
 ghost use Rattle.plant_model.specs.declared.call.Request.TheVariants.{PlaceInService, Register, RemoveFromService};
 ghost use Rattle.plant_unit.specs.FromFacts.{Decides, DecidesAlways};
 

@@ -2,7 +2,8 @@
 
 ghost use Rattle.std.specs.Prelude.{◌≡◌};
 ghost use Rattle.plant_types.specs.{Names.{Name}, Results.{Gives, OnlyMemory}};
-ghost use Rattle.plant_model.specs.{RowFacts.{unit_read}, declared.call.Request.TheVariants.{OneShotShelve, TimedShelve, Unshelve}};
+ghost use Rattle.plant_model.specs.declared.call.Request.TheVariants.{OneShotShelve, TimedShelve, Unshelve};
+ghost use Rattle.plant_model.specs.steps.RowFacts.{unit_read};
 ghost use Rattle.plant_unit.specs.{Additions.{AreKept}, FromFacts.{DecidesAs, DecidesFrom, GivesOne}, Shelving.{shelf_decision}};
 ghost use Rattle.plant_unit.specs.Shelving as shelving;
 

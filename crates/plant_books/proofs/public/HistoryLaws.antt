@@ -1,8 +1,9 @@
 -- A unit's rows with and without its history: the part of a call that looks at none of it, and changes that put none.
 use Rattle.std.proofs.Common.{Bool, List, None, Option, Some, [], ap, cond, false, filter, refl, sym, true, ℕ, ◌∙◌, ◌∷◌, ◌≡◌, ◌||◌}
-use Rattle.plant_model.specs.{Kinds.{AllEvents, AllRecords, Approval, Content, File, OneChange, OneRecord, Scope, scope_of, scope_of_proposal}, declared.rows.UnitRows.{UnitRows}}
-use Rattle.plant_model.specs.Parts.{counted_for, of_approved, of_topic, part_of, part_of_holder, part_of_stranger, rows_selected, selected, selection, with_number}
-use Rattle.plant_model.specs.{RowChanges.{changed, changed_by}, RowFacts.{change_found, holds_by}, Scopes.{has_events, has_reviews, looks_at_events, looks_at_reviews}}
+use Rattle.plant_model.specs.declared.rows.UnitRows.{UnitRows}
+use Rattle.plant_model.specs.steps.LooksAt.{AllEvents, AllRecords, Approval, Content, File, OneChange, OneRecord, Scope, scope_of, scope_of_proposal}
+use Rattle.plant_model.specs.steps.Parts.{counted_for, of_approved, of_topic, part_of, part_of_holder, part_of_stranger, rows_selected, selected, selection, with_number}
+use Rattle.plant_model.specs.steps.{RowChanges.{changed, changed_by}, RowFacts.{change_found, holds_by}, Scopes.{has_events, has_reviews, looks_at_events, looks_at_reviews}}
 use Rattle.plant_model.specs.declared.{call.{Call.{Call}, Request.{Request, TheVariants.{Floods, Import, Propose}}}, rows.{BandRow.{BandRow}, CellRow.{CellRow}, ChangeEntry.{ChangeEntry}}}
 use Rattle.plant_model.specs.declared.rows.{ChangeTopic.{ChangeTopic, TheVariants.{Matrix as MatrixTopic}}, Key.TheVariants.{Grant as GrantKey}}
 use Rattle.plant_model.specs.declared.rows.{Row.TheVariants.{Event as EventPut, Unit as UnitPut}, RowEdit.{RowEdit, TheVariants.{Put, PutEvents, Remove}}}

@@ -5,7 +5,8 @@ use Rattle.std.proofs.Common.{Bool, List, [], ap, arith, cond, drop, false, get_
 use Rattle.std.proofs.lemmas.{Bool.{cases_order, le-leb, lt-ltb, or_right, lt-leb, and_right}, List.Sorted.{IsPartitionedBy-leb, IsPartitionedBy-ltb}}
 use Rattle.plant_books.{specs.Numbered.{NumbersRise, of_numbers}, proofs.NumbersAmong.{among, among_more, none_among, or_none, smaller}}
 use Rattle.plant_import.proofs.public.Placed.{AllBelow, other, other_above}
-use Rattle.plant_model.specs.{Matrices.{band_cmp, cell_cmp}, RowFacts.{band_key, cell_key, change_number}, declared.rows.BandRow.{BandRow}}
+use Rattle.plant_model.specs.{Matrices.{band_cmp, cell_cmp}, declared.rows.BandRow.{BandRow}}
+use Rattle.plant_model.specs.steps.RowFacts.{band_key, cell_key, change_number}
 use Rattle.plant_model.specs.{declared.rows.{CellRow.{CellRow}, ChangeEntry.{ChangeEntry}}, Histories.{same_number}}
 use Rattle.plant_model.proofs.public.RowsFound.{tied_numbers, less}
 use Rattle.plant_types.{specs.KeyedRows.{IsInOrder}, proofs.public.{Orders.{same_numbers}, Halves.{first, second}}}

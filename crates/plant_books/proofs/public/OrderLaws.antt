@@ -1,8 +1,10 @@
 -- Rows stay in the order of their keys.
 use Rattle.std.specs.{Cmp.{IsTotalOrder, nat_cmp_total}, FinMap.{nat_cmp-IsAntisymmetric, Entries.{below_all, by_order, is_sorted}}}
 use Rattle.std.proofs.Common.{List, None, Some, T, [], ap, arith, cond, false, get_or, length, map, refl, subst, suc, sym, true, ℕ, ◌&&◌, ◌+◌, ◌<◌, ◌∙◌, ◌∷◌, ◌≡◌, option_to_list, is_eq, is_lt, nat_cmp, Err, IfSome, Ok, OnOk, Option, Result, filter, option_map, unwrap_or, Ordering, Equal, Greater, Less}
-use Rattle.plant_model.specs.{Matrices.{band_cmp, cell_cmp}, Order.{AreInOrder, EventsRise}, RowChanges.{changed, changed_by, no_rows, put, removed}}
-use Rattle.plant_model.specs.{RowFacts.{alarm_tag, band_key, cell_key, change_number, event_number, record_tag, shelf_tag}, declared.rows.Key.{Key}}
+use Rattle.plant_model.specs.Matrices.{band_cmp, cell_cmp}
+use Rattle.plant_model.specs.steps.{Order.{AreInOrder, EventsRise}, RowChanges.{changed, changed_by, no_rows, put, removed}}
+use Rattle.plant_model.specs.declared.rows.Key.{Key}
+use Rattle.plant_model.specs.steps.RowFacts.{alarm_tag, band_key, cell_key, change_number, event_number, record_tag, shelf_tag}
 use Rattle.plant_model.specs.declared.rows.{Key.TheVariants.{Grant as GrantKey, Shelf as ShelfKey}, Row.{Row}}
 use Rattle.plant_model.specs.declared.rows.Row.TheVariants.{Alarm as AlarmPut, Band as BandPut, Cell as CellPut, Change as ChangePut, Event as EventPut, Record as RecordPut, Shelf as ShelfPut}
 use Rattle.plant_model.specs.declared.rows.{RowEdit.{RowEdit, TheVariants.{Put, PutEvents, Remove}}, UnitRows.{UnitRows}}

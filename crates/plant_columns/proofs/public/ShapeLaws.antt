@@ -14,7 +14,8 @@ use Rattle.plant_ration.specs.declared.{cell.Cell.{Cell, TheVariants.{N}}, chang
 use Rattle.plant_types.{specs.{Roles.{role_no}, declared.role.Role.{Role, TheVariants.{Viewer}}}, proofs.public.Orders.{pair_total}}
 use Rattle.plant_model.specs.declared.rows.ChangeTopic.{ChangeTopic, TheVariants.{Record as RecordTopic}}
 use Rattle.plant_model.proofs.public.PlaceOrders.{band_total, cell_total}
-use Rattle.plant_columns.specs.Codes.{cell_no, cell_numbered, decision_no, decision_numbered, flag, flag_in, event_kind_code, kind_numbered, number, open_number, open_number_in, open_text, open_text_in, role_numbered, state_no, state_numbered, topic_no, topic_numbered}
+use Rattle.plant_import.specs.Merging.{kind_no}
+use Rattle.plant_columns.specs.Codes.{cell_no, cell_numbered, decision_no, decision_numbered, flag, flag_in, kind_numbered, number, open_number, open_number_in, open_text, open_text_in, role_numbered, state_no, state_numbered, topic_no, topic_numbered}
 use Rattle.plant_columns.specs.Shape.{table_in}
 use Rattle.plant_columns.specs.declared.tables.TableKind.{TableKind, TheVariants.{Units, Grants, Alarms, Shelves, Bands, Cells, Events, Records, Changes}}
 use Rattle.plant_columns.specs.Tables.{RowOf, KeyOf, all_tables, books_schema, shape, unit_shape}
@@ -30,7 +31,7 @@ pub state_back : (s : AlarmState) → state_numbered (state_no s) ≡ s
 state_back Normal = refl
 state_back s = refl
 
-pub kind_back : (k : EventKind) → kind_numbered (event_kind_code k) ≡ k
+pub kind_back : (k : EventKind) → kind_numbered (kind_no k) ≡ k
 kind_back Act = refl
 kind_back k = refl
 
@@ -154,7 +155,7 @@ good Events = record {
   back = λ id u x i. record { seq = x.seq; moment = x.moment; tag = x.tag; kind = kind_back x.kind i };
   agrees = λ id jd u v x y. sym (one (numbers x.seq y.seq));
   keyed = λ id u x. (refl, (refl, tt));
-  fits = λ u x i. Text u ∷ cast_number x.seq i ∷ cast_number x.moment i ∷ Text x.tag ∷ cast_number (event_kind_code x.kind) i ∷ [];
+  fits = λ u x i. Text u ∷ cast_number x.seq i ∷ cast_number x.moment i ∷ Text x.tag ∷ cast_number (kind_no x.kind) i ∷ [];
 }
 good Records = record {
   total = nat_list_cmp_total;

@@ -5,7 +5,8 @@ use Rattle.plant_types.specs.{Names.{name_cmp, same_name, Name}, Options.{or_els
 use Rattle.plant_types.proofs.public.{KeyedRowLaws.{put-rows, remove-rows, tied}, Orders.{same_names}}
 use Rattle.plant_model.specs.{Alarms.{latching, limit}, Changes.{draft, limit_revision, sheet}, Events.{events_of}, Facts.{facts, limit_of}}
 use Rattle.plant_model.specs.{Histories.{Begins, Over, Said, latest, still, what_stands}, Legality.{IsLegal}}
-use Rattle.plant_model.specs.{RowChanges.{changed_by, placed_in, taken_out}, Rows.{alarm_as, alarm_row, grant_as, grant_row, rows_of, unit_row}}
+use Rattle.plant_model.specs.Rows.{alarm_as, alarm_row, grant_as, grant_row, rows_of, unit_row}
+use Rattle.plant_model.specs.steps.RowChanges.{changed_by, placed_in, taken_out}
 use Rattle.plant_model.specs.{Service.{Outage, outage, said_of_outage}, Shelves.{shelf, shelf_row_as}}
 use Rattle.plant_model.specs.{Verdicts.{changes_history, is_opening, verdict}, declared.call.{Call.{Call}, Request.{Request}}}
 use Rattle.plant_model.specs.declared.call.Request.TheVariants.{Approve, Propose, Reject, WithdrawChange, Grant, Import, OneShotShelve, OpenUnit, PlaceInService, Register, RemoveFromService, TimedShelve, Unshelve, Withdraw}
@@ -29,14 +30,6 @@ no_more_stands k x rest =
     ≡ cond b None (option_map (grant_as k) (still rest))) [ true ↦ refl | false ↦ refl ]
 
 -- shelves
-now_shelved : (a b : Name) (row : Name → ShelfRow) (rest : Option (Said ShelfRow))
-    → still (or_else (when (same_name a b) (Begins (row a))) rest) ≡ cond (same_name a b) (Some (row b)) (still rest)
-now_shelved a b row rest =
-    elim (same_name a b) as (λ t. same_name a b ≡ t → still (or_else (when t (Begins (row a))) rest) ≡ cond t (Some (row b)) (still rest)) [
-      | true ↦ λ e. ap (λ y. Some (row y)) (same_names a b (tied _ _ e refl))
-      | false ↦ λ e. refl
-    ] refl
-
 still_when : {A : Type 0} (b : Bool) (v : Said A) (rest : Option (Said A)) → still (or_else (when b v) rest) ≡ cond b (what_stands v) (still rest)
 still_when true v rest = refl
 still_when false v rest = refl
@@ -59,7 +52,7 @@ module _ (h : List Call) (p : Name) (t : ℕ) where
     shelves =
         put-rows (shelf h) (shelf (with_request h p t (TimedShelve u a d w))) (tags_of_shelves h)
         (tags_of_shelves (with_request h p t (TimedShelve u a d w))) (shelf_row_as false t (t + d) p w a) (shelves_told h)
-        (shelves_told (with_request h p t (TimedShelve u a d w))) (λ b. now_shelved b a (shelf_row_as false t (t + d) p w) _) i;
+        (shelves_told (with_request h p t (TimedShelve u a d w))) (λ b. still_when (same_name b a) (Begins (shelf_row_as false t (t + d) p w a)) _) i;
   }
 
   unshelve_turns : (u a : Name) → Turns h p t (Unshelve u a)
@@ -83,7 +76,7 @@ module _ (h : List Call) (p : Name) (t : ℕ) where
             put-rows (shelf h) (shelf (with_request h p t (OneShotShelve u a w))) (tags_of_shelves h)
             (tags_of_shelves (with_request h p t (OneShotShelve u a w))) (shelf_row_as true t (t + unwrap_or (limit h a) 0) p w a) (shelves_told h)
             (shelves_told (with_request h p t (OneShotShelve u a w)))
-            (λ b. now_shelved b a (shelf_row_as true t (t + unwrap_or (limit h a) 0) p w) _) i;
+            (λ b. still_when (same_name b a) (Begins (shelf_row_as true t (t + unwrap_or (limit h a) 0) p w a)) _) i;
       })
 
   -- Service

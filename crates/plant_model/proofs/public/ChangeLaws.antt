@@ -1,9 +1,10 @@
 -- The changes that a call makes turn the rows of the history into those of the history with the call.
 use Rattle.std.specs.{FinMap.Entries.{by_order}, Ordering.{eq_by_cmp}}
 use Rattle.std.proofs.Common.{sym, ap, refl, ◌∙◌, Greater, Less, Equal, Bool, List, None, Option, Some, [], cond, false, filter_map, map, max, option_map, true, unwrap_or, ℕ, ◌∷◌, ◌≡◌, Ordering}
-use Rattle.plant_model.specs.{Alarms.{latching, limit}, Calls.{changes_for}, Changes.{limit_revision}, Events.{events_of}, Facts.{facts}}
+use Rattle.plant_model.specs.{Alarms.{latching, limit}, Changes.{limit_revision}, Events.{events_of}, Facts.{facts}}
+use Rattle.plant_model.specs.steps.CallChanges.{changes_for}
 use Rattle.plant_model.specs.{Histories.{Begins, Said, still}, Matrices.{band_at, band_cmp, band_places, cell_of, cell_places}}
-use Rattle.plant_model.specs.{RowChanges.{cells_of, changed_by, no_rows, put}, RowFacts.{band_key}}
+use Rattle.plant_model.specs.steps.{RowChanges.{cells_of, changed_by, no_rows, put}, RowFacts.{band_key}}
 use Rattle.plant_model.specs.{Rows.{alarm_as, alarm_row, band_row, band_rows, cell_row, grant_as, grant_row, rows_of, unit_row}, Service.{outage}}
 use Rattle.plant_model.specs.declared.{call.{Call.{Call}, Request.{Request, TheVariants.{OpenUnit, Register}}}, rows.BandRow.{BandRow}}
 use Rattle.plant_model.specs.declared.rows.{CellRow.{CellRow}, Row.TheVariants.{Grant as GrantPut, Unit as UnitPut}, UnitRows.{UnitRows}}

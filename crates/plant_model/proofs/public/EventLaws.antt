@@ -5,7 +5,8 @@ use Rattle.std.proofs.lemmas.{Bool.{false_from_ne_true, and_parts}, List.Folds.{
 use Rattle.plant_import.specs.{Files.{are_known, is_fit}, Merging.{IsRising, first_fault}, Numbers.{has_number, new_numbers, numbers_of}}
 use Rattle.plant_import.{specs.declared.bad_file.BadFile.{BadFile}, proofs.public.FileLaws.{clash_of, fit_within, member, none_within}}
 use Rattle.plant_model.specs.{Alarms.{latching, said_of_latching}, Events.{event_numbered, events, imported}, Facts.{facts}, Legality.{IsLegal}}
-use Rattle.plant_model.specs.{Parts.{none}, Refusals.{fault_entries, file_refusals, tags_of}, RowFacts.{alarm_tag, event_number}, Rows.{alarm_rows}}
+use Rattle.plant_model.specs.{Refusals.{fault_entries, file_refusals, tags_of}, Rows.{alarm_rows}}
+use Rattle.plant_model.specs.steps.{Parts.{none}, RowFacts.{alarm_tag, event_number}}
 use Rattle.plant_model.specs.declared.call.{Call.{Call}, Request.{Request, TheVariants.{Import}}}
 use Rattle.plant_model.proofs.{EventLists.{IsOf, member_told, of_both, of_find, rising, rows_known, whole_fits}, ProposalLaws.{no_revision}}
 use Rattle.plant_model.proofs.public.{Accepted.{by_legal, AllOff, IsEntry, made, unrefused}, ChangeLaws.{IsUnspoken}}

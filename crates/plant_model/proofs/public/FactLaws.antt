@@ -5,7 +5,7 @@ use Rattle.plant_types.{proofs.public.{KeyedRowLaws.{row_at-rows, tied}, Orders.
 use Rattle.plant_types.specs.{KeyedRows.{row_at}, Names.{same_name, Name, name_cmp}, Options.{or_else, when}, Roles.{Pair, pair_cmp, same_pair}}
 use Rattle.plant_model.specs.Changes.{Draft, approved_sheet, change, draft, is_proposal, kind_of_change, matrix, proposals, record_of, record_revision, said_of_draft, sheet, sheet_in}
 use Rattle.plant_model.specs.{Facts.{facts}, Grants.{held, is_before, standing, stands}, Histories.{counted, latest, same_number}}
-use Rattle.plant_model.specs.RowFacts.{change_found, change_number, change_read, facts_from, kind_read, matrix_read, record_found, record_from, record_read, record_tag, sheet_read, alarm_tag, pair_of, shelf_tag}
+use Rattle.plant_model.specs.steps.RowFacts.{change_found, change_number, change_read, facts_from, kind_read, matrix_read, record_found, record_from, record_read, record_tag, sheet_read, alarm_tag, pair_of, shelf_tag}
 use Rattle.plant_model.specs.Rows.{change_entry, changes_of, max_of_kind, record_entry, records_of, sheet_of_kind, tag_of_kind, topic_of, alarm_row, alarm_rows, grant_as, grant_row, grant_rows, rows_of, shelf_rows}
 use Rattle.plant_model.specs.{Shelves.{shelf}, declared.call.{Call.{Call}, Request.{Request, TheVariants.{Approve, Propose}}}}
 use Rattle.plant_model.specs.declared.{reply.{ChangeRow.{ChangeRow}, RecordRow.{RecordRow}}, rows.{ChangeEntry.{ChangeEntry}, GrantRow.{GrantRow}}}

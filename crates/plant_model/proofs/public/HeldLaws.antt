@@ -2,7 +2,8 @@
 use Rattle.std.specs.{Cmp.{IsTotalOrder, nat_cmp_total, on_total}, FinMap.Entries.{below_all}, List.{cons_option, list_any, slice_get}}
 use Rattle.std.{specs.Ordering.{eq_by_cmp, ordering_then}, proofs.lemmas.Option.{slice_get-map}}
 use Rattle.std.proofs.Common.{ap, refl, subst, sym, ◌∙◌, is_eq, is_lt, nat_cmp, Bool, List, None, Option, Some, T, [], cond, false, filter, filter_map, if◌then◌else◌, is_some, map, option_map, true, unwrap_or, ℕ, ◌||◌, ◌∷◌, ◌≡◌, Ordering, Equal, Greater, Less}
-use Rattle.plant_model.specs.{Grants.{held, holds_any, is_before, roles_held}, RowFacts.{pair_of}, Rows.{grant_row, grant_rows}}
+use Rattle.plant_model.specs.{Grants.{held, holds_any, is_before, roles_held}, Rows.{grant_row, grant_rows}}
+use Rattle.plant_model.specs.steps.RowFacts.{pair_of}
 use Rattle.plant_model.{specs.declared.{call.Call.{Call}, rows.GrantRow.{GrantRow}}, proofs.public.FactLaws.{held_in, is_some-map}}
 use Rattle.plant_model.proofs.public.{HistoryLaws.{grants_told, pairs_of, when_Some}}
 use Rattle.plant_types.proofs.public.{Halves.{both, first, second}, KeyedRowLaws.{IsInOrder-rows, IsInOrder-told, row_at-told, same_rows}}

@@ -4,15 +4,16 @@ use Rattle.std.proofs.Common.{◌+◌, Bool, List, None, Option, Some, [], false
 use Rattle.plant_import.specs.Numbers.{has_number, numbers_of}
 use Rattle.plant_model.{specs.{Alarms.{latching, limit, said_of_latching}, Kinds.{says}}, proofs.public.{RowsFound.{find_passes}, PutLaws.{key_in}}}
 use Rattle.plant_model.specs.Changes.{Draft, approved_sheet, change, change_as, decision, draft, kind_of_change, limit_revision, matrix, proposals, record_as, record_of, record_revision, said_of_draft, sheet, sheet_in}
-use Rattle.plant_model.specs.{Events.{event_numbered, events_of, imported}, Grants.{said_of_pair, standing, pair_by}, Alarms.{latching_by}}
-use Rattle.plant_model.specs.{Histories.{Begins, Over, Said, all_named, latest, same_number, still}, Parts.{none, nothing}}
-use Rattle.plant_model.specs.RowFacts.{alarm_tag, event_number, pair_of, shelf_tag}
+use Rattle.plant_model.specs.{Events.{event_numbered, events_of, imported}, Grants.{said_of_pair, standing}, Alarms.{latching_by}}
+use Rattle.plant_model.specs.Histories.{Begins, Over, Said, all_named, latest, of_key, same_number, still}
+use Rattle.plant_model.specs.steps.Parts.{none, nothing}
+use Rattle.plant_model.specs.steps.RowFacts.{alarm_tag, event_number, pair_of, shelf_tag}
 use Rattle.plant_model.specs.Rows.{numbers_proposed, tag_rationalised, tags_approved, alarm_as, alarm_row, grant_as, grant_row, pairs_named, tags_registered, tags_shelved}
 use Rattle.plant_model.specs.{Service.{outage}, Shelves.{said_of_shelf, shelf}, declared.call.{Call.{Call}, Request.{Request}}}
 use Rattle.plant_model.specs.declared.call.Request.TheVariants.{Approve, Propose, OneShotShelve, TimedShelve, Unshelve}
 use Rattle.plant_model.specs.declared.{reply.{ChangeRow.{ChangeRow}, RecordRow.{RecordRow}}, rows.{AlarmRow.{AlarmRow}, ShelfRow.{ShelfRow}}}
 use Rattle.plant_ration.specs.declared.change.{ChangeKind.{ChangeKind, TheVariants.{Rationale}}, Sheet.{Sheet}}
-use Rattle.plant_types.specs.{Names.{Name, name_cmp, same_name}, Options.{or_else, when}, Roles.{Pair, pair_cmp}}
+use Rattle.plant_types.specs.{Names.{Name, name_cmp, same_name}, Options.{or_else, when}, Roles.{Pair, pair_cmp, same_pair}}
 use Rattle.plant_types.proofs.public.{KeyedRowLaws.{Tells, tied}, Orders.{name_total, number_total, pair_total, same_names, same_numbers, same_pairs}}
 
 pub when_or : {A : Type 0} (b : Bool) (x : A) → (when b x ≡ None) ⊎ (b ≡ true)
@@ -64,7 +65,7 @@ one_named R k x v y e = elim (when_or (eq_by_cmp R k x) v) [ inl none ↦ let no
 -- Grants
 pair_is_named : (k : Pair) (q : Request) (v : Said (Option ℕ)) → said_of_pair k q ≡ Some v → list_any (eq_by_cmp pair_cmp k) (pairs_named q) ≡ true
 pair_is_named k q v =
-    elim (says q).pair as (λ o. pair_by k o ≡ Some v
+    elim (says q).pair as (λ o. of_key same_pair k o ≡ Some v
     → list_any (eq_by_cmp pair_cmp k) (option_to_list (option_map (λ e. e.0) o)) ≡ true) [ None ↦ λ e. cc | Some x ↦ one_named pair_cmp k x.0 x.1 v ]
 
 abbrev pub pairs_of : List Call → List Pair
@@ -120,8 +121,10 @@ when_HasTag : (b : Bool) (a : Name) (o x : Said ShelfRow) → when b o ≡ Some 
 when_HasTag b a o x e h = subst (HasTag a) (when_Some b o x e) h
 
 shelf_has_tag : (a p : Name) (t : ℕ) (before : List Call) (q : Request) (x : Said ShelfRow) → said_of_shelf a p t before q ≡ Some x → HasTag a x
-shelf_has_tag a p t before (TimedShelve u b d w) x e = when_HasTag (same_name a b) a _ x e refl
-shelf_has_tag a p t before (OneShotShelve u b w) x e = when_HasTag (same_name a b) a _ x e refl
+shelf_has_tag a p t before (TimedShelve u b d w) x e =
+    subst (λ n. HasTag n x) (sym (when_same a b _ x e)) (when_HasTag (same_name a b) b _ x e refl)
+shelf_has_tag a p t before (OneShotShelve u b w) x e =
+    subst (λ n. HasTag n x) (sym (when_same a b _ x e)) (when_HasTag (same_name a b) b _ x e refl)
 shelf_has_tag a p t before (Unshelve u b) x e = when_HasTag (same_name a b) a _ x e tt
 shelf_has_tag a p t before _ x e = cc
 

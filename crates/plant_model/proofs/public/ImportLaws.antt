@@ -4,8 +4,10 @@ use Rattle.std.proofs.Common.{ap, cond, inl, inr, refl, subst, sym, true, ◌∙
 use Rattle.plant_import.{specs.{Merging.{first_fault, fresh}, Numbers.{has_number, with_events}}, proofs.public.Counted.{put_twice}}
 use Rattle.plant_import.proofs.public.FileLaws.{none_member}
 use Rattle.plant_model.specs.{Alarms.{latching, limit}, Changes.{limit_revision}, Events.{event_numbered, events, events_of}, Facts.{facts}}
-use Rattle.plant_model.specs.{Parts.{none}, Refusals.{tags_of}, RowChanges.{events_with_file, is_touched, new_events, put, with_state}}
-use Rattle.plant_model.specs.{RowFacts.{alarm_tag, event_number}, Rows.{alarm_as, alarm_row, alarm_rows, rows_of, unit_row}, Service.{outage}}
+use Rattle.plant_model.specs.Refusals.{tags_of}
+use Rattle.plant_model.specs.steps.{Parts.{none}, RowChanges.{events_with_file, is_touched, new_events, put, with_state}}
+use Rattle.plant_model.specs.{Rows.{alarm_as, alarm_row, alarm_rows, rows_of, unit_row}, Service.{outage}}
+use Rattle.plant_model.specs.steps.RowFacts.{alarm_tag, event_number}
 use Rattle.plant_model.specs.declared.{call.{Call.{Call}, Request.TheVariants.{Import}}, rows.AlarmRow.{AlarmRow}}
 use Rattle.plant_model.specs.declared.rows.{Row.TheVariants.{Unit as UnitPut}, RowEdit.TheVariants.{PutEvents}, UnitRows.{UnitRows}}
 use Rattle.plant_model.proofs.{EventLists.{IsOf, new_alone, new_rows_say, of_said, only, only_told}, public.ChangeLaws.{Turns}}

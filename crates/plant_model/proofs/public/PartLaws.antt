@@ -2,13 +2,14 @@
 use Rattle.std.specs.List.{cons_option, list_any, range_with_len}
 use Rattle.std.proofs.Common.{ap, arith, refl, sym, ◌∙◌, ◌≤◌, option_to_list, is_eq, nat_cmp, Bool, Err, List, None, Option, Some, [], cond, count_by, false, filter, filter_map, if◌then◌else◌, is_none, is_some, length, map, nat_le, nat_lt, not, option_and_then, option_map, true, unwrap_or, ℕ, ◌++◌, ◌+◌, ◌||◌, ◌∷◌, ◌≡◌}
 use Rattle.std.proofs.lemmas.{Bool.{or_left, or_right, Decides.{nat_tests}}, List.Sums.{count_by-le-length, length-filter}}
-use Rattle.plant_model.specs.{Calls.{changes_for, own_refusals, record_reply, reply}, Changes.{no_matrix}, Facts.{Facts, others_shelved}}
+use Rattle.plant_model.specs.{Calls.{own_refusals, record_reply, reply}, Changes.{no_matrix}, Facts.{Facts, others_shelved}}
+use Rattle.plant_model.specs.steps.CallChanges.{changes_for}
 use Rattle.plant_model.{specs.{Grants.{is_before}, Histories.{same_number}, Kinds.{role_needed}}, proofs.public.FactLaws.{is_same_number}}
-use Rattle.plant_model.specs.Parts.{Selection, every, has_shelf, is_crowded, is_source, of_approved, of_content, change_by_number, of_records, of_topic, part_of, part_of_holder, part_of_stranger, rows_selected, selected, with_number}
+use Rattle.plant_model.specs.steps.Parts.{Selection, every, has_shelf, is_crowded, is_source, of_approved, of_content, change_by_number, of_records, of_topic, part_of, part_of_holder, part_of_stranger, rows_selected, selected, with_number}
 use Rattle.plant_model.specs.{Refusals.{first_refusal, holds_some, is_open, kind_refusals, lacks_role, of_change}, declared.call.Request.{Request}}
 use Rattle.plant_model.specs.{Replies.{change_reply, line_of, status_reply}, declared.reply.Refused.{Refused}}
-use Rattle.plant_model.specs.RowChanges.{approval_changes, approved_row, decision_change, for_change, in_force, placed_in, taken_out}
-use Rattle.plant_model.specs.RowFacts.{alarm_tag, change_found, change_number, change_read, facts_among, facts_from, facts_of, has_cells, held_by, holds_by, kind_read, last_number, last_return_in, matrix_read, pair_of, record_found, record_from, record_read, record_tag, sheet_read, shelf_tag, unit_read}
+use Rattle.plant_model.specs.steps.RowChanges.{approval_changes, approved_row, decision_change, for_change, in_force, placed_in, taken_out}
+use Rattle.plant_model.specs.steps.RowFacts.{alarm_tag, change_found, change_number, change_read, facts_among, facts_from, facts_of, has_cells, held_by, holds_by, kind_read, last_number, last_return_in, matrix_read, pair_of, record_found, record_from, record_read, record_tag, sheet_read, shelf_tag, unit_read}
 use Rattle.plant_model.specs.{Shelves.{shelf_left, shelf_row_as}, Verdicts.{refusals_of_holder, refused_or, verdict_of}, declared.call.Call.{Call}}
 use Rattle.plant_model.specs.declared.call.Request.TheVariants.{Alarms, Approve, ChangeOf, Grant, Import, OneShotShelve, PlaceInService, Propose, RecordOf, Register, Reject, RemoveFromService, Shelves, Standing, Status, TimedShelve, Unshelve, Withdraw, WithdrawChange}
 use Rattle.plant_model.specs.declared.reply.{ChangeRow.{ChangeRow}, Full.TheVariants.{Alarms as TooManyAlarms}, RecordRow.{RecordRow}}

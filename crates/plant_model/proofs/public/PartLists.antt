@@ -2,7 +2,8 @@
 use Rattle.std.{specs.{Cmp.{eq_by_cmp_equiv}, List.{list_any}, Ordering.{eq_by_cmp}}, proofs.lemmas.Bool.{or_left, false_from_ne_true}}
 use Rattle.std.proofs.Common.{ap, cond, refl, sym, ◌∙◌, Bool, List, None, Option, Some, [], false, filter, map, option_and_then, option_map, true, ℕ, ◌&&◌, ◌||◌, ◌∷◌, ◌≡◌, Ordering}
 use Rattle.plant_model.{proofs.public.{FactLaws.{same_number_of, is_same_number}, RowsFound.{find_passes}}, specs.Histories.{same_number}}
-use Rattle.plant_model.specs.{RowFacts.{cells_at, record_tag}, declared.rows.{BandRow.{BandRow}, CellRow.{CellRow}, RecordEntry.{RecordEntry}}}
+use Rattle.plant_model.specs.declared.rows.{BandRow.{BandRow}, CellRow.{CellRow}, RecordEntry.{RecordEntry}}
+use Rattle.plant_model.specs.steps.RowFacts.{cells_at, record_tag}
 use Rattle.plant_types.{specs.{KeyedRows.{row_at}, Names.{Name, name_cmp, same_name}}, proofs.public.{KeyedRowLaws.{tied}, Halves.{left}}}
 use Rattle.plant_types.proofs.public.Orders.{name_total, same_names}
 

@@ -1,7 +1,8 @@
 -- Rows that are put one after another.
 use Rattle.std.specs.{Cmp.{IsTotalOrder}, List.{cons_option, list_any}, Ordering.{eq_by_cmp}, FinMap.Entries.{by_order}}
 use Rattle.std.proofs.Common.{ap, refl, sym, ◌∙◌, Bool, List, None, Option, Some, [], cond, false, filter_map, fold, is_some, map, true, ◌++◌, ◌∷◌, ◌≡◌, Ordering, Equal, find, ◌||◌, Less, Greater, length, arith, ◌+◌, ◌≤◌}
-use Rattle.plant_model.specs.{Matrices.{band_cmp, cell_cmp}, RowChanges.{changed_by, put}, RowFacts.{record_tag, alarm_tag, band_key, cell_key}}
+use Rattle.plant_model.specs.Matrices.{band_cmp, cell_cmp}
+use Rattle.plant_model.specs.steps.{RowChanges.{changed_by, put}, RowFacts.{record_tag, alarm_tag, band_key, cell_key}}
 use Rattle.plant_model.specs.declared.{reply.RecordRow.{RecordRow}, rows.{AlarmRow.{AlarmRow}, BandRow.{BandRow}, CellRow.{CellRow}}}
 use Rattle.plant_model.specs.declared.rows.{RecordEntry.{RecordEntry}, RowEdit.{RowEdit, TheVariants.{Put}}, UnitRows.{UnitRows}}
 use Rattle.plant_model.specs.declared.rows.Row.TheVariants.{Record as RecordPut, Alarm as AlarmPut, Band as BandPut, Cell as CellPut}

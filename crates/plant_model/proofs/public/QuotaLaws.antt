@@ -3,7 +3,8 @@ use Rattle.std.specs.{Cmp.{eq_by_cmp_equiv}, List.{cons_option, list_any, AllByR
 use Rattle.std.proofs.Common.{ap, arith, refl, subst, sym, ◌++◌, ◌∙◌, is_eq, Bool, List, None, Option, Some, [], cond, count_by, false, filter, filter_map, is_some, length, map, max, not, suc, true, ℕ, ◌&&◌, ◌+◌, ◌<◌, ◌∷◌, ◌≡◌, ◌≤◌}
 use Rattle.std.proofs.lemmas.{Bool.{leb-false}, List.{length-map, Sums.{length-filter, count_by-le-length}}, Map.Made.{length-le_from_is_member}}
 use Rattle.plant_model.specs.{Alarms.{latching, said_of_latching}, Facts.{facts, returned}, Histories.{Begins, Over, Said, latest, still}}
-use Rattle.plant_model.specs.{Laws.{QuotaOf2000RefusesNothing}, Legality.{IsLegal}, RowFacts.{alarm_tag, shelf_tag}}
+use Rattle.plant_model.specs.{Laws.{QuotaOf2000RefusesNothing}, Legality.{IsLegal}}
+use Rattle.plant_model.specs.steps.RowFacts.{alarm_tag, shelf_tag}
 use Rattle.plant_model.specs.{Rows.{alarm_as, alarm_row, alarm_rows, shelf_rows, tags_registered}, Shelves.{said_of_shelf, shelf, shelf_left}}
 use Rattle.plant_model.specs.declared.call.{Call.{Call}, Request.{Request, TheVariants.{OneShotShelve, Register, TimedShelve, Unshelve}}}
 use Rattle.plant_model.{specs.declared.rows.{ShelfRow.{ShelfRow}, UnitRows.{UnitRows}}, proofs.public.PutLaws.{length-put}}

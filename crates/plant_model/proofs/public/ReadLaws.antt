@@ -5,9 +5,9 @@ use Rattle.std.proofs.Common.{is_some, max, ◌-◌, Bool, List, None, Option, S
 use Rattle.std.proofs.lemmas.{Bool.{and_parts, not-true, false_from_ne_true, leb-true}, Option.{unwrap_or-slice_get}, List.{length-map}}
 use Rattle.std.proofs.lemmas.List.FromFn.{length-range_with_len, get_or-range_with_len}
 use Rattle.plant_model.specs.Changes.{Draft, change, draft, kind_of_change, matrix, matrix_in, no_matrix, proposals, said_of_draft, said_of_matrix}
-use Rattle.plant_model.specs.{Facts.{facts}, Histories.{latest, same_number}, Legality.{IsLegal, has_matrix, is_matrix_kind}}
-use Rattle.plant_model.specs.Matrices.{numbered_matrix, when_number, BandKey, CellKey, at_place, band_at, band_cmp, band_places, cell_cmp, cell_of, matrix_numbered}
-use Rattle.plant_model.specs.RowFacts.{change_number, facts_from, facts_of, last_number, band_key, cell_key, cells_at, has_cells, matrix_read}
+use Rattle.plant_model.specs.{Facts.{facts}, Histories.{latest, of_key, same_number}, Legality.{IsLegal, has_matrix, is_matrix_kind}}
+use Rattle.plant_model.specs.Matrices.{numbered_matrix, BandKey, CellKey, at_place, band_at, band_cmp, band_places, cell_cmp, cell_of, matrix_numbered}
+use Rattle.plant_model.specs.steps.RowFacts.{change_number, facts_from, facts_of, last_number, band_key, cell_key, cells_at, has_cells, matrix_read}
 use Rattle.plant_model.specs.{Rows.{alarm_rows, change_entry, change_rows, band_row, band_rows, cell_row, cell_rows, rows_of}, Verdicts.{is_opening}}
 use Rattle.plant_model.specs.declared.{call.{Call.{Call}, Request.{Request, TheVariants.{Approve, OpenUnit, Propose}}}, rows.BandRow.{BandRow}}
 use Rattle.plant_model.{specs.declared.rows.CellRow.{CellRow}, proofs.{MatrixLaws.{band_keyed}, public.RowsFound.{lower}}}
@@ -280,19 +280,19 @@ drafted_kind h n k e =
     → 1 ≤ n) [ None ↦ λ _ no. cc | Some d ↦ λ is _. draft_positive h n d is ] refl e
 
 other_matrix : (n k : ℕ) (kind : ChangeKind) (rest : Option Grid) → same_number n k ≡ false
-    → or_else (when_number n (matrix_in k (Some kind))) rest ≡ rest
+    → or_else (of_key same_number n (matrix_in k (Some kind))) rest ≡ rest
 other_matrix n k (Matrix m) rest other = ap (λ b. or_else (when b m) rest) other
 other_matrix n k _ rest other = refl
 
 own_matrix : (n k : ℕ) (kind : ChangeKind) (m : Grid) (rest : Option Grid) → same_number n k ≡ true → Some kind ≡ Some (Matrix m)
-    → or_else (when_number n (matrix_in k (Some kind))) rest ≡ Some m
+    → or_else (of_key same_number n (matrix_in k (Some kind))) rest ≡ Some m
 own_matrix n k (Matrix x) m rest own e = ap (λ b. or_else (when b x) rest) own ∙ (let same : x ≡ m = cc in ap (λ y. Some y) same)
 own_matrix n k _ m rest own e = cc
 
 numbered_step : (h : List Call) (n : ℕ) (m : Grid) (p : Name) (t : ℕ) (q : Request) → 1 ≤ n
     → (kind_of_change h n ≡ Some (Matrix m) → matrix_numbered h n ≡ Some m)
     → option_map (λ (d : Draft). d.kind) (or_else (said_of_draft n p t h q) (draft h n)) ≡ Some (Matrix m)
-    → or_else (when_number n (numbered_matrix h q)) (matrix_numbered h n) ≡ Some m
+    → or_else (of_key same_number n (numbered_matrix h q)) (matrix_numbered h n) ≡ Some m
 numbered_step h n m p t (OpenUnit u s x k) above before e =
     ap (λ b. or_else (when b x) (matrix_numbered h n))
     (false_from_ne_true (same_number n 0) (λ z. let is : n ≡ 0 = same_number_of n 0 z in omega (arith, above, is))) ∙ before e
@@ -300,7 +300,7 @@ numbered_step h n m p t (Propose u x) above before e =
     elim (same_number n (proposals h + 1)) as (λ b. same_number n (proposals h + 1) ≡ b
     → option_map (λ (d : Draft). d.kind)
     (or_else (when b (record { proposer = p; proposed = t; kind = x.kind; base = x.base })) (draft h n)) ≡ Some (Matrix m)
-    → or_else (when_number n (matrix_in (proposals h + 1) (Some x.kind))) (matrix_numbered h n) ≡ Some m) [
+    → or_else (of_key same_number n (matrix_in (proposals h + 1) (Some x.kind))) (matrix_numbered h n) ≡ Some m) [
       | true ↦ λ s here. own_matrix n (proposals h + 1) x.kind m (matrix_numbered h n) s here
       | false ↦ λ s rest. other_matrix n (proposals h + 1) x.kind (matrix_numbered h n) s ∙ before rest
     ] refl e
@@ -311,11 +311,11 @@ proposed_matrix [] n m e = cc
 proposed_matrix (c ∷ h) n m e = numbered_step h n m c.person c.moment c.request (drafted_kind (c ∷ h) n (Matrix m) e) (proposed_matrix h n m) e
 
 -- each matrix of a legal history is one
-shape_here : (h : List Call) (n : ℕ) (q : Request) (m : Grid) → has_matrix q ≡ true → when_number n (numbered_matrix h q) ≡ Some m
+shape_here : (h : List Call) (n : ℕ) (q : Request) (m : Grid) → has_matrix q ≡ true → of_key same_number n (numbered_matrix h q) ≡ Some m
     → is_matrix m.limits m.cells ≡ true
 shape_here h n (OpenUnit u s x k) m has e = ap (λ (y : Grid). is_matrix y.limits y.cells) (sym (when_Some (same_number n 0) x m e)) ∙ has
 shape_here h n (Propose u x) m has e = by x.kind has e where
-  by : (k : ChangeKind) → is_matrix_kind k ≡ true → when_number n (matrix_in (proposals h + 1) (Some k)) ≡ Some m → is_matrix m.limits m.cells ≡ true
+  by : (k : ChangeKind) → is_matrix_kind k ≡ true → of_key same_number n (matrix_in (proposals h + 1) (Some k)) ≡ Some m → is_matrix m.limits m.cells ≡ true
   by (Matrix y) has e = ap (λ (y : Grid). is_matrix y.limits y.cells) (sym (when_Some (same_number n (proposals h + 1)) y m e)) ∙ has
   by (Rationale a s) has e = cc
   by (Limit a max) has e = cc
@@ -323,7 +323,7 @@ shape_here h n _ m has e = cc
 
 pub shaped : (h : List Call) → IsLegal h → (n : ℕ) (m : Grid) → matrix_numbered h n ≡ Some m → is_matrix m.limits m.cells ≡ true
 shaped h legal n =
-    latest_legal (λ c before. when_number n (numbered_matrix before c.request)) (λ h m. is_matrix m.limits m.cells ≡ true)
+    latest_legal (λ c before. of_key same_number n (numbered_matrix before c.request)) (λ h m. is_matrix m.limits m.cells ≡ true)
     (λ p t u s x k shape m e. shape_here [] n (OpenUnit u s x k) m shape e)
     (λ h c f m e. shape_here h n c.request m f.matrix e) (λ h c f m e. e) h legal
 
@@ -332,7 +332,7 @@ abbrev matrix_said : List Call → Option (ℕ × Grid)
 matrix_said h = latest (λ c before. said_of_matrix before c.request) h
 
 matrix_stays : (h : List Call) (q : Request) (k : ℕ) (m : Grid) → is_opening q ≡ false → matrix_numbered h k ≡ Some m
-    → or_else (when_number k (numbered_matrix h q)) (matrix_numbered h k) ≡ Some m
+    → or_else (of_key same_number k (numbered_matrix h q)) (matrix_numbered h k) ≡ Some m
 matrix_stays h (OpenUnit u s x n) k m plain e = cc
 matrix_stays h (Propose u x) k m plain e =
     other_matrix k (proposals h + 1) x.kind (matrix_numbered h k)
@@ -346,7 +346,7 @@ matrix_approved n (Some (Matrix m)) x e = let same : (n, m) ≡ x = cc in
 matrix_approved n _ x e = cc
 
 said_numbered : (h : List Call) (q : Request) (x : ℕ × Grid) → said_of_matrix h q ≡ Some x
-    → or_else (when_number x.0 (numbered_matrix h q)) (matrix_numbered h x.0) ≡ Some x.1
+    → or_else (of_key same_number x.0 (numbered_matrix h q)) (matrix_numbered h x.0) ≡ Some x.1
 said_numbered h (OpenUnit u s m k) x e =
     let same : (0, m) ≡ x = cc in
     subst (λ (y : ℕ × Grid). or_else (when (same_number y.0 0) m) (matrix_numbered h y.0)

@@ -4,7 +4,7 @@ use Rattle.std.proofs.Common.{◌≡◌, ◌≢◌, ◌⊎◌, inl, inr, Bool, t
 use Rattle.std.proofs.lemmas.Cmp.{tied_itself}
 use Rattle.sqlite.specs.State.{State}
 use Rattle.plant_books.specs.Contents.{Content, IsKnownTo, after_changes, no_units, rows_in, with_history_of, without_history}
-use Rattle.plant_model.specs.RowChanges.{changed, changed_by, no_rows, puts_unit}
+use Rattle.plant_model.specs.steps.RowChanges.{changed, changed_by, no_rows, puts_unit}
 use Rattle.plant_model.specs.declared.rows.{Key.TheVariants.{Grant as GrantKey}, Row.TheVariants.{Unit as UnitPut}}
 use Rattle.plant_model.specs.declared.rows.{RowEdit.{RowEdit, TheVariants.{Put, Remove}}, UnitRows.{UnitRows}}
 use Rattle.plant_types.{specs.Names.{Name, name_cmp, same_name}, proofs.public.{KeyedRowLaws.{tied}, Orders.{same_names}}}

@@ -1,6 +1,6 @@
 use Rattle.std.proofs.{Common.{ap, arith, drop, subst, sym, ◌+◌, ◌∙◌, ◌∷◌, ◌≡◌}, lemmas.Grind.{common_steps}}
 use Rattle.plant_books.proofs.public.OrderLaws.{one_in_order}
-use Rattle.plant_model.specs.{Order.{AreInOrder}, RowChanges.{changed, changed_by}}
+use Rattle.plant_model.specs.steps.{Order.{AreInOrder}, RowChanges.{changed, changed_by}}
 use Rattle.plant_books.proofs.changes.after_changes.Goals as goal
 
 pub loop-change-preserved : goal.loop-change-preserved

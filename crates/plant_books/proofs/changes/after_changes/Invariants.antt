@@ -1,5 +1,5 @@
 use Rattle.std.proofs.Common.{◌≡◌, drop}
-use Rattle.plant_model.specs.{Order.{AreInOrder}, RowChanges.{changed_by}}
+use Rattle.plant_model.specs.steps.{Order.{AreInOrder}, RowChanges.{changed_by}}
 use Rattle.plant_books.proofs.changes.after_changes.Given as goal
 
 abbrev pub invariant-loop-change : goal.invariant-loop-change

@@ -1,6 +1,7 @@
 use Rattle.std.{specs.Cmp.{nat_cmp_total, on_total}, proofs.Common.{ap, nat_cmp}}
 use Rattle.plant_books.proofs.public.OrderLaws.{put_by_keys, rows_rise}
-use Rattle.plant_model.specs.{Matrices.{band_cmp, cell_cmp}, RowFacts.{band_key, cell_key, change_number, event_number}}
+use Rattle.plant_model.specs.Matrices.{band_cmp, cell_cmp}
+use Rattle.plant_model.specs.steps.RowFacts.{band_key, cell_key, change_number, event_number}
 use Rattle.plant_model.proofs.public.PlaceOrders.{band_total, cell_total}
 use Rattle.plant_books.proofs.changes.put_row.Goals as goal
 

@@ -1,5 +1,5 @@
 use Rattle.std.proofs.Common.{drop, ◌++◌, ◌≡◌}
-use Rattle.plant_model.specs.{Order.{TagsRise}, RowFacts.{alarm_tag, shelf_tag}}
+use Rattle.plant_model.specs.steps.{Order.{TagsRise}, RowFacts.{alarm_tag, shelf_tag}}
 use Rattle.plant_books.specs.Found.{shelved}
 use Rattle.plant_books.proofs.found.shelved_alarms.Given as goal
 

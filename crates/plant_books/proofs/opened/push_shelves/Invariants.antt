@@ -1,6 +1,6 @@
 use Rattle.std.proofs.Common.{◌≡◌, ◌++◌, map, take}
 use Rattle.plant_books.specs.Contents.{mine_row}
-use Rattle.plant_model.specs.Order.{AreInOrder}
+use Rattle.plant_model.specs.steps.Order.{AreInOrder}
 use Rattle.plant_books.proofs.opened.push_shelves.Given as goal
 
 abbrev pub invariant-loop-shelf : goal.invariant-loop-shelf

@@ -1,5 +1,5 @@
 use Rattle.std.proofs.Common.{◌≡◌, take, filter, ◌||◌}
-use Rattle.plant_model.specs.{RowFacts.{pair_of}, Scopes.{selection_by}}
+use Rattle.plant_model.specs.steps.{RowFacts.{pair_of}, Scopes.{selection_by}}
 use Rattle.plant_types.specs.Names.{same_name}
 use Rattle.plant_books.proofs.parts.grants_asked.Given as goal
 

@@ -1,7 +1,7 @@
 use Rattle.std.{specs.Cmp.{nat_cmp_total, on_total}, proofs.Common.{rules, ◌≡◌, true, nat_cmp}}
 use Rattle.plant_books.proofs.public.OrderLaws.{keys_rise}
 use Rattle.plant_model.specs.Matrices.{band_cmp, cell_cmp}
-use Rattle.plant_model.specs.RowFacts.{alarm_tag, band_key, cell_key, change_number, event_number, record_tag, shelf_tag}
+use Rattle.plant_model.specs.steps.RowFacts.{alarm_tag, band_key, cell_key, change_number, event_number, record_tag, shelf_tag}
 use Rattle.plant_model.proofs.public.PlaceOrders.{band_total, cell_total}
 use Rattle.plant_types.{specs.Names.{name_cmp}, proofs.public.Orders.{name_total}}
 use Rattle.plant_books.proofs.rows.are_in_order.Goals as goal

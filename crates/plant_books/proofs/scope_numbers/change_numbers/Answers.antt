@@ -1,5 +1,5 @@
 use Rattle.std.{specs.BTreeSet.{contains}, proofs.Common.{sym, ◌∙◌, ◌≡◌, nat_cmp, ◌&&◌, ◌||◌}}
-use Rattle.plant_model.specs.{Parts.{is_source}, Scopes.{selection_by}}
+use Rattle.plant_model.specs.steps.{Parts.{is_source}, Scopes.{selection_by}}
 use Rattle.plant_books.{specs.Asking.{is_asked_number, is_wanted}, proofs.NumbersAmong.{left_out, taken, with_named, without_named}}
 use Rattle.plant_books.proofs.scope_numbers.change_numbers.Goals.{else-wants_sources, in-Some+in_ok-insert, in_default, then-wants_sources+in_ok-numbers}
 use Rattle.plant_books.specs.Asking as asked

@@ -1,5 +1,5 @@
 use Rattle.std.proofs.Common.{Some, nat_cmp, rules, slice_get, sym, ◌≡◌}
-use Rattle.plant_model.specs.RowFacts.{change_number}
+use Rattle.plant_model.specs.steps.RowFacts.{change_number}
 use Rattle.plant_model.proofs.found.change_at.Goals.{in_default-via-in-Some+else-change-number, in_default-via-in_default}
 use Rattle.plant_model.proofs.public.RowsFound.{get_none, get_some, none_found, number_parts, one_found, ordered, other_found, tied_numbers, untied_numbers}
 use Rattle.plant_types.proofs.public.Orders.{number_total}

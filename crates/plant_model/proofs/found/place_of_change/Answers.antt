@@ -1,6 +1,7 @@
 use Rattle.std.proofs.{Common.{rules, nat_lt}, lemmas.{Bool.{ltb-false, ltb-true}, List.Sorted.{IsPartitionPoint-from_clause}}}
 use Rattle.plant_import.proofs.public.Placed.{parted}
-use Rattle.plant_model.specs.{RowFacts.{change_number}, declared.rows.ChangeEntry.{ChangeEntry}}
+use Rattle.plant_model.specs.declared.rows.ChangeEntry.{ChangeEntry}
+use Rattle.plant_model.specs.steps.RowFacts.{change_number}
 use Rattle.plant_model.proofs.found.place_of_change.Goals as goal
 
 pub returns-clause-place : goal.returns-clause-place

@@ -1,8 +1,10 @@
 use Rattle.std.{specs.List.{slice_get}, proofs.Common.{◌≡◌, ap, sym, ◌∙◌, subst, ◌||◌, filter, rules, nat_cmp}}
 use Rattle.sqlite.specs.{Effect.{Database}, Held.{state}}
 use Rattle.plant_books.specs.Contents.{rows_in}
-use Rattle.plant_model.specs.{Histories.{same_number}, Order.{TagsRise}, Parts.{selected}, RowFacts.{alarm_tag, event_number, record_tag, shelf_tag}}
-use Rattle.plant_model.specs.{Scopes.{IsSeenIn, selection_by}, declared.rows.{BandRow.{BandRow}, CellRow.{CellRow}, ChangeEntry.{ChangeEntry}}}
+use Rattle.plant_model.specs.Histories.{same_number}
+use Rattle.plant_model.specs.steps.{Order.{TagsRise}, Parts.{selected}, RowFacts.{alarm_tag, event_number, record_tag, shelf_tag}}
+use Rattle.plant_model.specs.declared.rows.{BandRow.{BandRow}, CellRow.{CellRow}, ChangeEntry.{ChangeEntry}}
+use Rattle.plant_model.specs.steps.Scopes.{IsSeenIn, selection_by}
 use Rattle.plant_model.specs.declared.rows.{GrantRow.{GrantRow}, RecordEntry.{RecordEntry}}
 use Rattle.plant_types.specs.{KeyedRows.{IsInOrder}, Names.{same_name}}
 use Rattle.plant_columns.specs.declared.tables.TableKind.TheVariants.{Units, Grants, Alarms, Shelves, Bands, Cells, Events, Records, Changes}

@@ -1,6 +1,7 @@
 use Rattle.std.proofs.Common.{◌≡◌, ap, sym, ◌∙◌, true, false, filter, rules}
 use Rattle.sqlite.specs.{Effect.{Database}, Held.{state}}
-use Rattle.plant_model.specs.{RowFacts.{holds_by}, declared.rows.GrantRow.{GrantRow}}
+use Rattle.plant_model.specs.declared.rows.GrantRow.{GrantRow}
+use Rattle.plant_model.specs.steps.RowFacts.{holds_by}
 use Rattle.plant_types.specs.Names.{same_name}
 use Rattle.plant_store.{specs.Keeping.{has_any}, proofs.{ReadsOnly.{begins, goes_on, reads_then}, Selected.{holder_found, no_part, stranger_found}}}
 use Rattle.plant_store.proofs.public.Contents.{keeps_same}

@@ -1,7 +1,7 @@
 use Rattle.std.proofs.Common.{◌∙◌, filter, subst, IfOk}
 use Rattle.sqlite.specs.Held.{state}
 use Rattle.plant_books.specs.Asking.{HasNumbers}
-use Rattle.plant_model.specs.Scopes.{selection_by}
+use Rattle.plant_model.specs.steps.Scopes.{selection_by}
 use Rattle.plant_store.proofs.Queries.{if_ok}
 use Rattle.plant_store.proofs.scope_rows.matrix_rows.Goals as goal
 

@@ -3,7 +3,8 @@ use Rattle.sqlite.specs.Held.{state}
 use Rattle.sqlite_keyed.proofs.ListLemmas.{filter-filter}
 use Rattle.plant_books.specs.Asking.{HasNumbers}
 use Rattle.plant_columns.specs.{Tables.{rows_seen}, declared.tables.TableKind.TheVariants.{Changes}}
-use Rattle.plant_model.specs.{Scopes.{selection_by}, declared.rows.RecordEntry.{RecordEntry}}
+use Rattle.plant_model.specs.declared.rows.RecordEntry.{RecordEntry}
+use Rattle.plant_model.specs.steps.Scopes.{selection_by}
 use Rattle.plant_store.proofs.{NumberLaws.{changes_climb}, Queries.{if_ok}}
 use Rattle.plant_store.proofs.scope_rows.some_changes.Goals as goal
 

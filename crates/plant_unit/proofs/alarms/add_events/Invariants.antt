@@ -1,6 +1,6 @@
 use Rattle.std.proofs.Common.{List, length, take, ◌++◌, ◌≡◌}
 use Rattle.plant_alarm.specs.declared.event.Event.{Event}
-use Rattle.plant_model.specs.RowFacts.{alarm_tag}
+use Rattle.plant_model.specs.steps.RowFacts.{alarm_tag}
 use Rattle.plant_types.specs.{KeyedRows.{IsInOrder}, Names.{name_cmp}}
 use Rattle.plant_unit.specs.Summaries as states
 use Rattle.plant_unit.proofs.alarms.add_events.Given as goal

@@ -1,5 +1,6 @@
 use Rattle.std.proofs.Common.{ap, sym, ◌∙◌, ◌≡◌, List, Option, [], filter, if◌then◌else◌, map, option_to_list, take, ◌+◌, ◌++◌, ◌∷◌, append-nil}
-use Rattle.plant_model.specs.{RowChanges.{state_put}, declared.rows.{AlarmRow.{AlarmRow}, RowEdit.{RowEdit}}}
+use Rattle.plant_model.specs.declared.rows.{AlarmRow.{AlarmRow}, RowEdit.{RowEdit}}
+use Rattle.plant_model.specs.steps.RowChanges.{state_put}
 use Rattle.plant_unit.{specs.Summaries.{has_event_of}, proofs.{AlarmLists.{summarized}, alarms.push_named.Goals.{in-Some+in_ok-push, in_default}}}
 use Rattle.plant_unit.proofs.public.Loops.{grown, passing_next}
 use Rattle.plant_unit.proofs.alarms.push_named.Goals as goal

@@ -1,6 +1,6 @@
 use Rattle.std.proofs.Common.{take, ◌++◌, ◌≡◌, List, filter, map}
 use Rattle.plant_alarm.specs.declared.event.Event.{Event}
-use Rattle.plant_model.specs.RowChanges.{state_put}
+use Rattle.plant_model.specs.steps.RowChanges.{state_put}
 use Rattle.plant_unit.specs.Summaries as states
 use Rattle.plant_unit.proofs.alarms.push_named.Given as goal
 

@@ -1,5 +1,6 @@
 use Rattle.std.proofs.{Common.{ap, sym, ◌∙◌, ◌≡◌, Some, [], option_copied, option_map, ◌∷◌}, lemmas.Result.{IfOk-weaker}}
-use Rattle.plant_model.specs.{Refusals.{first_refusal, kind_refusals, of_change}, RowFacts.{change_found, change_read, facts_in}, Rows.{change_entry}}
+use Rattle.plant_model.specs.{Refusals.{first_refusal, kind_refusals, of_change}, Rows.{change_entry}}
+use Rattle.plant_model.specs.steps.RowFacts.{change_found, change_read, facts_in}
 use Rattle.plant_model.specs.declared.reply.{ChangeRow.{ChangeRow}, Refused.TheVariants.{SamePerson}}
 use Rattle.plant_types.specs.Names.{same_name}
 use Rattle.plant_unit.specs.Judged.{IsApproved, IsJudgedOwn}

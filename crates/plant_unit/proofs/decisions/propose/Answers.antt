@@ -1,5 +1,6 @@
 use Rattle.std.proofs.Common.{ap, refl, sym, ◌∙◌, List, ◌++◌, ◌∷◌}
-use Rattle.plant_model.specs.{Calls.{own_changes}, RowFacts.{facts_in}, declared.call.Request.TheVariants.{Propose}}
+use Rattle.plant_model.specs.declared.call.Request.TheVariants.{Propose}
+use Rattle.plant_model.specs.steps.{CallChanges.{own_changes}, RowFacts.{facts_in}}
 use Rattle.plant_model.specs.declared.{reply.Reply.TheVariants.{Number}, rows.{Row.TheVariants.{Unit as UnitPut}, RowEdit.{RowEdit}}}
 use Rattle.plant_model.specs.declared.rows.{RowEdit.TheVariants.{Put}, UnitRow.{UnitRow}}
 use Rattle.plant_unit.proofs.VerdictLaws.{asked, made_own, refused_own}

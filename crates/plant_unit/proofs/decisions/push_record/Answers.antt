@@ -1,5 +1,5 @@
 use Rattle.std.{specs.Result.{result_err}, proofs.{Common.{ap, arith, sym, ◌∙◌}, lemmas.Grind.{common_steps}}}
-use Rattle.plant_model.specs.RowFacts.{facts_in}
+use Rattle.plant_model.specs.steps.RowFacts.{facts_in}
 use Rattle.plant_unit.proofs.ProposalLaws.{record_made, refusal_told}
 use Rattle.plant_unit.proofs.decisions.push_record.Goals as goal
 

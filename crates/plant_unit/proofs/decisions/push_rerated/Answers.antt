@@ -1,5 +1,6 @@
 use Rattle.std.{specs.List.{list_all}, proofs.Common.{ap, sym, ◌∙◌, ◌≡◌, List, Option, filter_map, map, option_to_list, take, true, ◌+◌, ◌++◌, append-nil}}
-use Rattle.plant_model.specs.{RowChanges.{rerated}, RowFacts.{record_read}, declared.{reply.RecordRow.{RecordRow}, rows.RecordEntry.{RecordEntry}}}
+use Rattle.plant_model.specs.declared.{reply.RecordRow.{RecordRow}, rows.RecordEntry.{RecordEntry}}
+use Rattle.plant_model.specs.steps.{RowChanges.{rerated}, RowFacts.{record_read}}
 use Rattle.plant_model.specs.declared.rows.{Row.TheVariants.{Record as RecordPut}, RowEdit.{RowEdit, TheVariants.{Put}}}
 use Rattle.plant_unit.{specs.Readings.{has_its_sheet}, proofs.ReadingLaws.{each_passes, told_more}}
 use Rattle.plant_unit.proofs.{decisions.push_rerated.Goals.{in-Some+in_ok-push, in_default}, public.Loops.{grown}}

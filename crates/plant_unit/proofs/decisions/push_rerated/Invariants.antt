@@ -1,5 +1,6 @@
 use Rattle.std.proofs.Common.{take, ◌≡◌, filter_map, map, ◌++◌}
-use Rattle.plant_model.specs.{RowChanges.{rerated}, RowFacts.{record_read}, declared.rows.Row.TheVariants.{Record as RecordPut}}
+use Rattle.plant_model.specs.declared.rows.Row.TheVariants.{Record as RecordPut}
+use Rattle.plant_model.specs.steps.{RowChanges.{rerated}, RowFacts.{record_read}}
 use Rattle.plant_model.specs.declared.rows.RowEdit.TheVariants.{Put}
 use Rattle.plant_unit.specs.Additions.{AreKept}
 use Rattle.plant_unit.proofs.decisions.push_rerated.Given as goal

@@ -1,5 +1,5 @@
 use Rattle.std.proofs.Common.{ap, sym, ◌∙◌, ◌≡◌, Some, option_copied, option_map}
-use Rattle.plant_model.specs.RowFacts.{change_found, change_read}
+use Rattle.plant_model.specs.steps.RowFacts.{change_found, change_read}
 use Rattle.plant_unit.proofs.DecisionLaws.{decided_change, refused_change}
 use Rattle.plant_unit.proofs.decisions.reject.Goals as goal
 

@@ -1,5 +1,6 @@
 use Rattle.std.proofs.Common.{ap, rules, subst, sym, ◌∙◌, ◌≡◌, Ok}
-use Rattle.plant_model.specs.{RowFacts.{facts_among}, declared.call.Request.{Request, TheVariants.{Import}}}
+use Rattle.plant_model.specs.declared.call.Request.{Request, TheVariants.{Import}}
+use Rattle.plant_model.specs.steps.RowFacts.{facts_among}
 use Rattle.plant_unit.specs.Additions.{AreAdded, AreEventsFor, AreEventsOf, addition}
 use Rattle.plant_unit.proofs.ImportsJudged.{import_added, import_judged, import_refused}
 use Rattle.plant_unit.proofs.imports.judge_import.Goals as goal

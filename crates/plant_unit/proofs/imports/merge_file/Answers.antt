@@ -1,5 +1,5 @@
 use Rattle.std.proofs.Common.{rules, sym, ◌∙◌, Err, Ok}
-use Rattle.plant_model.specs.RowFacts.{facts_among}
+use Rattle.plant_model.specs.steps.RowFacts.{facts_among}
 use Rattle.plant_unit.proofs.ImportsJudged.{counted_at, full_added, merged_at}
 use Rattle.plant_unit.proofs.imports.merge_file.Goals as goal
 

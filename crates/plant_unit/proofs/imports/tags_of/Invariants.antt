@@ -1,5 +1,5 @@
 use Rattle.std.proofs.Common.{take, ◌≡◌, map}
-use Rattle.plant_model.specs.RowFacts.{alarm_tag}
+use Rattle.plant_model.specs.steps.RowFacts.{alarm_tag}
 use Rattle.plant_unit.proofs.imports.tags_of.Given as goal
 
 abbrev pub invariant-loop-alarm : goal.invariant-loop-alarm

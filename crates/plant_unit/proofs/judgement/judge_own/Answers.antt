@@ -1,5 +1,5 @@
 use Rattle.std.proofs.Common.{refl}
-use Rattle.plant_model.specs.RowFacts.{facts_in}
+use Rattle.plant_model.specs.steps.RowFacts.{facts_in}
 use Rattle.plant_unit.proofs.VerdictLaws.{done_for, read_for}
 use Rattle.plant_unit.proofs.judgement.judge_own.Goals as goal
 

@@ -1,5 +1,6 @@
 use Rattle.std.proofs.Common.{None, false, rules, sym, ◌∙◌, ◌≡◌}
-use Rattle.plant_model.specs.{Refusals.{holds_some}, RowFacts.{facts_among, facts_in}}
+use Rattle.plant_model.specs.Refusals.{holds_some}
+use Rattle.plant_model.specs.steps.RowFacts.{facts_among, facts_in}
 use Rattle.plant_unit.{specs.Judged.{is_import}, proofs.{ImportsJudged.{holder_holds, own_result, refused_judged}, JudgedLaws.{judged_among}}}
 use Rattle.plant_unit.proofs.judgement.judge_part.Goals as goal
 

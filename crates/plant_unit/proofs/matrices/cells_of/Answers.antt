@@ -1,5 +1,5 @@
 use Rattle.std.proofs.Common.{ap, sym, ◌∙◌, List, length, map, ◌==◌}
-use Rattle.plant_model.specs.RowFacts.{cells_at}
+use Rattle.plant_model.specs.steps.RowFacts.{cells_at}
 use Rattle.plant_ration.specs.declared.cell.Cell.{Cell}
 use Rattle.plant_unit.proofs.{ReadingLaws.{row_left, row_pushed}, matrices.cells_of.Goals.{then-not-is_empty+in_ok-push, else-not-is_empty}}
 use Rattle.plant_unit.proofs.matrices.cells_of.Goals as goal

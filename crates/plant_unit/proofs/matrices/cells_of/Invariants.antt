@@ -1,5 +1,5 @@
 use Rattle.std.{specs.List.{range_with_len}, proofs.Common.{◌≡◌, map, filter}}
-use Rattle.plant_model.specs.RowFacts.{cells_at, has_cells}
+use Rattle.plant_model.specs.steps.RowFacts.{cells_at, has_cells}
 use Rattle.plant_unit.proofs.matrices.cells_of.Given as goal
 
 abbrev pub invariant-loop-place : goal.invariant-loop-place

@@ -1,5 +1,5 @@
 use Rattle.std.proofs.Common.{ap, sym, ◌∙◌}
-use Rattle.plant_model.specs.RowFacts.{facts_in}
+use Rattle.plant_model.specs.steps.RowFacts.{facts_in}
 use Rattle.plant_ration.specs.Grid.{Grid}
 use Rattle.plant_unit.{specs.Judged.{sheet_decision}, proofs.{ProposalLaws.{base_decided, bare_sheet}, ReadingLaws.{in_force_none, in_force_read}}}
 use Rattle.plant_unit.proofs.proposals.record_priority.Goals as goal

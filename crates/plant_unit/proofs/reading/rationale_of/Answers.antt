@@ -1,5 +1,5 @@
 use Rattle.std.proofs.Common.{ap, ◌∙◌}
-use Rattle.plant_model.specs.RowFacts.{record_tag}
+use Rattle.plant_model.specs.steps.RowFacts.{record_tag}
 use Rattle.plant_types.specs.{KeyedRows.{row_at}, Names.{name_cmp}}
 use Rattle.plant_unit.proofs.ReadingLaws.{rationale_read}
 use Rattle.plant_unit.proofs.reading.rationale_of.Goals as goal

@@ -1,5 +1,6 @@
 use Rattle.std.proofs.Common.{◌≡◌, take, map}
-use Rattle.plant_model.specs.{Replies.{alarm_line}, RowFacts.{facts_in}}
+use Rattle.plant_model.specs.Replies.{alarm_line}
+use Rattle.plant_model.specs.steps.RowFacts.{facts_in}
 use Rattle.plant_unit.specs.Additions.{AreKept}
 use Rattle.plant_unit.proofs.replies.alarm_lines.Given as goal
 

@@ -1,6 +1,7 @@
 use Rattle.std.proofs.{Common.{◌≡◌, Some, arith, sym, ap, ◌∙◌, get_or, Option}, lemmas.Grind.{common_steps}}
 use Rattle.plant_alarm.specs.Shelves.{shelf_state}
-use Rattle.plant_model.specs.{Facts.{returned}, Replies.{line_of}, RowFacts.{facts_in}, Shelves.{shelf_left}, declared.reply.ShelfLine.{ShelfLine}}
+use Rattle.plant_model.specs.{Facts.{returned}, Replies.{line_of}, Shelves.{shelf_left}, declared.reply.ShelfLine.{ShelfLine}}
+use Rattle.plant_model.specs.steps.RowFacts.{facts_in}
 use Rattle.plant_model.specs.declared.rows.ShelfRow.{ShelfRow}
 use Rattle.plant_unit.proofs.{public.Loops.{filter_map_more}, replies.lines.Goals.{in-Some+in_ok-push, in_default}}
 use Rattle.plant_unit.proofs.replies.lines.Goals as goal

@@ -1,6 +1,7 @@
 use Rattle.std.proofs.Common.{◌≡◌, take, filter_map, Some}
 use Rattle.plant_alarm.specs.Shelves.{shelf_state}
-use Rattle.plant_model.specs.{Facts.{returned}, Replies.{line_of}, RowFacts.{facts_in}, Shelves.{shelf_left}}
+use Rattle.plant_model.specs.{Facts.{returned}, Replies.{line_of}, Shelves.{shelf_left}}
+use Rattle.plant_model.specs.steps.RowFacts.{facts_in}
 use Rattle.plant_unit.specs.Additions.{AreKept}
 use Rattle.plant_unit.proofs.replies.lines.Given as goal
 

@@ -1,5 +1,6 @@
 use Rattle.std.proofs.{Common.{◌≡◌, arith, sym, ap, ◌∙◌, get_or, Option}, lemmas.Grind.{common_steps}}
-use Rattle.plant_model.specs.{Replies.{standing_line}, RowFacts.{facts_in}, declared.{reply.StandingLine.{StandingLine}, rows.AlarmRow.{AlarmRow}}}
+use Rattle.plant_model.specs.{Replies.{standing_line}, declared.{reply.StandingLine.{StandingLine}, rows.AlarmRow.{AlarmRow}}}
+use Rattle.plant_model.specs.steps.RowFacts.{facts_in}
 use Rattle.plant_unit.proofs.{public.Loops.{filter_map_more}, replies.standing_lines.Goals.{in-Some+in_ok-push, in_default}}
 use Rattle.plant_unit.proofs.replies.standing_lines.Goals as goal
 

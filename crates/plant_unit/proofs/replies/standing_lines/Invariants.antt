@@ -1,5 +1,6 @@
 use Rattle.std.proofs.Common.{◌≡◌, take, filter_map}
-use Rattle.plant_model.specs.{Replies.{standing_line}, RowFacts.{facts_in}}
+use Rattle.plant_model.specs.Replies.{standing_line}
+use Rattle.plant_model.specs.steps.RowFacts.{facts_in}
 use Rattle.plant_unit.specs.Additions.{AreKept}
 use Rattle.plant_unit.proofs.replies.standing_lines.Given as goal
 

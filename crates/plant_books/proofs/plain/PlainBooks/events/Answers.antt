@@ -1,6 +1,6 @@
 use Rattle.std.proofs.Common.{subst, ◌≡◌, IfOk, unwrap_or}
 use Rattle.plant_books.proofs.ListedLaws.{rows_listed}
-use Rattle.plant_model.specs.RowChanges.{no_rows}
+use Rattle.plant_model.specs.steps.RowChanges.{no_rows}
 use Rattle.plant_books.proofs.plain.PlainBooks.events.Goals as goal
 
 pub returns-clause-found : goal.returns-clause-found

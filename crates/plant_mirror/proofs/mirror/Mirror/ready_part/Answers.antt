@@ -1,5 +1,5 @@
 use Rattle.std.{specs.FinMap.{get}, proofs.Common.{option_map, rules, sym, true, ◌≡◌}}
-use Rattle.plant_model.specs.Parts.{part_of}
+use Rattle.plant_model.specs.steps.Parts.{part_of}
 use Rattle.plant_mirror.proofs.CopyLaws.{found_there, made_there, part_there}
 use Rattle.plant_mirror.proofs.mirror.Mirror.ready_part.Goals as goal
 

@@ -1,10 +1,13 @@
 -- Whether rows of a unit have one with the key of another, and which rows a change puts over others.
 use Rattle.std.specs.{List.{list_any}, Ordering.{eq_by_cmp}, Prelude.{Bool, List, [], false, true, ℕ, ◌∷◌, ◌≡◌}}
 use Rattle.plant_import.specs.Numbers.{has_number}
-use Rattle.plant_model.specs.{Histories.{same_number}, Matrices.{band_cmp, cell_cmp}, RowChanges.{changed}, RowFacts.{band_key, cell_key, pair_of}}
+use Rattle.plant_model.specs.{Histories.{same_number}, Matrices.{band_cmp, cell_cmp}}
+use Rattle.plant_model.specs.steps.{RowChanges.{changed}, RowFacts.{band_key, cell_key, pair_of}}
 use Rattle.plant_model.specs.declared.rows.{Row.{Row}, RowEdit.{RowEdit, TheVariants.{Put, PutEvents, Remove}}, UnitRows.{UnitRows}}
 use Rattle.plant_model.specs.declared.rows.Row.TheVariants.{Alarm, Band, Cell, Change, Event, Grant, Record, Shelf, Unit as UnitRow}
 use Rattle.plant_types.specs.{Names.{same_name}, Roles.{same_pair}}
+use Rattle.plant_model.specs.{Facts.{facts}, Legality.{IsLegal, may_follow}, Rows.{rows_of}, declared.call.Call.{Call}}
+use Rattle.plant_model.specs.steps.{CallChanges.{changes_for}, Parts.{part_of}}
 
 -- there is a row
 abbrev pub has_any : {A : Type 0} → List A → Bool
@@ -46,3 +49,9 @@ PutsOverSeen rows seen (Remove k) = Unit {0}
 abbrev pub AllPutOverSeen : UnitRows → UnitRows → List RowEdit → Type 0
 AllPutOverSeen rows seen [] = Unit {0}
 AllPutOverSeen rows seen (c ∷ cs) = PutsOverSeen rows seen c × AllPutOverSeen (changed c rows) seen cs
+
+-- each row that an accepted call puts over another lies in what the call looks at, whatever the legal history
+abbrev pub PutsOverWhatIsSeen : Type 0
+PutsOverWhatIsSeen =
+    (h : List Call) (c : Call) → IsLegal h → may_follow h c ≡ true
+    → AllPutOverSeen (rows_of h) (part_of c (rows_of h)).rows (changes_for (facts h) c)

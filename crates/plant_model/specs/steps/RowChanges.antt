@@ -2,7 +2,7 @@
 use Rattle.std.specs.{List.{list_any}, Ordering.{nat_cmp}}
 use Rattle.std.specs.Prelude.{Option, Bool, List, None, Some, [], false, filter, filter_map, map, max, true, ℕ, ◌++◌, ◌+◌, ◌∷◌, option_to_list}
 use Rattle.plant_model.specs.{Changes.{priority_by}, Facts.{Facts}, Matrices.{band_at, band_cmp, band_places, cell_cmp, cell_of, cell_places}}
-use Rattle.plant_model.specs.RowFacts.{change_number, record_tag, alarm_tag, band_key, cell_key, event_number, pair_of, shelf_tag}
+use Rattle.plant_model.specs.steps.RowFacts.{change_number, record_tag, alarm_tag, band_key, cell_key, event_number, pair_of, shelf_tag}
 use Rattle.plant_model.specs.{Rows.{change_entry, with_limit}, declared.reply.{ChangeRow.{ChangeRow}, RecordRow.{RecordRow}}}
 use Rattle.plant_model.specs.declared.rows.{AlarmRow.{AlarmRow}, Key.{Key, TheVariants.{Grant as GrantKey, Shelf as ShelfKey}}}
 use Rattle.plant_model.specs.declared.rows.{RecordEntry.{RecordEntry}, Row.{Row}}

@@ -4,8 +4,10 @@ use Rattle.std.specs.Prelude.{◌&&◌, Bool, List, None, Option, Some, [], fals
 use Rattle.plant_alarm.specs.declared.event.Event.{Event}
 use Rattle.plant_import.specs.Needed.{needed}
 use Rattle.plant_model.specs.{Histories.{same_number}, declared.{call.Request.{Request}, kinds.Counted.{Counted}}}
-use Rattle.plant_model.specs.Kinds.{AllAlarms, AllEvents, AllGrants, AllRecords, AllShelves, Approval, Content, File, NothingElse, OneAlarm, OneChange, OneRecord, Scope, Shelving, count_of, kind_of, scope_of}
-use Rattle.plant_model.specs.{RowChanges.{no_rows}, RowFacts.{change_found, holds_by, last_number, unit_read, pair_of}, declared.call.Call.{Call}}
+use Rattle.plant_model.specs.Kinds.{count_of}
+use Rattle.plant_model.specs.steps.LooksAt.{AllAlarms, AllEvents, AllGrants, AllRecords, AllShelves, Approval, Content, File, NothingElse, OneAlarm, OneChange, OneRecord, Scope, Shelving, scope_of}
+use Rattle.plant_model.specs.declared.call.Call.{Call}
+use Rattle.plant_model.specs.steps.{RowChanges.{no_rows}, RowFacts.{change_found, holds_by, last_number, unit_read, pair_of}}
 use Rattle.plant_model.specs.declared.kinds.Counted.TheVariants.{Alarms as AlarmsCounted, Changes as ChangesCounted, Events as EventsCounted, Nothing}
 use Rattle.plant_model.specs.declared.rows.{ChangeEntry.{ChangeEntry}, ChangeTopic.{ChangeTopic}}
 use Rattle.plant_model.specs.declared.rows.ChangeTopic.TheVariants.{Limit as LimitTopic, Matrix as MatrixTopic, Record as RecordTopic}
@@ -124,7 +126,7 @@ count_of_kind EventsCounted rows = length rows.events
 count_of_kind ChangesCounted rows = last_number rows.changes
 
 abbrev pub counted_for : UnitRows → Request → ℕ
-counted_for rows r = count_of_kind (count_of (kind_of r)) rows
+counted_for rows r = count_of_kind (count_of r) rows
 
 abbrev pub rows_selected : Name → Selection → UnitRows → UnitRows
 rows_selected p s rows =

@@ -1,13 +1,15 @@
 -- What a request looks at in a unit, as the code says it, and the rows that it takes in.
 use Rattle.std.specs.Prelude.{Bool, None, Option, Some, false, option_copied, true, ℕ, ◌≡◌}
 use Rattle.plant_import.specs.Needed.{needed}
-use Rattle.plant_model.specs.{Histories.{Begins, Over, Said}, Kinds.{NewShelf, Scope as Looked, says, scope_of}}
-use Rattle.plant_model.specs.Parts.{Selection, all_events, every, has_shelf, is_crowded, is_source, nothing, of_approved, of_content, change_by_number, of_records, of_shelving, of_tag, of_topic, selected}
-use Rattle.plant_model.specs.{RowFacts.{change_found}, declared.{call.Request.{Request}, kinds.Scope.{Scope}}}
+use Rattle.plant_model.specs.{Histories.{Begins, Over, Said}, Kinds.{NewShelf, says}}
+use Rattle.plant_model.specs.steps.LooksAt.{Scope as Looked, scope_of}
+use Rattle.plant_model.specs.steps.Parts.{Selection, all_events, every, has_shelf, is_crowded, is_source, nothing, of_approved, of_content, change_by_number, of_records, of_shelving, of_tag, of_topic, selected}
+use Rattle.plant_model.specs.declared.{call.Request.{Request}, kinds.Scope.{Scope}}
+use Rattle.plant_model.specs.steps.RowFacts.{change_found}
 use Rattle.plant_model.specs.declared.kinds.Scope.TheVariants.{AllAlarms, AllEvents, AllGrants, AllRecords, AllShelves, Approval, Content, File, NothingElse, OneAlarm, OneChange, OneRecord, Shelving}
 use Rattle.plant_model.specs.declared.rows.{ChangeEntry.{ChangeEntry}, UnitRows.{UnitRows}}
 use Rattle.plant_types.specs.Names.{Name, same_name}
-use Rattle.plant_model.specs.Kinds as looked
+use Rattle.plant_model.specs.steps.LooksAt as looked
 pub use Rattle.plant_model.specs.Changes.{number_approved}
 
 -- the rows that a scope takes in of a unit's

@@ -1,6 +1,7 @@
 -- Rows found by their tags, and changes by their numbers.
 use Rattle.std.specs.{List.Sorted.{IsPartitionPoint}, Ordering.{is_lt, nat_cmp}, Prelude.{List, Option, false, true, ℕ, ◌<◌, ◌≡◌, ◌≤◌}}
-use Rattle.plant_model.specs.{RowFacts.{change_number}, declared.rows.ChangeEntry.{ChangeEntry}}
+use Rattle.plant_model.specs.declared.rows.ChangeEntry.{ChangeEntry}
+use Rattle.plant_model.specs.steps.RowFacts.{change_number}
 use Rattle.plant_types.specs.{KeyedRows.{row_at}, Names.{Name, name_cmp}}
 
 -- the row of a tag, of rows whose tags are read so

@@ -2,7 +2,7 @@
 use Rattle.std.specs.{Ordering.{nat_cmp}, Prelude.{List}}
 use Rattle.plant_alarm.specs.declared.event.Event.{Event}
 use Rattle.plant_model.specs.{Matrices.{band_cmp, cell_cmp}, declared.rows.{ChangeEntry.{ChangeEntry}, UnitRows.{UnitRows}}}
-use Rattle.plant_model.specs.RowFacts.{alarm_tag, band_key, cell_key, change_number, event_number, record_tag, shelf_tag}
+use Rattle.plant_model.specs.steps.RowFacts.{alarm_tag, band_key, cell_key, change_number, event_number, record_tag, shelf_tag}
 use Rattle.plant_types.specs.{KeyedRows.{IsInOrder}, Names.{Name, name_cmp}}
 
 -- the rows, whose tags are read so, rise by their tags

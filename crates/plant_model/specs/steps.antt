@@ -1,0 +1,10 @@
+-- The words of the code's own steps: what a call looks at, the facts read from rows, and the rows that change.
+pub mod LooksAt
+pub mod Parts
+pub mod Scopes
+pub mod Found
+pub mod Order
+pub mod RowFacts
+pub mod RowChanges
+pub mod Keys
+pub mod CallChanges
