@@ -143,8 +143,19 @@ fn lists_floods(
     heading: &str,
     first: &str,
 ) {
-    let books = filled(rt, tables(rt.alloc()).expect(rt, "tables"), mix);
-    let books = mirrored(rt.alloc(), books, MAX_ROWS_AT_HAND).expect(rt, "memory");
+    let books = tables(rt.alloc()).expect(rt, "tables");
+    lists_floods_over(rt, books, mix, heading, first);
+}
+
+fn lists_floods_over<B: Books + Drop>(
+    rt: &(impl Abort + AllocGlobal + Clock + Eprint),
+    below: B,
+    mix: Mix,
+    heading: &str,
+    first: &str,
+) {
+    let below = filled(rt, below, mix);
+    let books = mirrored(rt.alloc(), below, MAX_ROWS_AT_HAND).expect(rt, "memory");
     let (answers, first_taken, books) = floods(rt, books);
     let (again, next_taken, _) = floods(rt, books);
     let (_, list) = text(&answers).split_once("\r\n\r\n").expect(rt, "a body");

@@ -2,8 +2,8 @@
 
 use plant_books::Plain;
 use plant_examples::{
-    BASE, BEGIN, Exchanges, IMPORTED_TWICE, Mark, RECORDED, REVIEWED, SHELVED, STAFFED, THREE_ROWS,
-    between,
+    BASE, BEGIN, Exchanges, Failure, IMPORTED_TWICE, Mark, RECORDED, REVIEWED, SHELVED, STAFFED,
+    THREE_ROWS, between,
 };
 use plant_model::{Answer, Call};
 use plant_office::{Books, Office};
@@ -11,7 +11,28 @@ use plant_store::Tables;
 use plant_trials::{Calls, after, bytes_of, calls_of, check_rows, lists, tables, text};
 use plant_types::Fault;
 use sqlite::MemStore;
+use std::alloc::Global;
 use std::process::Abort;
+
+/// Books that can be told how many steps a statement may take. The tests speak of them by this trait: each function that
+/// names the tables themselves costs the prover a minute.
+trait Interruptible: Books + Drop + Sized {
+    /// New books, without a limit.
+    fn made(alloc: Global) -> Result<Self, Failure>;
+
+    /// Each statement may take so many steps from now on, or as many as it needs.
+    fn limit(&mut self, steps: Option<u64>);
+}
+
+impl Interruptible for Tables<MemStore> {
+    fn made(alloc: Global) -> Result<Tables<MemStore>, Failure> {
+        tables(alloc)
+    }
+
+    fn limit(&mut self, steps: Option<u64>) {
+        self.set_steps(steps);
+    }
+}
 
 /// The bytes of an answer, or nothing where it is a fault of the store.
 fn answered(rt: &(impl Abort + AllocGlobal), answer: &Answer) -> Option<Vec<u8>> {
@@ -24,19 +45,19 @@ fn answered(rt: &(impl Abort + AllocGlobal), answer: &Answer) -> Option<Vec<u8>>
 /// What a call answers whose statements may each take so many steps, or nothing where that is a fault of the store; and
 /// the books after it, without that limit. The answer is dropped by its own name: at the end of a scope the prover goes
 /// through every kind of answer.
-fn limited(
+fn limited<B: Interruptible>(
     rt: &(impl Abort + AllocGlobal),
-    mut books: Tables<MemStore>,
+    mut books: B,
     steps: u64,
     call: &Call,
-) -> (Option<Vec<u8>>, Tables<MemStore>) {
-    books.set_steps(Some(steps));
+) -> (Option<Vec<u8>>, B) {
+    books.limit(Some(steps));
     let mut office = Office::new(rt.alloc(), books);
     let answer = office.serve(call);
     let bytes = answered(rt, &answer);
     drop(answer);
     let mut books = office.into_books();
-    books.set_steps(None);
+    books.limit(None);
     (bytes, books)
 }
 
@@ -52,14 +73,14 @@ fn after_marks<B: Books + Drop>(
     after(rt.alloc(), books, requests, answers).expect(rt, "answers")
 }
 
-/// Tables after the exchanges before this mark.
-fn tables_before(
+/// New books after the exchanges before this mark.
+fn books_before<B: Interruptible>(
     rt: &(impl Abort + AllocGlobal),
     wanted: &Exchanges,
     mark: Mark,
-) -> Tables<MemStore> {
-    let tables = tables(rt.alloc()).expect(rt, "tables");
-    after_marks(rt, tables, wanted, BEGIN, mark)
+) -> B {
+    let books = B::made(rt.alloc()).expect(rt, "books");
+    after_marks(rt, books, wanted, BEGIN, mark)
 }
 
 /// The calls of these exchanges, none of which is malformed.
@@ -83,9 +104,9 @@ fn is_wanted(
 
 /// The books hold what they held before the call between these marks, as lists do; the call is then answered as
 /// expected, and leaves the same rows as over lists.
-fn goes_on(
+fn goes_on<B: Books + Drop>(
     rt: &(impl Abort + AllocGlobal),
-    mut books: Tables<MemStore>,
+    mut books: B,
     wanted: &Exchanges,
     last: Mark,
     next: Mark,
@@ -100,7 +121,7 @@ fn goes_on(
 
 /// Whether the call passes with so many steps, answered as expected. Otherwise it is a fault that leaves the rows as
 /// they were, and the same call without a limit is then answered as expected and leaves the same rows as over lists.
-fn passes(
+fn passes<B: Interruptible>(
     rt: &(impl Abort + AllocGlobal),
     wanted: &Exchanges,
     last: Mark,
@@ -108,7 +129,7 @@ fn passes(
     call: &Call,
     steps: u64,
 ) -> bool {
-    let books = tables_before(rt, wanted, last);
+    let books = books_before::<B>(rt, wanted, last);
     let (answer, books) = limited(rt, books, steps, call);
     let Some(answer) = answer else {
         goes_on(rt, books, wanted, last, next);
@@ -119,7 +140,7 @@ fn passes(
 }
 
 /// The number of steps with which the call between these marks passes.
-fn steps_of(
+fn steps_of<B: Interruptible>(
     rt: &(impl Abort + AllocGlobal),
     wanted: &Exchanges,
     last: Mark,
@@ -127,7 +148,7 @@ fn steps_of(
     call: &Call,
 ) -> u64 {
     for steps in 0..10_000u64 {
-        if passes(rt, wanted, last, next, call, steps) {
+        if passes::<B>(rt, wanted, last, next, call, steps) {
             return steps;
         }
     }
@@ -141,22 +162,22 @@ fn changes_nothing_where_a_call_is_interrupted(rt: HostRuntime) {
     let all = calls(&rt, &wanted);
     let mut last = BEGIN;
     for (mark, call) in wanted.marks.iter().zip(&all.calls) {
-        assert!(rt; steps_of(&rt, &wanted, last, *mark, call) > 0);
+        assert!(rt; steps_of::<Tables<MemStore>>(&rt, &wanted, last, *mark, call) > 0);
         last = *mark;
     }
 }
 
-/// Tables after the call between these marks, which is made with no step, with one, and so on until it is answered as
+/// The books after the call between these marks, which is made with no step, with one, and so on until it is answered as
 /// expected. Each fault leaves the rows as they were, which are those of the lists.
-fn after_interruptions(
+fn after_interruptions<B: Interruptible>(
     rt: &(impl Abort + AllocGlobal),
-    mut books: Tables<MemStore>,
+    mut books: B,
     theirs: &mut Plain,
     wanted: &Exchanges,
     last: Mark,
     next: Mark,
     call: &Call,
-) -> Tables<MemStore> {
+) -> B {
     for steps in 0..10_000u64 {
         let (answer, mut left) = limited(rt, books, steps, call);
         if let Some(answer) = answer {
@@ -170,10 +191,10 @@ fn after_interruptions(
     rt.panic("no end")
 }
 
-/// Over the same tables each call of these exchanges, interrupted until it passes.
-fn passes_in_the_end(rt: &(impl Abort + AllocGlobal), texts: &[&str]) {
+/// Over the same books each call of these exchanges, interrupted until it passes.
+fn passes_in_the_end<B: Interruptible>(rt: &(impl Abort + AllocGlobal), texts: &[&str]) {
     let wanted = Exchanges::of(rt.alloc(), texts).expect(rt, "exchanges");
-    let mut books = tables(rt.alloc()).expect(rt, "tables");
+    let mut books = B::made(rt.alloc()).expect(rt, "books");
     let mut theirs = lists(rt.alloc()).expect(rt, "lists");
     let all = calls(rt, &wanted);
     let mut last = BEGIN;
@@ -187,10 +208,10 @@ fn passes_in_the_end(rt: &(impl Abort + AllocGlobal), texts: &[&str]) {
 
 #[test]
 fn changes_nothing_where_a_review_is_interrupted(rt: HostRuntime) {
-    passes_in_the_end(&rt, &[BASE, STAFFED, REVIEWED, RECORDED]);
+    passes_in_the_end::<Tables<MemStore>>(&rt, &[BASE, STAFFED, REVIEWED, RECORDED]);
 }
 
 #[test]
 fn changes_nothing_where_imports_are_interrupted(rt: HostRuntime) {
-    passes_in_the_end(&rt, &[BASE, THREE_ROWS, IMPORTED_TWICE]);
+    passes_in_the_end::<Tables<MemStore>>(&rt, &[BASE, THREE_ROWS, IMPORTED_TWICE]);
 }

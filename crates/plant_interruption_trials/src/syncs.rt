@@ -9,7 +9,7 @@ use plant_store::Tables;
 use plant_trials::{Calls, bytes_of, calls_of, mirrored, root, served, text};
 use plant_types::Fault;
 use plant_types::limits::MAX_ROWS_AT_HAND;
-use sqlite::{Connection, FileStore, Files, Options};
+use sqlite::{Connection, Files, Options};
 use sqlite_disk::{Disk, Memory, Tally};
 use std::io;
 use std::process::Abort;
@@ -105,21 +105,6 @@ fn failing(rt: &(impl Abort + AllocGlobal), syncs: u64) -> FailingDisk<Memory> {
     }
 }
 
-/// Books kept on these disks, or none if too few syncs succeed to make them.
-fn books_over<D: Disk + Drop>(
-    rt: &(impl Abort + AllocGlobal),
-    log: D,
-    db: D,
-) -> Option<Tables<FileStore<D>>> {
-    if !log.may_be_used() || !db.may_be_used() {
-        rt.panic("no disk")
-    }
-    let Ok(conn) = Connection::open_files(rt.alloc(), Files { log, db }, Options::new(7)) else {
-        return None;
-    };
-    Tables::create(rt.alloc(), conn, root(rt.alloc()).expect(rt, "a person")).ok()
-}
-
 /// Whether the call is answered by a fault of the store. Any other answer is the one that is expected between these
 /// marks.
 fn is_faulty<B: Books>(
@@ -180,7 +165,7 @@ fn answered_at_hand<B: Books + Drop>(
     count
 }
 
-/// The same of an office on these disks, or nothing if too few syncs succeed to make it.
+/// The same of an office on these disks, or nothing if too few syncs succeed to make its books.
 fn answered_on<D: Disk + Drop>(
     rt: &(impl Abort + AllocGlobal),
     log: D,
@@ -188,8 +173,17 @@ fn answered_on<D: Disk + Drop>(
     wanted: &Exchanges,
     calls: &[Call],
 ) -> Option<usize> {
-    let books = books_over(rt, log, db)?;
-    Some(answered_at_hand(rt, books, wanted, calls))
+    if !log.may_be_used() || !db.may_be_used() {
+        rt.panic("no disk")
+    }
+    let root = root(rt.alloc()).expect(rt, "a person");
+    let Ok(conn) = Connection::open_files(rt.alloc(), Files { log, db }, Options::new(7)) else {
+        return None;
+    };
+    match Tables::create(rt.alloc(), conn, root) {
+        Ok(books) => Some(answered_at_hand(rt, books, wanted, calls)),
+        Err(_) => None,
+    }
 }
 
 /// How many offices answer a fault, where each sync of the log fails in turn until all calls are answered. To make
@@ -212,7 +206,8 @@ fn answers_nothing_after_a_failed_sync(rt: HostRuntime) {
     let wanted = Exchanges::of(rt.alloc(), &[BASE, SHELVED, LOOKED_AT]).expect(&rt, "exchanges");
     let Calls { calls, answers: _ } = calls_of(rt.alloc(), &wanted).expect(&rt, "calls");
     assert_eq!(rt; calls.len(), wanted.marks.len());
-    assert!(rt; books_over(&rt, failing(&rt, 8), failing(&rt, u64::MAX)).is_none());
+    let (log, db) = (failing(&rt, 8), failing(&rt, u64::MAX));
+    assert_eq!(rt; answered_on(&rt, log, db, &wanted, &calls), None);
     let faults = faults(&rt, &wanted, &calls);
     assert!(rt; faults > 8, "{faults}");
 }
