@@ -1,5 +1,5 @@
 -- Changes of a unit's rows, one after another.
-use Rattle.std.specs.{List.{list_any}, Prelude.{Bool, IfOk, List, OnOk, Result, false, true, ◌≡◌}}
+use Rattle.std.specs.{List.{list_any}, Prelude.{Bool, List, OnOk, Result, false, true, ◌≡◌}}
 use Rattle.plant_model.specs.declared.rows.{Row.{Row}, UnitRows.{UnitRows}}
 use Rattle.plant_model.specs.steps.{Order.{AreInOrder}, RowChanges.{changed, put}}
 use Rattle.plant_model.specs.declared.rows.Row.TheVariants.{Alarm as AlarmPut, Band as BandPut, Cell as CellPut, Change as ChangePut}
@@ -10,9 +10,9 @@ use Rattle.plant_model.specs.declared.rows.RowEdit.{RowEdit, TheVariants.{Put, P
 abbrev pub PutsRow : {A E : Type 0} → Row → UnitRows → UnitRows → Result A E → Type 0
 PutsRow row before after said = AreInOrder before → OnOk said (after ≡ put row before)
 
--- of rows in the order of their keys: if it succeeds, it gives them after the change
-abbrev pub MakesChange : {E : Type 0} → RowEdit → UnitRows → Result UnitRows E → Type 0
-MakesChange change before said = AreInOrder before → IfOk said (λ after. after ≡ changed change before)
+-- of rows in the order of their keys: if it succeeds, the change is made of them
+abbrev pub MakesChange : {A E : Type 0} → RowEdit → UnitRows → UnitRows → Result A E → Type 0
+MakesChange change before after said = AreInOrder before → OnOk said (after ≡ changed change before)
 
 -- a change that puts an event, or a list of events, be it empty
 abbrev pub is_event_put : RowEdit → Bool

@@ -1,15 +1,16 @@
 ghost use Rattle.std.specs.Prelude.{◌≡◌, ◌∷◌, [], IfOk};
 ghost use Rattle.plant_model.specs.steps.{Order.{AreInOrder, TagsRise}, RowChanges.{changed_by, removed}, RowFacts.{pair_of, shelf_tag}};
-ghost use Rattle.plant_books.specs.{Changing.{MakesChange, PutsRow, is_event_put, puts_event}, Found.{without_tag}};
+ghost use Rattle.plant_books.specs.{Changing.{MakesChange, PutsRow, is_event_put, puts_event}};
 ghost use Rattle.plant_types.specs.{KeyedRows.{remove_row}, Results.{OnlyMemory}, Roles.{pair_cmp}};
 
 use crate::found::remove;
 use crate::keyed::{put, put_sorted};
 use crate::rows::compare_pair;
 use plant_import::put_events;
-use plant_model::{GrantRow, Key, Row, RowEdit, ShelfRow, UnitRow, UnitRows};
+use plant_model::{GrantRow, Key, Row, RowEdit, UnitRow, UnitRows};
 use plant_types::{Fault, List, Person, Role, Tag, TryCopy};
 use std::alloc::Global;
+use std::mem;
 
 /// The table of the one row.
 fn one_row(alloc: Global, row: UnitRow) -> Result<List<UnitRow>, Fault>
@@ -52,45 +53,37 @@ fn without_grant(grants: List<GrantRow>, person: &Person, role: Role) -> List<Gr
     List::from_vec(rows)
 }
 
-/// The shelves, which stand in the order of their tags, without that of a tag.
-fn without_shelf(mut shelves: List<ShelfRow>, tag: &Tag) -> List<ShelfRow>
-    ensures { TagsRise shelf_tag shelves → result ≡ without_tag shelf_tag tag.now shelves }
-{
-    remove(&mut shelves, tag);
-    shelves
-}
-
-/// The rows without that of a key.
-fn without(rows: UnitRows, key: &Key) -> UnitRows
-    ensures { TagsRise shelf_tag rows.shelves → result ≡ removed key.now rows }
+/// Takes the row of a key out.
+fn take_out(alloc: Global, rows: &mut UnitRows, key: &Key)
+    ensures { TagsRise shelf_tag rows.old.shelves → rows.new ≡ removed key.now rows.old }
 {
     match key {
-        Key::Grant(person, role) => UnitRows {
-            grants: without_grant(rows.grants, person, *role),
-            ..rows
-        },
-        Key::Shelf(tag) => UnitRows {
-            shelves: without_shelf(rows.shelves, tag),
-            ..rows
-        },
+        Key::Grant(person, role) => {
+            let grants = mem::replace(&mut rows.grants, List::new(alloc));
+            rows.grants = without_grant(grants, person, *role);
+        }
+        Key::Shelf(tag) => remove(&mut rows.shelves, tag),
     }
 }
 
-/// The rows after one change.
-fn after_change(alloc: Global, mut rows: UnitRows, change: &RowEdit) -> Result<UnitRows, Fault>
-    ensures value { MakesChange change.now rows result }
+/// Makes one change of the rows.
+fn make_change(alloc: Global, rows: &mut UnitRows, change: &RowEdit) -> Result<(), Fault>
+    ensures value { MakesChange change.now rows.old rows.new result }
     ensures memory { OnlyMemory result }
 {
     match change {
         RowEdit::Put(row) => {
-            put_row(alloc, &mut rows, row.copy(alloc)?)?;
-            Ok(rows)
+            put_row(alloc, rows, row.copy(alloc)?)?;
+            Ok(())
         }
         RowEdit::PutEvents(events) => {
             put_events(alloc, &mut rows.events, events.as_slice())?;
-            Ok(rows)
+            Ok(())
         }
-        RowEdit::Remove(key) => Ok(without(rows, key)),
+        RowEdit::Remove(key) => {
+            take_out(alloc, rows, key);
+            Ok(())
+        }
     }
 }
 
@@ -120,7 +113,7 @@ pub fn after_changes(
 {
     let mut after = rows;
     for change in changes.as_slice() {
-        after = after_change(alloc, after, change)?;
+        make_change(alloc, &mut after, change)?;
     }
     Ok(after)
 }

@@ -4,7 +4,7 @@ ghost use Rattle.plant_model.specs.steps.Order.{AreInOrder, ChangesRise, EventsR
 ghost use Rattle.plant_model.specs.steps.Parts.{counted_for, is_crowded as is_crowded_in, part_of as the_part, part_of_holder as holders_part, selected};
 ghost use Rattle.plant_model.specs.steps.{RowChanges.{no_rows}, RowFacts.{alarm_tag, last_number as last_number_of, shelf_tag}};
 ghost use Rattle.plant_model.specs.steps.Scopes.{is_shelving as is_shelving_by, selection_by};
-ghost use Rattle.plant_types.specs.{Names.{same_name}, Results.{Gives, OnlyMemory}};
+ghost use Rattle.plant_types.specs.{Names.{Name, same_name}, Results.{Gives, OnlyMemory}};
 
 use crate::asking::{
     Wanted, WantedAlarms, WantedEvents, is_crowded, wanted_alarms, wanted_change, wanted_events,
@@ -16,8 +16,9 @@ use crate::scope_numbers::{change_numbers, matrix_numbers};
 use plant_alarm::Event;
 use plant_import::needed;
 use plant_model::{
-    AlarmRow, Call, ChangeEntry, Counted, GrantRow, RecordEntry, Request, Scope, ShelfRow,
-    UnitPart, UnitRow, UnitRows, change_at, holds_some_by, is_shelving, number_approved, scope_of,
+    AlarmRow, BandRow, Call, CellRow, ChangeEntry, Counted, GrantRow, RecordEntry, Request, Scope,
+    ShelfRow, UnitPart, UnitRow, UnitRows, change_at, holds_some_by, is_shelving, number_approved,
+    scope_of,
 };
 use plant_types::{Fault, List, Person, TryCopy, copy_all};
 use std::alloc::Global;
@@ -32,10 +33,10 @@ pub fn rows_but_history(alloc: Global, rows: &UnitRows) -> Result<UnitRows, Faul
         grants: rows.grants.copy(alloc)?,
         alarms: rows.alarms.copy(alloc)?,
         shelves: rows.shelves.copy(alloc)?,
+        records: rows.records.copy(alloc)?,
         events: List::new(alloc),
         bands: List::new(alloc),
         cells: List::new(alloc),
-        records: rows.records.copy(alloc)?,
         changes: List::new(alloc),
     })
 }
@@ -107,6 +108,63 @@ fn changes_asked(
     rows_of_numbers(alloc, rows.changes.as_slice(), &numbers)
 }
 
+/// The unit's own row, and the grants and alarms that the scope takes in.
+fn grants_and_alarms_asked(
+    alloc: Global,
+    rows: &UnitRows,
+    person: &Person,
+    scope: Scope<'_>,
+) -> Result<(List<UnitRow>, List<GrantRow>, List<AlarmRow>), Fault>
+    ensures value { AreInOrder rows.now → IfOk result (λ asked.
+        (asked.0 ≡ (rows_by person.now rows.now scope.entry).units)
+        × (asked.1 ≡ (rows_by person.now rows.now scope.entry).grants)
+        × (asked.2 ≡ (rows_by person.now rows.now scope.entry).alarms)) }
+    ensures memory { OnlyMemory result }
+{
+    Ok((
+        rows.units.copy(alloc)?,
+        grants_asked(alloc, rows, person, scope)?,
+        alarms_asked(alloc, &rows.alarms, &rows.shelves, wanted_alarms(scope))?,
+    ))
+}
+
+/// The shelves, events and records that the scope takes in.
+fn shelves_events_and_records_asked(
+    alloc: Global,
+    rows: &UnitRows,
+    scope: Scope<'_>,
+) -> Result<(List<ShelfRow>, List<Event>, List<RecordEntry>), Fault>
+    ensures value { (p : Name) → AreInOrder rows.now → IfOk result (λ asked.
+        (asked.0 ≡ (rows_by p rows.now scope.entry).shelves)
+        × (asked.1 ≡ (rows_by p rows.now scope.entry).events)
+        × (asked.2 ≡ (rows_by p rows.now scope.entry).records)) }
+    ensures memory { OnlyMemory result }
+{
+    Ok((
+        rows_wanted(alloc, &rows.shelves, &wanted_shelves(scope))?,
+        events_asked(alloc, &rows.events, wanted_events(scope))?,
+        rows_wanted(alloc, &rows.records, &wanted_records(scope))?,
+    ))
+}
+
+/// The limits and cells of the matrices that the scope takes in.
+fn matrices_asked(
+    alloc: Global,
+    rows: &UnitRows,
+    scope: Scope<'_>,
+) -> Result<(List<BandRow>, List<CellRow>), Fault>
+    ensures value { (p : Name) → AreInOrder rows.now → IfOk result (λ asked.
+        (asked.0 ≡ (rows_by p rows.now scope.entry).bands)
+        × (asked.1 ≡ (rows_by p rows.now scope.entry).cells)) }
+    ensures memory { OnlyMemory result }
+{
+    let matrices = matrix_numbers(alloc, &rows.units, scope)?;
+    Ok((
+        rows_of_numbers(alloc, rows.bands.as_slice(), &matrices)?,
+        rows_of_numbers(alloc, rows.cells.as_slice(), &matrices)?,
+    ))
+}
+
 /// The rows that the scope takes in.
 fn rows_asked(
     alloc: Global,
@@ -117,17 +175,20 @@ fn rows_asked(
     ensures value { AreInOrder rows.now → Gives result (rows_by person.now rows.now scope.entry) }
     ensures memory { OnlyMemory result }
 {
-    let matrices = matrix_numbers(alloc, &rows.units, scope)?;
+    let (units, grants, alarms) = grants_and_alarms_asked(alloc, rows, person, scope)?;
+    let (shelves, events, records) = shelves_events_and_records_asked(alloc, rows, scope)?;
+    let (bands, cells) = matrices_asked(alloc, rows, scope)?;
+    let changes = changes_asked(alloc, rows, scope)?;
     Ok(UnitRows {
-        units: rows.units.copy(alloc)?,
-        grants: grants_asked(alloc, rows, person, scope)?,
-        alarms: alarms_asked(alloc, &rows.alarms, &rows.shelves, wanted_alarms(scope))?,
-        shelves: rows_wanted(alloc, &rows.shelves, &wanted_shelves(scope))?,
-        events: events_asked(alloc, &rows.events, wanted_events(scope))?,
-        bands: rows_of_numbers(alloc, rows.bands.as_slice(), &matrices)?,
-        cells: rows_of_numbers(alloc, rows.cells.as_slice(), &matrices)?,
-        records: rows_wanted(alloc, &rows.records, &wanted_records(scope))?,
-        changes: changes_asked(alloc, rows, scope)?,
+        units,
+        grants,
+        alarms,
+        shelves,
+        events,
+        bands,
+        cells,
+        records,
+        changes,
     })
 }
 

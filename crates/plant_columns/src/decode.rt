@@ -13,7 +13,7 @@ use plant_alarm::{Event, Number};
 use plant_model::{
     AlarmRow, BandRow, CellRow, ChangeEntry, GrantRow, RecordEntry, ShelfRow, UnitRow,
 };
-use plant_types::{Alphabet, List, Moment, Quota, Seconds, Text};
+use plant_types::{Alphabet, List, Moment, Person, Quota, Seconds, Tag, Text, Words};
 use sqlite::types::{Type, ValueRef};
 use sqlite::{Error, ErrorCode, Row};
 use std::alloc::Global;
@@ -303,6 +303,35 @@ impl Shown for RecordEntry {
     }
 }
 
+/// Who proposed a change, the alarm that it is of, and who decided it.
+fn names_of_change(alloc: Global, row: &Row) -> Result<(Person, Option<Tag>, Option<Person>), Error>
+    ensures { IfOk result (λ names. (column row.now 1 ≡ TextValue names.0)
+        × (column row.now 4 ≡ codes.open_text names.1)
+        × (column row.now 13 ≡ codes.open_text names.2)) }
+{
+    Ok((
+        text(alloc, row, 1)?,
+        open_text(alloc, row, 4)?,
+        open_text(alloc, row, 13)?,
+    ))
+}
+
+/// The cause, the consequence and the corrective action that a change states.
+fn words_of_change(
+    alloc: Global,
+    row: &Row,
+) -> Result<(Option<Words>, Option<Words>, Option<Words>), Error>
+    ensures { IfOk result (λ words. (column row.now 6 ≡ codes.open_text words.0)
+        × (column row.now 7 ≡ codes.open_text words.1)
+        × (column row.now 8 ≡ codes.open_text words.2)) }
+{
+    Ok((
+        open_text(alloc, row, 6)?,
+        open_text(alloc, row, 7)?,
+        open_text(alloc, row, 8)?,
+    ))
+}
+
 impl Shown for ChangeEntry {
     ghost width = { 15 };
 
@@ -310,22 +339,33 @@ impl Shown for ChangeEntry {
 
     fn from_row(alloc: Global, row: &Row) -> Result<ChangeEntry, Error> {
         // The texts come last: what is read before an error is given back then, and a number needs no care.
+        let base = number(row, 5)?;
+        let number = number(row, 0)?;
+        let proposed_s = moment(row, 2)?;
+        let kind_no = coded(row, 3)?;
+        let severity = open_small(row, 9)?;
+        let response_s = open_seconds(row, 10)?;
+        let max_s = open_seconds(row, 11)?;
+        let state_no = coded(row, 12)?;
+        let decided_s = open_moment(row, 14)?;
+        let (proposer, tag, decider) = names_of_change(alloc, row)?;
+        let (cause, consequence, remedy) = words_of_change(alloc, row)?;
         Ok(ChangeEntry {
-            number: number(row, 0)?,
-            proposed_s: moment(row, 2)?,
-            kind_no: coded(row, 3)?,
-            base: number(row, 5)?,
-            severity: open_small(row, 9)?,
-            response_s: open_seconds(row, 10)?,
-            max_s: open_seconds(row, 11)?,
-            state_no: coded(row, 12)?,
-            decided_s: open_moment(row, 14)?,
-            proposer: text(alloc, row, 1)?,
-            tag: open_text(alloc, row, 4)?,
-            cause: open_text(alloc, row, 6)?,
-            consequence: open_text(alloc, row, 7)?,
-            remedy: open_text(alloc, row, 8)?,
-            decider: open_text(alloc, row, 13)?,
+            number,
+            proposer,
+            proposed_s,
+            kind_no,
+            tag,
+            base,
+            cause,
+            consequence,
+            remedy,
+            severity,
+            response_s,
+            max_s,
+            state_no,
+            decider,
+            decided_s,
         })
     }
 }

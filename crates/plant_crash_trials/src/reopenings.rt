@@ -1,6 +1,6 @@
 //! An office over files that are closed and opened again.
 
-ghost use Rattle.plant_store.specs.Reading.{HasNoTransaction};
+ghost use Rattle.plant_statements.specs.Reading.{HasNoTransaction};
 
 use plant_examples::{BASE, Exchanges, LOOKED_AT, SHELVED};
 use plant_office::Books;

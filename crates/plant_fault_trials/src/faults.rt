@@ -112,7 +112,7 @@ fn serves_through_faults<B: Books + Drop>(
     (ours, theirs)
 }
 
-/// Ours have rows at hand, and the books below them hold the same in the end.
+/// The same over books with rows at hand. In the end the books below them must hold the same rows too.
 fn serves_at_hand<B: Books + Drop>(
     rt: &(impl Abort + AllocGlobal + Eprint),
     below: B,
@@ -123,8 +123,8 @@ fn serves_at_hand<B: Books + Drop>(
     hold_the_same(rt, &mut below, &mut theirs, &wanted.units, "below");
 }
 
-/// Makes the calls in one run, which takes our books and gives them back with the answers. If there is no memory for the
-/// answers, our books must be unchanged; the run is then made again.
+/// Makes the calls in one run over our books. If there is no memory for the answers, the books must be unchanged, and
+/// the run is made again.
 fn our_run<B: Books + Drop>(
     rt: &(impl Abort + AllocGlobal + Eprint),
     ours: B,

@@ -14,13 +14,13 @@ use sqlite::MemStore;
 use std::alloc::Global;
 use std::process::Abort;
 
-/// Books that can be told how many steps a statement may take. The tests speak of them by this trait: each function that
-/// names the tables themselves costs the prover a minute.
+/// Books that limit how many steps a statement may take. Tests over this trait are proved sooner than tests over the
+/// tables themselves.
 trait Interruptible: Books + Drop + Sized {
     /// New books, without a limit.
     fn made(alloc: Global) -> Result<Self, Failure>;
 
-    /// Each statement may take so many steps from now on, or as many as it needs.
+    /// Limits each later statement to this many steps, or lifts the limit.
     fn limit(&mut self, steps: Option<u64>);
 }
 

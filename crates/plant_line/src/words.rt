@@ -194,67 +194,77 @@ fn number_arg<'a>(
         .action(ArgAction::Set)
 }
 
-fn store_args<'a>(alloc: Global, command: Command<'a>) -> Result<Command<'a>, AllocError> {
-    let admin = Arg::new(alloc, "admin")
-        .long("admin")
-        .value_name("NAME")
-        .help("The administrator, who alone opens units")
-        .required(true)
-        .action(ArgAction::Set);
-    let db = Arg::new(alloc, "db")
-        .long("db")
-        .value_name("FILE")
-        .help("Keeps the tables in FILE, created if missing [default: in memory]")
-        .action(ArgAction::Set);
-    let migrate = Arg::new(alloc, "migrate")
-        .long("migrate")
-        .value_name("OLD")
-        .help("Copies OLD, a file of the schema before, to the new FILE and ends")
-        .action(ArgAction::Set);
-    command.arg(admin)?.arg(db)?.arg(migrate)
+fn file_arg<'a>(alloc: Global, name: &'a str, value_name: &'a str, help: &'a str) -> Arg<'a> {
+    Arg::new(alloc, name)
+        .long(name)
+        .value_name(value_name)
+        .help(help)
+        .action(ArgAction::Set)
 }
 
-fn service_args<'a>(alloc: Global, command: Command<'a>) -> Result<Command<'a>, AllocError> {
-    let port = number_arg(
-        alloc,
-        "port",
-        "N",
-        65_535,
-        "Serves connections to port N of 127.0.0.1",
-    );
-    let connections = number_arg(
-        alloc,
-        "connections",
-        "N",
-        1_000,
-        "Ends after N connections [default: 1]",
-    );
-    let clients = number_arg(
-        alloc,
-        "clients",
-        "N",
-        1_000,
-        "Serves N connections at once [default: 1; 256 with --forever]",
-    );
-    let forever = Arg::new(alloc, "forever")
+/// Each option is added as it is made: one that waited beside the others would be dropped at each failure between.
+fn store_args<'a>(alloc: Global, command: Command<'a>) -> Result<Command<'a>, AllocError> {
+    command
+        .arg(file_arg(
+            alloc,
+            "admin",
+            "NAME",
+            "The administrator, who alone opens units",
+        )
+        .required(true))?
+        .arg(file_arg(
+            alloc,
+            "db",
+            "FILE",
+            "Keeps the tables in FILE, created if missing [default: in memory]",
+        ))?
+        .arg(file_arg(
+            alloc,
+            "migrate",
+            "OLD",
+            "Copies OLD, a file of the schema before, to the new FILE and ends",
+        ))
+}
+
+fn forever_arg<'a>(alloc: Global) -> Result<Arg<'a>, AllocError> {
+    Arg::new(alloc, "forever")
         .long("forever")
         .help("Serves connections until the program is stopped or its store fails")
         .action(ArgAction::SetTrue)
         .requires_arg("port")?
-        .conflicts_with("connections")?;
-    let idle = number_arg(
+        .conflicts_with("connections")
+}
+
+fn service_args<'a>(alloc: Global, command: Command<'a>) -> Result<Command<'a>, AllocError> {
+    let command = command
+        .arg(number_arg(
+            alloc,
+            "port",
+            "N",
+            65_535,
+            "Serves connections to port N of 127.0.0.1",
+        ))?
+        .arg(number_arg(
+            alloc,
+            "connections",
+            "N",
+            1_000,
+            "Ends after N connections [default: 1]",
+        ))?
+        .arg(number_arg(
+            alloc,
+            "clients",
+            "N",
+            1_000,
+            "Serves N connections at once [default: 1; 256 with --forever]",
+        ))?;
+    command.arg(forever_arg(alloc)?)?.arg(number_arg(
         alloc,
         "idle",
         "SECONDS",
         3_600,
         "Gives up a silent connection [default: never; 30 with --forever]",
-    );
-    command
-        .arg(port)?
-        .arg(connections)?
-        .arg(clients)?
-        .arg(forever)?
-        .arg(idle)
+    ))
 }
 
 /// The program's version.

@@ -1,4 +1,4 @@
-ghost use Rattle.std.specs.{Map.{lookup, lookup_entry}, Prelude.{◌≡◌, ◌≤◌, ◌+◌, [], flat_map, IfOk, IfSome, option_copied, unwrap_or}};
+ghost use Rattle.std.specs.{Map.{lookup, lookup_entry}, Prelude.{◌≡◌, ◌≤◌, ◌+◌, [], flat_map, IfOk, IfSome, IsTrue, option_copied, unwrap_or}};
 ghost use Rattle.plant_books.specs.Contents.{shelves_there};
 ghost use Rattle.plant_mirror.specs.Copies.{AreCopies, There, DiffersAt, StayCopies, StayCopiesWith};
 ghost use Rattle.plant_model.specs.steps.RowChanges.{no_rows};
@@ -154,6 +154,19 @@ impl Copies {
         }
     }
 
+    /// Makes room for so many rows, unless they are more than may be at hand. Whether there is room then.
+    fn has_room_for(&mut self, more: u128) -> bool
+        ensures kept { StayCopies self.old.units.entries self.new.units.entries }
+        ensures limit { self.new.limit ≡ self.old.limit }
+        ensures room { IsTrue result → self.new.rows + more ≤ self.new.limit }
+    {
+        if more > self.limit {
+            return false;
+        }
+        self.make_room(more);
+        more <= self.limit - self.rows
+    }
+
     /// Keeps a copy of a unit's rows, in the place of those that were longest not used. Nothing is kept of a unit that
     /// has more rows than may be at hand, nor if memory runs out.
     pub fn keep(&mut self, unit: UnitCode, copy: AtHand)
@@ -161,11 +174,7 @@ impl Copies {
         ensures limit { self.new.limit ≡ self.old.limit }
     {
         let more = copy.row_count();
-        if more > self.limit {
-            return;
-        }
-        self.make_room(more);
-        if more <= self.limit - self.rows {
+        if self.has_room_for(more) {
             self.put(unit, copy, more);
         }
     }
@@ -179,8 +188,11 @@ impl Copies {
         ensures limit { self.new.limit ≡ self.old.limit }
     {
         match self.units.put(unit, copy) {
-            Ok(_) => self.rows += more,
-            Err(_) => {}
+            Ok(old) => {
+                drop(old);
+                self.rows += more;
+            }
+            Err(failed) => drop(failed),
         }
     }
 }

@@ -2,7 +2,7 @@ ghost use Rattle.std.specs.{List.{list_any}, Prelude.{◌≡◌, ◌≤◌, [], 
 ghost use Rattle.plant_books.specs.Crashes.{LosesNoPart};
 ghost use Rattle.plant_books.specs.{Books.{CountsBy, KeepsOnErr, Makes, WasHonest}, Contents.{Content, codes_held, part_in}};
 ghost use Rattle.plant_mirror.specs.{Copies.{IsMirrored, rows_of_all, seen}, Leaves.{Leaves, AnswersOf, Mirrors}};
-ghost use Rattle.plant_model.specs.Worlds.{unit_named};
+ghost use Rattle.plant_model.specs.{steps.Order.{AreInOrder}, Worlds.{unit_named}};
 ghost use Rattle.plant_types.specs.{Names.{same_name}, Results.{OnlyMemory}};
 ghost use Rattle.std.specs.FinMap as fin;
 
@@ -44,6 +44,20 @@ fn made(said: Result<UnitPart, Fault>) -> Result<Option<UnitPart>, Fault>
         Ok(part) => Ok(Some(part)),
         Err(Fault::Memory) => Err(Fault::Memory),
         Err(Fault::Store) => Ok(None),
+    }
+}
+
+/// The unit's code again, if its rows stand in the order of their keys and there is memory.
+fn code_in_order(alloc: Global, unit: &UnitCode, rows: &UnitRows) -> Option<UnitCode>
+    ensures code { IfSome result (λ code. code ≡ unit.now) }
+    ensures order { IfSome result (λ code. AreInOrder rows.now) }
+{
+    if !are_in_order(rows) {
+        return None;
+    }
+    match unit.copy(alloc) {
+        Ok(code) => Some(code),
+        Err(_) => None,
     }
 }
 
@@ -101,10 +115,7 @@ impl<B: Books> Mirror<B> {
             → Mirrors B.Books self.new m }
         ensures below { self.new.books ≡ self.old.books }
     {
-        if !are_in_order(&copy.rows) {
-            return;
-        }
-        if let Ok(unit) = unit.copy(self.alloc) {
+        if let Some(unit) = code_in_order(self.alloc, unit, &copy.rows) {
             self.copies.keep(unit, copy);
         }
     }

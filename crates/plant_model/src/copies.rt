@@ -1,5 +1,6 @@
-ghost use Rattle.std.specs.Prelude.{◌≡◌};
+ghost use Rattle.std.specs.Prelude.{◌≡◌, IfOk};
 ghost use Rattle.plant_model.specs.steps.RowChanges.{no_rows};
+ghost use Rattle.plant_types.specs.Results.{OnlyMemory};
 
 use crate::{
     AlarmRow, BandRow, CellRow, ChangeEntry, GrantRow, Key, RecordEntry, Row, RowEdit, ShelfRow,
@@ -27,18 +28,40 @@ impl UnitRows {
     }
 }
 
+/// The same three values again.
+fn copy_three<A: TryCopy, B: TryCopy, C: TryCopy>(
+    alloc: Global,
+    first: &A,
+    second: &B,
+    third: &C,
+) -> Result<(A, B, C), Fault>
+    ensures value { IfOk result (λ same. (same.0 ≡ first.now)
+        × (same.1 ≡ second.now) × (same.2 ≡ third.now)) }
+    ensures memory { OnlyMemory result }
+{
+    Ok((first.copy(alloc)?, second.copy(alloc)?, third.copy(alloc)?))
+}
+
 impl TryCopy for UnitRows {
     fn copy(&self, alloc: Global) -> Result<UnitRows, Fault> {
+        let (units, grants, alarms) = copy_three(alloc, &self.units, &self.grants, &self.alarms)?;
+        let (shelves, events, bands) = copy_three(alloc, &self.shelves, &self.events, &self.bands)?;
+        let (cells, records, changes) = copy_three(
+            alloc,
+            &self.cells,
+            &self.records,
+            &self.changes,
+        )?;
         Ok(UnitRows {
-            units: self.units.copy(alloc)?,
-            grants: self.grants.copy(alloc)?,
-            alarms: self.alarms.copy(alloc)?,
-            shelves: self.shelves.copy(alloc)?,
-            events: self.events.copy(alloc)?,
-            bands: self.bands.copy(alloc)?,
-            cells: self.cells.copy(alloc)?,
-            records: self.records.copy(alloc)?,
-            changes: self.changes.copy(alloc)?,
+            units,
+            grants,
+            alarms,
+            shelves,
+            events,
+            bands,
+            cells,
+            records,
+            changes,
         })
     }
 }
@@ -115,21 +138,28 @@ impl TryCopy for RecordEntry {
 
 impl TryCopy for ChangeEntry {
     fn copy(&self, alloc: Global) -> Result<ChangeEntry, Fault> {
+        let (proposer, tag, decider) = copy_three(alloc, &self.proposer, &self.tag, &self.decider)?;
+        let (cause, consequence, remedy) = copy_three(
+            alloc,
+            &self.cause,
+            &self.consequence,
+            &self.remedy,
+        )?;
         Ok(ChangeEntry {
             number: self.number,
-            proposer: self.proposer.copy(alloc)?,
+            proposer,
             proposed_s: self.proposed_s,
             kind_no: self.kind_no,
-            tag: self.tag.copy(alloc)?,
+            tag,
             base: self.base,
-            cause: self.cause.copy(alloc)?,
-            consequence: self.consequence.copy(alloc)?,
-            remedy: self.remedy.copy(alloc)?,
+            cause,
+            consequence,
+            remedy,
             severity: self.severity,
             response_s: self.response_s,
             max_s: self.max_s,
             state_no: self.state_no,
-            decider: self.decider.copy(alloc)?,
+            decider,
             decided_s: self.decided_s,
         })
     }

@@ -22,7 +22,7 @@ use Rattle.plant_books.specs.{Counting.{Counts, CountsFault}, declared.books.{Bo
 use Rattle.plant_types.{specs.{Names.{Name, same_name}, Options.{when}, declared.fault.Fault.{Fault}}, proofs.public.Halves.{left}}
 use Rattle.plant_types.proofs.public.Orders.{name_total}
 use Rattle.plant_alarm.specs.Shelves.{shelf_state}
-use Rattle.plant_office.specs.{Answers.{CountsAnswer, IfSaid, OnFault, answer_as}, Lines.{line_of_mine, line_of_shelf}, Runs.{IsAlike}}
+use Rattle.plant_office.specs.{Answers.{CountsAnswer, IfSaid, OnFault, answer_as, reply_or_fault}, Lines.{line_of_mine, line_of_shelf}, Runs.{IsAlike}}
 use Rattle.plant_office.specs.{Enduring.{HoldsWorld, Endures, IsUnmade, books_state}, Outcomes.{confirms}, Served.{Holds, IsIsolated, IsOwnUnit, IsServed}, Serves.{Serves}}
 use Rattle.plant_office.proofs.public.Enduring.{holds_alike}
 use Rattle.plant_books.specs.Crashes.{LosesNoPart, LosesNothing}
@@ -556,6 +556,12 @@ serves_fault {B} {books} {c} {before} {after} {n} (Err f) e is honest same read 
       count = subst (λ k. CountsFault k (books.stores after) f) read (subst (CountsFault n (books.stores after)) (sym is) count);
       endures = endures_failed books c u cs before mid after makes f same;
     }
+
+-- what holds of a reply if its changes were made, and else of the fault
+pub by_outcome : {A : Type 0} (made : Result A Fault) (reply : Reply) (S : Result Said Fault → Type 0) (P : Result A Fault → Type 0) → P made
+    → ((a : A) → P (Ok a) → S (Ok (Ok reply))) → ((e : Fault) → P (Err e) → S (Err e)) → S (reply_or_fault made reply)
+by_outcome (Ok a) reply S P is ok err = ok a is
+by_outcome (Err e) reply S P is ok err = err e is
 
 -- what a call said, as an answer
 pub said_if : (r : Result Said Fault) (P : Said → Type 0) → IfOk r P → IfSaid (answer_as r) P

@@ -11,6 +11,11 @@ answer_as (Ok (Ok r)) = Replied r
 answer_as (Ok (Err r)) = WasRefused r
 answer_as (Err f) = Faulted f
 
+-- the reply, if what it stands for was made, else the fault
+abbrev pub reply_or_fault : {A : Type 0} → Result A Fault → Reply → Result (Result Reply Refused) Fault
+reply_or_fault (Ok made) reply = Ok (Ok reply)
+reply_or_fault (Err fault) reply = Err fault
+
 -- a fact of the reply or the refusal
 abbrev pub IfSaid : Answer → (Result Reply Refused → Type 0) → Type 0
 IfSaid (Replied r) P = P (Ok r)

@@ -5,7 +5,7 @@ ghost use Rattle.plant_model.specs.{Legality.{has_matrix, is_matrix_kind}, Verdi
 ghost use Rattle.plant_model.specs.steps.RowChanges.{changed, changed_by};
 ghost use Rattle.plant_model.specs.{Views.{view}, Worlds.{World, IsLegalWorld, unit_named}, declared.call.Request.TheVariants.{MyShelves, MyUnits}};
 ghost use Rattle.plant_model.specs.declared.rows.UnitRows.{UnitRows};
-ghost use Rattle.plant_office.specs.{Answers.{CountsAnswer, IfSaid, OnFault, answer_as}, Lines.{line_of_mine, line_of_shelf}};
+ghost use Rattle.plant_office.specs.{Answers.{CountsAnswer, IfSaid, OnFault, answer_as, reply_or_fault}, Lines.{line_of_mine, line_of_shelf}};
 ghost use Rattle.plant_office.specs.Enduring.{EnduresAll, EnduresSettled, books_state};
 ghost use Rattle.plant_office.specs.{Runs.{AllChangeNothing, EachKeepsUnchanged, IsRun, stores_in}, Served.{Holds, IsIsolated, IsServed}, Serves.{Serves}};
 
@@ -212,13 +212,7 @@ impl<B: Books> Office<B> {
                     return Ok(Ok(reply));
                 }
                 leave_out_same(&part, &mut changes);
-                match self.books.apply(unit, &changes, rows_in(&part)) {
-                    Ok(()) => Ok(Ok(reply)),
-                    Err(fault) => {
-                        drop(reply);
-                        Err(fault)
-                    }
-                }
+                reply_if_made(self.books.apply(unit, &changes, rows_in(&part)), reply)
             }
         }
     }
@@ -237,13 +231,7 @@ impl<B: Books> Office<B> {
         match judge_open(self.alloc, self.books.administrator(), taken, call)? {
             Verdict::Refused(refused) => Ok(Err(refused)),
             Verdict::Accepted(reply, changes) => {
-                match self.books.apply(unit, &changes, None) {
-                    Ok(()) => Ok(Ok(reply)),
-                    Err(fault) => {
-                        drop(reply);
-                        Err(fault)
-                    }
-                }
+                reply_if_made(self.books.apply(unit, &changes, None), reply)
             }
         }
     }
@@ -337,6 +325,19 @@ fn push_answer(answers: &mut Vec<Answer>, answer: Answer)
     ensures room { vec_capacity answers.old ≤ vec_capacity answers.new }
 {
     answers.push(answer).unwrap();
+}
+
+/// The reply, if the changes were made, else the fault.
+fn reply_if_made(made: Result<(), Fault>, reply: Reply) -> Result<Result<Reply, Refused>, Fault>
+    ensures { result ≡ reply_or_fault made reply }
+{
+    match made {
+        Ok(()) => Ok(Ok(reply)),
+        Err(fault) => {
+            drop(reply);
+            Err(fault)
+        }
+    }
 }
 
 /// What was said, or the fault, as an answer.

@@ -5,7 +5,7 @@ use Rattle.sqlite.proofs.Callers.{finds_again}
 use Rattle.sqlite_disk.specs.declared.Files.{Files}
 use Rattle.sqlite_store.specs.declared.store.FileStore.{FileStore}
 use Rattle.plant_books.specs.Contents.{Content}
-use Rattle.plant_store.{specs.{Changes.{IsHonest}, Keeping.{Represents, HasContent}}, proofs.public.Contents.{keeps_same}}
+use Rattle.plant_statements.{specs.{Changes.{IsHonest}, Keeping.{Represents, HasContent}}, proofs.public.Contents.{keeps_same}}
 use Rattle.plant_store.proofs.public.Databases.{same_database}
 use Rattle.sqlite_disk.specs.declared.Disk as disk
 

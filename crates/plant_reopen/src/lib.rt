@@ -4,7 +4,7 @@
 ghost use Rattle.std.specs.Prelude.{◌≡◌, IfSome};
 ghost use Rattle.sqlite.specs.Files.{file_state};
 ghost use Rattle.plant_books.specs.Contents.{Content};
-ghost use Rattle.plant_store.specs.{Keeping.{Represents}, Reading.{HasNoTransaction}};
+ghost use Rattle.plant_statements.specs.{Keeping.{Represents}, Reading.{HasNoTransaction}};
 
 use plant_store::Tables;
 use plant_types::Person;

@@ -4,7 +4,8 @@ use Rattle.sqlite.specs.{Effect.{Database}, Start.{FindsIn}, State.{HasCleanDisk
 use Rattle.sqlite_wal.specs.Recovery.{Image}
 use Rattle.plant_books.specs.Contents.{Content}
 use Rattle.plant_server.specs.Files.{HoldBooks, HoldDatabase}
-use Rattle.plant_store.{specs.{Changes.{IsHonest}, Keeping.{HaveRows, Represents}}, proofs.public.Databases.{same_database}}
+use Rattle.plant_statements.specs.{Changes.{IsHonest}, Keeping.{HaveRows, Represents}}
+use Rattle.plant_store.proofs.public.Databases.{same_database}
 
 module _ (files : Image) (s : State) (opened : HasCleanDisk s → Opens s × IsLive s) (found : HasCleanDisk s → FindsIn files s) where
   pub same_now : IsHonest s → (db : Database) → HoldDatabase files db → s.now ≡ db

@@ -9,7 +9,8 @@ ghost use Rattle.sqlite_wal.specs.Files.{image_at};
 ghost use Rattle.sqlite_wal.specs.Reads.{AreClean};
 ghost use Rattle.plant_books.specs.Contents.{Content, no_units};
 ghost use Rattle.plant_server.specs.{Crashes.{HoldWholeBooks, LeavesOnly}, Files.{HoldBooks, HoldDatabase}};
-ghost use Rattle.plant_store.specs.{Changes.{IsHonest}, Keeping.{Represents}, Opening.{IsThisOffice}, Reading.{HasNoTransaction}};
+ghost use Rattle.plant_statements.specs.{Changes.{IsHonest}, Keeping.{Represents}, Reading.{HasNoTransaction}};
+ghost use Rattle.plant_store.specs.Opening.{IsThisOffice};
 ghost use Rattle.plant_server.specs.Files as files;
 
 use crate::openings::open_at;

@@ -1,7 +1,7 @@
 //! Stores of schema 1 that are migrated: the office over the new store, and the program's command over files.
 
 ghost use Rattle.std.specs.Prelude.{false};
-ghost use Rattle.plant_store.specs.Reading.{HasNoTransaction};
+ghost use Rattle.plant_statements.specs.Reading.{HasNoTransaction};
 
 use crate::commands::{Written, is_text, said, said_to};
 use plant_examples::{Exchanges, LOOKED_AT, push_all};

@@ -16,9 +16,10 @@ use Rattle.plant_columns.proofs.public.Shapes.{finds_rows}
 use Rattle.plant_model.specs.{Grants.{is_before}, declared.rows.{GrantRow.{GrantRow}, UnitRows.{UnitRows}}}
 use Rattle.plant_model.specs.steps.RowChanges.{no_rows}
 use Rattle.plant_model.proofs.public.RowsFound.{less}
-use Rattle.plant_store.specs.{Keeping.{HasContent}, Mine.{AreCodes, holding_cells}, Texts.{holdings_text}, declared.mine.Holding.{Holding}}
-use Rattle.plant_store.proofs.{Meanings.{by_holder, by_key, holdings}, Queries.{is_named, named_same, one_test}, Reading.{told}}
-use Rattle.plant_store.proofs.public.Contents.{same_codes}
+use Rattle.plant_statements.specs.{Keeping.{HasContent}, declared.texts.TheConstants.{HOLDINGS}}
+use Rattle.plant_store.specs.{Mine.{AreCodes, holding_cells}, declared.mine.Holding.{Holding}}
+use Rattle.plant_statements.proofs.public.{Meanings.{by_holder, by_key, holdings}, Queries.{is_named, named_same, one_test}, Reading.{told}}
+use Rattle.plant_statements.proofs.public.Contents.{same_codes}
 use Rattle.plant_types.{specs.{Names.{Name, name_cmp, same_name}, Options.{when}}, proofs.public.{Halves.{first, second}, Orders.{name_total, same_names}}}
 
 -- ---- what the query shows
@@ -33,7 +34,7 @@ holding_in r = record { unit = bytes (column r 1); end_s = open_number_in (colum
 holding_back : Row → Holding
 holding_back r = record { unit = bytes (column r 0); end_s = open_number_in (column r 1) }
 
-pub holdings_read : (p : Name) (old new : State) → AreBooks old.now → (rows : List Row) → Shown holdings_text (Text p ∷ []) old new rows
+pub holdings_read : (p : Name) (old new : State) → AreBooks old.now → (rows : List Row) → Shown HOLDINGS.now (Text p ∷ []) old new rows
     → (read : List Holding) → map (columns 2) rows ≡ map holding_cells read
     → read ≡ map holding_in (kept by_grant (is_named p) (old.now.trees 3))
 unfolding holding_back
@@ -41,7 +42,7 @@ holdings_read p old new books rows shown read said =
     told holding_cells holding_back (λ h i. record { unit = h.unit; end_s = open_number_back h.end_s i }) _ read said
     ∙ map-map holding_back (columns 2) rows
     ∙ ap (map (λ r. holding_back (columns 2 r)))
-    (finds_rows grant_shape (good Grants) books_schema holdings_text by_holder _ (by_key grant_shape) _ holdings.is holdings.unlisted holdings.plain
+    (finds_rows grant_shape (good Grants) books_schema HOLDINGS.now by_holder _ (by_key grant_shape) _ holdings.is holdings.unlisted holdings.plain
     (Text p ∷ []) refl (is_named p) (λ r. one_test (column r 2) p) old new books.same_schema (books.tidy Grants).apart rows shown)
     ∙ map-map (λ r. holding_back (columns 2 r)) (λ r. column r 1 ∷ column r 4 ∷ []) _
 

@@ -10,8 +10,10 @@ use Rattle.plant_columns.specs.{Tables.{grant_shape, shelf_shape}, declared.tabl
 use Rattle.plant_columns.proofs.public.{Bridge.{AreRising}, ShapeLaws.{good}, Shapes.{rising as rows_rise}}
 use Rattle.plant_model.specs.declared.rows.{GrantRow.{GrantRow}, ShelfRow.{ShelfRow}}
 use Rattle.plant_model.specs.steps.RowFacts.{pair_of, shelf_tag}
-use Rattle.plant_store.specs.{Keeping.{HasContent}, Mine.{line_cmp, shelf_line, own_shelf_lines}, declared.shelves.ShelfLine.{ShelfLine}}
-use Rattle.plant_store.proofs.{Holdings.{rising}, Joins.{passing, rising-flat_map}, public.Contents.{same_codes}}
+use Rattle.plant_statements.specs.Keeping.{HasContent}
+use Rattle.plant_store.specs.{Mine.{line_cmp, shelf_line, own_shelf_lines}, declared.shelves.ShelfLine.{ShelfLine}}
+use Rattle.plant_store.proofs.{Holdings.{rising}, Joins.{passing, rising-flat_map}}
+use Rattle.plant_statements.proofs.public.Contents.{same_codes}
 use Rattle.plant_types.{specs.{Names.{Name, name_cmp, same_name}, Roles.{pair_cmp, role_no}}, proofs.public.Orders.{name_total}}
 
 pub line_cmp_total : IsTotalOrder line_cmp

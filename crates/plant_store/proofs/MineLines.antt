@@ -11,9 +11,11 @@ use Rattle.plant_columns.specs.{Tables.{grant_shape, own_key, unit_shape}, decla
 use Rattle.plant_columns.proofs.public.{Bridge.{AreRising}, ShapeLaws.{good}, Shapes.{rising as rows_rise}}
 use Rattle.plant_model.specs.{Grants.{is_before}, declared.rows.{GrantRow.{GrantRow}, ShelfRow.{ShelfRow}, UnitRow.{UnitRow}, UnitRows.{UnitRows}}}
 use Rattle.plant_model.specs.steps.{RowChanges.{no_rows}, RowFacts.{no_unit, pair_of}}
-use Rattle.plant_store.specs.{Keeping.{HasContent, has_any}, declared.{mine.UnitLine.{UnitLine}, shelves.ShelfLine.{ShelfLine}}}
+use Rattle.plant_statements.specs.Keeping.{HasContent, has_any}
+use Rattle.plant_store.specs.declared.{mine.UnitLine.{UnitLine}, shelves.ShelfLine.{ShelfLine}}
 use Rattle.plant_store.specs.Mine.{as_mine, lines_of, put_run, repeats, runs_of, shelf_line, own_shelf_lines, standing_shelves, standing_units, started, unit_line, own_unit_lines}
-use Rattle.plant_store.proofs.{Holdings.{own_roles, rising}, LineOrder.{own_rise}, public.Contents.{same_codes}}
+use Rattle.plant_store.proofs.{Holdings.{own_roles, rising}, LineOrder.{own_rise}}
+use Rattle.plant_statements.proofs.public.Contents.{same_codes}
 use Rattle.plant_types.specs.{Names.{Name, name_cmp, same_name}, Options.{when}, Roles.{pair_cmp, role_no, same_role}, declared.role.Role.{Role}}
 
 itself : (a : Name) → same_name a a ≡ true

@@ -2,22 +2,13 @@
 //! code. Each statement is a fixed text, and one unit's calls look at that unit's rows alone.
 #![tactic(auto)]
 
-mod laws;
-mod make;
 mod migration;
 mod mine;
-mod old_rows;
 mod opening;
-mod part;
-mod read;
-mod scope_rows;
 mod shelves;
-mod stored;
 mod tables;
-mod unit;
-mod write;
+mod texts;
 
-pub use laws::old_histories;
 pub use migration::{MigrateRefused, migrate};
 pub use opening::note_settled;
 pub use tables::{StoreFault, Tables, Unopened};

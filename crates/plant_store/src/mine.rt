@@ -1,18 +1,21 @@
 //! The units in which a person holds roles.
 
-ghost use Rattle.std.specs.Prelude.{◌≡◌, ◌++◌, ◌∷◌, [], IfOk, OnOk};
+ghost use Rattle.std.specs.Prelude.{◌≡◌, ◌∷◌, [], IfOk};
 ghost use Rattle.plant_books.specs.Contents.{codes_held, mine_units as units_held};
 ghost use Rattle.plant_store.specs.Mine.{AreCodes, JoinsLine, holding_cells, runs_of, standing_units, started};
 ghost use Rattle.plant_store.specs.Mine.{unit_line_cells, own_unit_lines};
-ghost use Rattle.plant_store.specs.Reading.{HasNoTransaction, IsOnlyRead, ReadsContent};
+ghost use Rattle.plant_statements.specs.Reading.{HasNoTransaction, IsOnlyRead, ReadsContent};
 
-use crate::read::read_rows;
+use crate::texts;
 use plant_books::MineUnit;
 use plant_columns::decode::{Shown, coded, moment, open_moment, text};
 use plant_columns::encode::single;
 use plant_model::is_before;
-use plant_types::{List, Moment, Person, Role, TryCopy, UnitCode};
-use sqlite::{Alter, Connection, Error, ErrorCode, Row};
+use plant_statements::memory::{copy_of, push};
+use plant_statements::read::read_rows;
+use plant_statements::texts::HOLDINGS;
+use plant_types::{List, Moment, Person, Role, UnitCode};
+use sqlite::{Alter, Connection, Error, Row};
 use std::alloc::Global;
 use std::collections::BTreeSet;
 
@@ -36,24 +39,6 @@ impl Shown for Holding {
     }
 }
 
-/// Puts a value at the end.
-pub fn push<T: Drop>(table: &mut List<T>, row: T) -> Result<(), Error>
-    ensures { OnOk result (table.new ≡ table.old ++ row ∷ []) }
-{
-    table
-        .push(row)
-        .map_err(|_| Error::SqliteFailure(ErrorCode::OutOfMemory))
-}
-
-/// The same value again.
-pub fn copy_of<T: TryCopy>(alloc: Global, value: &T) -> Result<T, Error>
-    ensures { IfOk result (λ copy. copy ≡ value.now) }
-{
-    value
-        .copy(alloc)
-        .map_err(|_| Error::SqliteFailure(ErrorCode::OutOfMemory))
-}
-
 /// The units of the grants that have not ended, each once, rising.
 fn standing_codes(
     alloc: Global,
@@ -72,7 +57,7 @@ fn standing_codes(
 }
 
 /// The codes of the units in which the person holds a role at the moment.
-#[tactic(auto, using(crate::proofs::Meanings::holdings, crate::proofs::ReadsOnly::reads_plain))]
+#[tactic(auto, using(plant_statements::proofs::public::Meanings::holdings, plant_statements::proofs::public::ReadsOnly::reads_plain))]
 pub fn held<S: Alter>(
     alloc: Global,
     conn: &mut Connection<S>,
@@ -85,12 +70,7 @@ pub fn held<S: Alter>(
         (λ m. codes_held m now person.now) }
     ensures reads { IsOnlyRead S.Store conn.old conn.new }
 {
-    let holdings = read_rows(
-        alloc,
-        conn,
-        "SELECT unit, end_s FROM grants WHERE person = ?1 ORDER BY unit, person, role_no",
-        &single(person),
-    )?;
+    let holdings = read_rows(alloc, conn, HOLDINGS, &single(person))?;
     standing_codes(alloc, holdings, now)
 }
 
@@ -119,7 +99,7 @@ impl Shown for UnitLine {
 }
 
 /// The person's grants in all units, each beside its unit's last moment.
-#[tactic(auto, using(crate::proofs::Meanings::unit_lines, crate::proofs::ReadsOnly::reads_plain))]
+#[tactic(auto, using(crate::proofs::JoinMeanings::unit_lines, plant_statements::proofs::public::ReadsOnly::reads_plain))]
 fn unit_lines<S: Alter>(
     alloc: Global,
     conn: &mut Connection<S>,
@@ -131,12 +111,7 @@ fn unit_lines<S: Alter>(
         (λ m. own_unit_lines m person.now) }
     ensures reads { IsOnlyRead S.Store conn.old conn.new }
 {
-    read_rows(
-        alloc,
-        conn,
-        "SELECT grants.unit, grants.role_no, grants.end_s, units.last_s FROM grants INNER JOIN units ON units.unit = grants.unit WHERE grants.person = ?1 ORDER BY grants.unit, grants.person, grants.role_no, units.unit",
-        &single(person),
-    )
+    read_rows(alloc, conn, texts::UNIT_LINES, &single(person))
 }
 
 /// A list of one role.

@@ -3,13 +3,15 @@
 ghost use Rattle.std.specs.Prelude.{◌≡◌, ◌↔◌, [], ◌∷◌, false, map, true, IsTrue, IfOk, Ok};
 ghost use Rattle.sqlite.specs.{Held.{state}, Tree.{Trees}};
 ghost use Rattle.sqlite_value.specs.{Order.{column}, declared.value.Value.TheVariants.{Text as TextValue}};
-ghost use Rattle.plant_store.specs.{Changes.{IsHonest}, Opened.{FindsOffice, HasNoOffice}, Opening.{IsOffice, office_cells}};
-ghost use Rattle.plant_store.specs.Reading.{HasNoTransaction, IsOnlyRead};
+ghost use Rattle.plant_statements.specs.Changes.{IsHonest};
+ghost use Rattle.plant_store.specs.{Opened.{FindsOffice, HasNoOffice}, Opening.{IsOffice, office_cells}};
+ghost use Rattle.plant_statements.specs.Reading.{HasNoTransaction, IsOnlyRead};
 ghost use Rattle.plant_columns.specs.Shown.{columns};
 ghost use Rattle.plant_columns.specs.Codes as codings;
 ghost use Rattle.plant_store.specs.Opening as opening;
 
-use crate::read::ask;
+use plant_statements::read::ask;
+use plant_statements::texts;
 use plant_types::Person;
 use sqlite::types::ValueRef;
 use sqlite::{Alter, Connection, Error, Row};
@@ -71,7 +73,7 @@ fn is_office_row(rows: &[Row], schema: u32, admin: &Person) -> bool
 
 /// Whether the office's table, where it is there with its columns, has one row, with this schema's number and this
 /// person's name.
-#[tactic(auto, using(crate::proofs::Meanings::office_row_plain, crate::proofs::ReadsOnly::reads_plain))]
+#[tactic(auto, using(plant_statements::proofs::public::Meanings::office_row_plain, plant_statements::proofs::public::ReadsOnly::reads_plain))]
 fn has_its_row<S: Alter>(
     conn: &mut Connection<S>,
     schema: u32,
@@ -84,7 +86,7 @@ fn has_its_row<S: Alter>(
         → IfOk result (λ is. IsTrue is ↔ IsOffice schema admin.now (state S.Store conn.old).now) }
     ensures reads { IsOnlyRead S.Store conn.old conn.new }
 {
-    let rows = ask(conn, "SELECT id, schema_no, admin FROM office", &[])?;
+    let rows = ask(conn, texts::OFFICE_ROW, &[])?;
     Ok(is_office_row(rows.as_slice(), schema, admin))
 }
 

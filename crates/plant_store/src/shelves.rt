@@ -5,14 +5,15 @@ ghost use Rattle.std.specs.Prelude.{◌≡◌, IfOk, map};
 ghost use Rattle.plant_books.specs.Contents.{mine_shelves as shelves_held};
 ghost use Rattle.plant_store.specs.Mine.{as_mine, line_cmp, repeats, shelf_line_cells};
 ghost use Rattle.plant_store.specs.Mine.{own_shelf_lines, standing_shelves};
-ghost use Rattle.plant_store.specs.Reading.{HasNoTransaction, IsOnlyRead, ReadsContent};
+ghost use Rattle.plant_statements.specs.Reading.{HasNoTransaction, IsOnlyRead, ReadsContent};
 
-use crate::mine::push;
-use crate::read::read_rows;
+use crate::texts;
 use plant_books::MineRow;
 use plant_columns::decode::{Shown, coded, flag, moment, open_moment, text, wide};
 use plant_columns::encode::single;
 use plant_model::{ShelfRow, is_before};
+use plant_statements::memory::push;
+use plant_statements::read::read_rows;
 use plant_types::{List, Moment, Person, Role, UnitCode};
 use sqlite::{Alter, Connection, Error, Row};
 use std::alloc::Global;
@@ -63,7 +64,7 @@ fn compare_lines(a: &ShelfLine, b: &ShelfLine) -> Ordering
 
 /// The shelves of the units in which the person has grants, beside each of these grants, by unit, role and tag. The
 /// query's index mostly gives them so, and the sort then only compares.
-#[tactic(auto, using(crate::proofs::Meanings::shelf_lines, crate::proofs::ReadsOnly::reads_plain))]
+#[tactic(auto, using(crate::proofs::JoinMeanings::shelf_lines, plant_statements::proofs::public::ReadsOnly::reads_plain))]
 fn shelf_lines<S: Alter>(
     alloc: Global,
     conn: &mut Connection<S>,
@@ -75,12 +76,7 @@ fn shelf_lines<S: Alter>(
         (λ m. own_shelf_lines m person.now) }
     ensures reads { IsOnlyRead S.Store conn.old conn.new }
 {
-    let found: List<ShelfLine> = read_rows(
-        alloc,
-        conn,
-        "SELECT grants.unit, grants.role_no, grants.end_s, shelves.tag, shelves.one_shot, shelves.start_s, shelves.until_s, shelves.person, shelves.words, alarms.return_s FROM grants INNER JOIN shelves ON shelves.unit = grants.unit LEFT JOIN alarms ON alarms.unit = shelves.unit AND alarms.tag = shelves.tag WHERE grants.person = ?1 ORDER BY grants.unit",
-        &single(person),
-    )?;
+    let found: List<ShelfLine> = read_rows(alloc, conn, texts::SHELF_LINES, &single(person))?;
     let mut lines = found.into_vec();
     lines.sort_by(|a, b| compare_lines(a, b))?;
     Ok(List::from_vec(lines))

@@ -1,7 +1,7 @@
 //! Names, rows and calls built from numbers and bytes, and books that keep them. The test fails if a value is invalid.
 
 ghost use Rattle.std.specs.Prelude.{false};
-ghost use Rattle.plant_store.specs.Reading.{HasNoTransaction};
+ghost use Rattle.plant_statements.specs.Reading.{HasNoTransaction};
 
 use plant_alarm::{AlarmState, Event, EventKind, Number};
 use plant_books::Books;
@@ -334,7 +334,7 @@ pub(crate) fn opened(rt: &impl Abort, alloc: Global) -> Tables<MemStore> {
 }
 
 /// The rows of the unit.
-pub(crate) fn rows(rt: &impl Abort, alloc: Global, books: &mut Tables<MemStore>) -> UnitRows {
+pub(crate) fn rows(rt: &impl Abort, alloc: Global, books: &mut impl Books) -> UnitRows {
     books
         .rows(&unit(rt, alloc, b"U1"))
         .expect(rt, "rows")

@@ -1,7 +1,7 @@
 //! Stores of schema 1 that are migrated, and what is refused.
 
 ghost use Rattle.std.specs.Prelude.{false, IfSome};
-ghost use Rattle.plant_store.specs.Reading.{HasNoTransaction};
+ghost use Rattle.plant_statements.specs.Reading.{HasNoTransaction};
 
 use crate::fixtures::{counts, made_by, opened, person, rows};
 use crate::older::{

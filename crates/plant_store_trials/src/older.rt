@@ -1,6 +1,6 @@
 //! Stores of schema 1, made by statements, and how a store shows its rows.
 
-ghost use Rattle.plant_store.specs.Reading.{HasNoTransaction};
+ghost use Rattle.plant_statements.specs.Reading.{HasNoTransaction};
 
 use crate::fixtures::{after, made_by, person};
 use plant_store::{MigrateRefused, Tables, migrate};

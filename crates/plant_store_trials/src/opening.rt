@@ -1,7 +1,7 @@
 //! Which databases are opened, and files that are opened again.
 
 ghost use Rattle.std.specs.Prelude.{false};
-ghost use Rattle.plant_store.specs.Reading.{HasNoTransaction};
+ghost use Rattle.plant_statements.specs.Reading.{HasNoTransaction};
 
 use crate::fixtures::{changes, counts, made_by, opened, person, rows, unit};
 use plant_books::Books;
@@ -13,6 +13,12 @@ use sqlite_disk::{Disk, Memory};
 use std::alloc::Global;
 use std::process::Abort;
 
+/// The books are those of `opened`, and root's.
+fn are_opened<B: Books + Drop>(rt: &impl Abort, alloc: Global, mut books: B) {
+    assert!(rt; *books.administrator() == person(rt, alloc, b"root"));
+    assert!(rt; counts(&rows(rt, alloc, &mut books)) == [1, 3, 2, 1, 2, 2, 3, 2, 4]);
+}
+
 #[test]
 fn opens_its_own_store_alone(rt: HostRuntime) {
     let alloc = rt.alloc();
@@ -21,11 +27,10 @@ fn opens_its_own_store_alone(rt: HostRuntime) {
         rt.panic("another administrator's")
     };
     assert!(rt; matches!(back.fault, StoreFault::NotThisStore));
-    let Ok(mut books) = Tables::open(alloc, back.conn, person(&rt, alloc, b"root")) else {
+    let Ok(books) = Tables::open(alloc, back.conn, person(&rt, alloc, b"root")) else {
         rt.panic("the same administrator's")
     };
-    assert!(rt; *books.administrator() == person(&rt, alloc, b"root"));
-    assert!(rt; counts(&rows(&rt, alloc, &mut books)) == [1, 3, 2, 1, 2, 2, 3, 2, 4]);
+    are_opened(&rt, alloc, books);
 }
 
 /// Statements that make a database, and whether it is then opened for `root`.
@@ -101,11 +106,7 @@ fn makes_no_second_store(rt: HostRuntime) {
 }
 
 /// The same books with one unit more.
-fn with_unit<D: Disk + Drop>(
-    rt: &impl Abort,
-    alloc: Global,
-    mut books: Tables<FileStore<D>>,
-) -> Tables<FileStore<D>> {
+fn with_unit<B: Books + Drop>(rt: &impl Abort, alloc: Global, mut books: B) -> B {
     let unit = unit(rt, alloc, b"U1");
     books
         .apply(&unit, &changes(rt, alloc), None)
@@ -113,11 +114,7 @@ fn with_unit<D: Disk + Drop>(
     books
 }
 
-fn is_taken<D: Disk + Drop>(
-    rt: &impl Abort,
-    alloc: Global,
-    mut books: Tables<FileStore<D>>,
-) -> bool {
+fn is_taken<B: Books + Drop>(rt: &impl Abort, alloc: Global, mut books: B) -> bool {
     books.taken(&unit(rt, alloc, b"U1")).expect(rt, "an answer")
 }
 

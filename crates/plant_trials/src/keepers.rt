@@ -190,6 +190,15 @@ fn are_same_rows(ours: &Option<UnitRows>, theirs: &Option<UnitRows>) -> bool {
         && are_same(changes, &theirs.changes)
 }
 
+/// Whether a unit has the same rows on both sides, of which the second may be a fault. They are let go here, once for
+/// all who ask.
+fn gave_same_rows(
+    ours: Option<UnitRows>,
+    theirs: Result<Option<UnitRows>, Fault>,
+) -> Result<bool, Fault> {
+    Ok(are_same_rows(&ours, &theirs?))
+}
+
 /// Whether both keepers hold the same rows of this unit but its history.
 fn hold_all_but_history_alike(
     ours: &mut impl Books,
@@ -197,8 +206,7 @@ fn hold_all_but_history_alike(
     unit: &UnitCode,
 ) -> Result<bool, Fault> {
     let ours = ours.rows_but_history(unit)?;
-    let theirs = theirs.rows_but_history(unit)?;
-    Ok(are_same_rows(&ours, &theirs))
+    gave_same_rows(ours, theirs.rows_but_history(unit))
 }
 
 /// Whether both keepers hold the same events of this unit.
@@ -222,8 +230,7 @@ fn hold_unit_alike(
         return Ok(false);
     }
     let ours = ours.rows(unit)?;
-    let theirs = theirs.rows(unit)?;
-    Ok(are_same_rows(&ours, &theirs))
+    gave_same_rows(ours, theirs.rows(unit))
 }
 
 /// Whether both keepers hold the same rows of each of the units.

@@ -22,6 +22,22 @@ pub fn unit_change(alloc: Global, unit: &UnitRow, now: Moment) -> Result<List<Ro
     Ok(changes)
 }
 
+/// The change of the unit's own row, and this one.
+fn unit_change_and(
+    alloc: Global,
+    unit: &UnitRow,
+    now: Moment,
+    change: RowEdit,
+) -> Result<List<RowEdit>, Fault>
+    ensures value { IfOk result (λ cs.
+        cs ≡ Put (UnitPut (record unit.now { last_s = now })) ∷ change ∷ []) }
+    ensures err { OnlyMemory result }
+{
+    let mut changes = unit_change(alloc, unit, now)?;
+    changes.push(change)?;
+    Ok(changes)
+}
+
 /// Makes the change that was decided, beside that of the unit's own row.
 pub fn done(
     alloc: Global,
@@ -35,8 +51,7 @@ pub fn done(
     match decided? {
         Err(refused) => Ok(Verdict::Refused(refused)),
         Ok(change) => {
-            let mut changes = unit_change(alloc, unit, now)?;
-            changes.push(change)?;
+            let changes = unit_change_and(alloc, unit, now, change)?;
             Ok(Verdict::Accepted(Reply::Done, changes))
         }
     }

@@ -10,9 +10,9 @@ loop-change-preserved c =
     let split : drop at all ≡ c.change-item.result ∷ drop (at + 1) all = grind (arith, common_steps) in
     record {
       value = λ order.
-          let now : c.in_ok-after.after ≡ changed c.change-item.result c.loop-change.after =
-          c.in_ok-after.ensures.value (c.loop-change.invariant.order order) in
+          let now : c.make_change.new.rows ≡ changed c.change-item.result c.loop-change.after =
+          c.in_ok-make_change.ensures.value (c.loop-change.invariant.order order) in
           ap (changed_by (drop (at + 1) all)) now ∙ ap (λ cs. changed_by cs c.loop-change.after) (sym split) ∙ c.loop-change.invariant.value order;
-      order = λ order. subst AreInOrder (sym (c.in_ok-after.ensures.value (c.loop-change.invariant.order order)))
+      order = λ order. subst AreInOrder (sym (c.in_ok-make_change.ensures.value (c.loop-change.invariant.order order)))
           (one_in_order c.change-item.result c.loop-change.after (c.loop-change.invariant.order order));
     }

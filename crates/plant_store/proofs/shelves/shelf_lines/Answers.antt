@@ -1,7 +1,8 @@
 use Rattle.std.proofs.{Common.{rules, ◌∙◌, is_lt}, lemmas.{Fn.{always_returns_same}, List.Sorted.{ranks_by}}}
 use Rattle.sqlite.specs.Held.{state}
 use Rattle.plant_store.specs.{Mine.{line_cmp}, declared.shelves.ShelfLine.{ShelfLine}}
-use Rattle.plant_store.proofs.{JoinedLines.{shelves_read}, LineOrder.{line_cmp_total, one_order}, Meanings.{shelf_lines}, ReadsOnly.{reads_plain}}
+use Rattle.plant_statements.proofs.public.ReadsOnly.{reads_plain}
+use Rattle.plant_store.proofs.{JoinMeanings.{shelf_lines}, JoinedLines.{shelves_read}, LineOrder.{line_cmp_total, one_order}}
 use Rattle.plant_store.proofs.shelves.shelf_lines.Goals as goal
 
 pub returns-clause-found : goal.returns-clause-found

@@ -1,8 +1,11 @@
-use Rattle.std.proofs.Common.{refl, subst, ◌∙◌}
-use Rattle.plant_books.specs.Contents.{after_changes}
+use Rattle.std.proofs.Common.{Err, OnOk, Result, refl, subst, sym, ◌∙◌}
+use Rattle.plant_books.specs.{Books.{CountsBy, KeepsOnErr, Makes}, Contents.{after_changes}}
 use Rattle.plant_model.proofs.public.LegalLaws.{next_legal}
+use Rattle.plant_model.specs.declared.reply.{Refused.{Refused}, Reply.{Reply}}
 use Rattle.plant_unit.specs.Judged.{IsOpening}
-use Rattle.plant_office.proofs.Serving.{accepted_opening, holds_opened, known_opening, leaves, opening_changes, opening_of, refused_opening, serves_changing, serves_fault, serves_same}
+use Rattle.plant_office.specs.Serves.{Serves}
+use Rattle.plant_office.proofs.Serving.{accepted_opening, by_outcome, holds_opened, known_opening, leaves, opening_changes, opening_of, refused_opening, serves_changing, serves_fault, serves_same}
+use Rattle.plant_types.specs.declared.fault.Fault.{Fault}
 use Rattle.plant_office.proofs.office.Office.serve_opening.Goals as goal
 
 pub returns-in-Refused : goal.returns-in-Refused
@@ -19,50 +22,34 @@ returns-in-Refused g c =
           c.taken.ensures.honest c.taken.ensures.same c.in_ok-taken.ensures.count tt c.taken.ensures.crash;
     }
 
-pub returns : goal.returns
-returns g c =
-    let failed = c.in-Err in
+pub returns-in-Accepted : goal.returns-in-Accepted
+returns-in-Accepted g c =
     let call = c.args.call.now in
     let u = c.args.unit.now in
+    let first = c.args.self.now.books in
+    let mid = c.taken.new.self in
+    let last = c.apply.new.self in
     record {
-      serves = serves_fault _ failed.fault refl (λ honest. c.taken.ensures.honest (c.apply.ensures.honest honest))
-          (λ m k. failed.ensures.unchanged m (c.taken.ensures.same m k)) c.in_ok-taken.ensures.count failed.ensures.count
-          (record {
-            read = c.taken.ensures.crash;
-            same = c.taken.ensures.same;
-            writes = failed.ensures.crash;
-            known = λ m k w legal h honest.
-                let v = opening_of m w call u _ _ _ h (c.administrator.ensures m (c.taken.ensures.same m k)) (c.in_ok-taken.ensures.found m k honest)
-                (subst (IsOpening _ _ _) c.in-Accepted.is c.in_ok-refused.ensures.value) in
-                known_opening m w call u c.in-Accepted.reply _ v;
-            meant = λ m k w legal h honest.
-                let v = opening_of m w call u _ _ _ h (c.administrator.ensures m (c.taken.ensures.same m k)) (c.in_ok-taken.ensures.found m k honest)
-                (subst (IsOpening _ _ _) c.in-Accepted.is c.in_ok-refused.ensures.value) in
-                holds_opened m w call u c.in-Accepted.reply _ legal h c.note_matrix.ensures c.requires.named c.requires.opening v;
-            legal = λ w legal. next_legal w call legal c.note_matrix.ensures;
-          });
-    }
-
-pub returns-in-Ok : goal.returns-in-Ok
-returns-in-Ok g c =
-    let call = c.args.call.now in
-    let u = c.args.unit.now in
-    record {
-      serves = serves_changing (λ m k w legal h honest.
-          let mid = c.taken.ensures.same m k in
+      serves = subst (λ (said : Result (Result Reply Refused) Fault). Serves g.B.Books call said first last) (sym c.reply_if_made.ensures)
+          (by_outcome c.apply.result c.in-Accepted.reply (λ said. Serves g.B.Books call said first last)
+          (λ made. Makes g.B.Books.represents mid last u c.in-Accepted.changes made × KeepsOnErr g.B.Books.represents mid last made
+          × CountsBy g.B.Books.stores mid last made × OnOk made (g.B.Books.is_clean last → g.B.Books.is_honest last))
+          (c.apply.ensures.made, c.apply.ensures.unchanged, c.apply.ensures.count, c.apply.ensures.kept)
+          (λ _ it. serves_changing (λ m k w legal h honest.
+          let told = c.taken.ensures.same m k in
           let early = c.apply.ensures.honest honest in
-          let v = opening_of m w call u _ _ _ h (c.administrator.ensures m mid) (c.in_ok-taken.ensures.found m k early)
+          let v = opening_of m w call u _ _ _ h (c.administrator.ensures m told) (c.in_ok-taken.ensures.found m k early)
           (subst (IsOpening _ _ _) c.in-Accepted.is c.in_ok-refused.ensures.value) in
           leaves w call _ (after_changes m u c.in-Accepted.changes)
-          (g.B.Books.represents c.apply.new.self) legal c.note_matrix.ensures
+          (g.B.Books.represents last) legal c.note_matrix.ensures
           (accepted_opening m w call u c.in-Accepted.reply _ h c.requires.named c.requires.opening v)
-          (c.in-Ok.ensures.made m mid (known_opening m w call u c.in-Accepted.reply _ v)))
+          (it.0 m told (known_opening m w call u c.in-Accepted.reply _ v)))
           (λ honest. c.taken.ensures.honest (c.apply.ensures.honest honest)) (opening_changes call.request c.requires.opening)
-          (c.in-Ok.ensures.count ∙ c.in_ok-taken.ensures.count)
+          (it.2 ∙ c.in_ok-taken.ensures.count)
           (record {
             read = c.taken.ensures.crash;
             same = c.taken.ensures.same;
-            writes = c.in-Ok.ensures.crash;
+            writes = c.apply.ensures.crash;
             known = λ m k w legal h honest.
                 let v = opening_of m w call u _ _ _ h (c.administrator.ensures m (c.taken.ensures.same m k)) (c.in_ok-taken.ensures.found m k honest)
                 (subst (IsOpening _ _ _) c.in-Accepted.is c.in_ok-refused.ensures.value) in
@@ -72,5 +59,21 @@ returns-in-Ok g c =
                 (subst (IsOpening _ _ _) c.in-Accepted.is c.in_ok-refused.ensures.value) in
                 holds_opened m w call u c.in-Accepted.reply _ legal h c.note_matrix.ensures c.requires.named c.requires.opening v;
             legal = λ w legal. next_legal w call legal c.note_matrix.ensures;
-          }) c.in-Ok.ensures.kept;
+          }) it.3)
+          (λ e it. serves_fault (Err e) e refl (λ honest. c.taken.ensures.honest (c.apply.ensures.honest honest))
+          (λ m k. it.1 m (c.taken.ensures.same m k)) c.in_ok-taken.ensures.count it.2
+          (record {
+            read = c.taken.ensures.crash;
+            same = c.taken.ensures.same;
+            writes = c.apply.ensures.crash;
+            known = λ m k w legal h honest.
+                let v = opening_of m w call u _ _ _ h (c.administrator.ensures m (c.taken.ensures.same m k)) (c.in_ok-taken.ensures.found m k honest)
+                (subst (IsOpening _ _ _) c.in-Accepted.is c.in_ok-refused.ensures.value) in
+                known_opening m w call u c.in-Accepted.reply _ v;
+            meant = λ m k w legal h honest.
+                let v = opening_of m w call u _ _ _ h (c.administrator.ensures m (c.taken.ensures.same m k)) (c.in_ok-taken.ensures.found m k honest)
+                (subst (IsOpening _ _ _) c.in-Accepted.is c.in_ok-refused.ensures.value) in
+                holds_opened m w call u c.in-Accepted.reply _ legal h c.note_matrix.ensures c.requires.named c.requires.opening v;
+            legal = λ w legal. next_legal w call legal c.note_matrix.ensures;
+          })));
     }

@@ -1,0 +1,5 @@
+mod OldMeanings
+mod OldQueries
+mod Upgrades
+mod OldRuleLaws
+mod Takings

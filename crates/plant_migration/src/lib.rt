@@ -1,0 +1,9 @@
+//! What becomes of a store of schema 1: its rows, and the rules by which its calls were judged.
+#![tactic(auto)]
+
+mod laws;
+mod old_rows;
+mod taking;
+
+pub use laws::old_histories;
+pub use taking::take_over;

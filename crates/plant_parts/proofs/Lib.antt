@@ -1,0 +1,3 @@
+mod Selected
+mod NumberLaws
+mod Lasts

@@ -1,0 +1,296 @@
+//! The part of a unit's rows that a call looks at.
+
+ghost use Rattle.std.specs.{Ordering.{nat_cmp}, Prelude.{◌≡◌, false, IfOk, None, Some}};
+ghost use Rattle.sqlite.specs.Held.{state};
+ghost use Rattle.plant_model.specs.Worlds.{unit_named};
+ghost use Rattle.plant_model.specs.steps.{Order.{TagsRise}, Parts.{part_of_holder}, RowFacts.{alarm_tag, event_number, shelf_tag}};
+ghost use Rattle.plant_types.specs.{KeyedRows.{IsInOrder}, Names.{Name}};
+ghost use Rattle.plant_books.specs.Contents.{Content, part_in, rows_in};
+ghost use Rattle.plant_statements.specs.{Changes.{IsHonest}, Keeping.{HasContent}};
+ghost use Rattle.plant_parts.specs.Parts.{AreAskedBy, LoadsApproved, LoadsCount, LoadsCrowding, LoadsGrants, alarms_seen, events_seen, grants_of};
+ghost use Rattle.plant_statements.specs.Reading.{HasNoTransaction, Loads, IsOnlyRead, ReadsContent};
+ghost use Rattle.plant_parts.specs.Wanted.{alarms_left, rows_with};
+ghost use Rattle.plant_columns.specs.{Tables.{rows_seen}, declared.tables.TableKind.TheVariants.{Units}};
+
+use crate::queries::{count_of, count_of_alarms, count_of_shelves, last_change_number, own_grants};
+use crate::scope_rows::{matrix_rows, some_changes};
+use crate::unit::has_row;
+use plant_alarm::Event;
+use plant_books::{
+    Wanted, WantedAlarms, WantedEvents, events_asked, is_crowded, part_of_grants, shelved_alarms,
+    wanted_alarms, wanted_events, wanted_records, wanted_shelves, wants_all_grants,
+};
+use plant_model::{
+    AlarmRow, Call, ChangeEntry, Counted, GrantRow, Request, Scope, ShelfRow, UnitPart, UnitRow,
+    UnitRows, holds_some_by, is_shelving, looks_at_events, number_approved, scope_of,
+};
+use plant_statements::read::{all_rows, row_of_tag, rows_of_number};
+use plant_statements::stored::Tagged;
+use plant_types::{List, UnitCode};
+use sqlite::{Alter, Connection, Error, ErrorCode};
+use std::alloc::Global;
+
+/// All grants of the unit where they are wanted, or those that are the caller's own.
+pub fn some_grants<S: Alter>(
+    alloc: Global,
+    conn: &mut Connection<S>,
+    unit: &UnitCode,
+    own: List<GrantRow>,
+    all: bool,
+) -> Result<List<GrantRow>, Error>
+    requires { HasNoTransaction conn.old }
+    ensures mode { HasNoTransaction conn.new }
+    ensures rows { LoadsGrants S.Store conn.old conn.new unit.now own all result }
+    ensures reads { IsOnlyRead S.Store conn.old conn.new }
+{
+    if all {
+        all_rows(alloc, conn, unit)
+    } else {
+        Ok(own)
+    }
+}
+
+/// The unit's rows of the tags that are wanted.
+fn rows_wanted<T: Tagged, S: Alter>(
+    alloc: Global,
+    conn: &mut Connection<S>,
+    unit: &UnitCode,
+    wanted: Wanted<'_>,
+) -> Result<List<T>, Error>
+    requires { HasNoTransaction conn.old }
+    ensures mode { HasNoTransaction conn.new }
+    ensures rows { Loads S.Store conn.old conn.new
+        (λ trees. rows_with T.tag wanted.entry (T.seen unit.now trees)) result }
+    ensures reads { IsOnlyRead S.Store conn.old conn.new }
+{
+    match wanted {
+        Wanted::Nothing => Ok(List::new(alloc)),
+        Wanted::One(tag) => row_of_tag(alloc, conn, unit, tag),
+        Wanted::Every => all_rows(alloc, conn, unit),
+    }
+}
+
+/// The unit's alarms that are wanted, or all where shelves decide which are.
+pub fn some_alarms<S: Alter>(
+    alloc: Global,
+    conn: &mut Connection<S>,
+    unit: &UnitCode,
+    wanted: WantedAlarms<'_>,
+) -> Result<List<AlarmRow>, Error>
+    requires { HasNoTransaction conn.old }
+    ensures mode { HasNoTransaction conn.new }
+    ensures rows { Loads S.Store conn.old conn.new (alarms_seen wanted.entry unit.now) result }
+    ensures reads { IsOnlyRead S.Store conn.old conn.new }
+{
+    match wanted {
+        WantedAlarms::Those(wanted) => rows_wanted(alloc, conn, unit, wanted),
+        WantedAlarms::Shelved => all_rows(alloc, conn, unit),
+    }
+}
+
+/// Of the alarms that were read those that are wanted beside these shelves, both in the order of their tags.
+fn alarms_for(
+    alloc: Global,
+    read: List<AlarmRow>,
+    shelves: &List<ShelfRow>,
+    wanted: WantedAlarms<'_>,
+) -> Result<List<AlarmRow>, Error>
+    ensures { TagsRise alarm_tag read → TagsRise shelf_tag shelves.now
+        → IfOk result (λ alarms. alarms ≡ alarms_left wanted.entry shelves.now read) }
+{
+    match wanted {
+        WantedAlarms::Those(_) => Ok(read),
+        WantedAlarms::Shelved => shelved_alarms(alloc, read.as_slice(), shelves.as_slice()).map_err(
+            |_| Error::SqliteFailure(ErrorCode::OutOfMemory),
+        ),
+    }
+}
+
+/// The unit's events, where they are wanted.
+pub fn some_events<S: Alter>(
+    alloc: Global,
+    conn: &mut Connection<S>,
+    unit: &UnitCode,
+    wanted: bool,
+) -> Result<List<Event>, Error>
+    requires { HasNoTransaction conn.old }
+    ensures mode { HasNoTransaction conn.new }
+    ensures rows { Loads S.Store conn.old conn.new (events_seen wanted unit.now) result }
+    ensures reads { IsOnlyRead S.Store conn.old conn.new }
+{
+    if wanted {
+        all_rows(alloc, conn, unit)
+    } else {
+        Ok(List::new(alloc))
+    }
+}
+
+/// Of the unit's events, which stand in rising number, those that the scope takes in. All of them are not copied.
+fn events_for(alloc: Global, events: List<Event>, scope: Scope<'_>) -> Result<List<Event>, Error>
+    ensures { IsInOrder nat_cmp event_number events → IfOk result (AreAskedBy scope.entry events) }
+{
+    let wanted = wanted_events(scope);
+    if matches!(wanted, WantedEvents::Every) {
+        return Ok(events);
+    }
+    events_asked(alloc, &events, wanted).map_err(|_| Error::SqliteFailure(ErrorCode::OutOfMemory))
+}
+
+/// How many alarms the unit has, how many events, or the number of its last change, for a call that needs it. The
+/// events were read where the request looks at them.
+#[tactic(auto, using(crate::proofs::Selected::counts_events))]
+fn count_for<S: Alter>(
+    conn: &mut Connection<S>,
+    unit: &UnitCode,
+    request: &Request,
+    events: &List<Event>,
+) -> Result<u32, Error>
+    requires { HasNoTransaction conn.old }
+    ensures mode { HasNoTransaction conn.new }
+    ensures rows { LoadsCount S.Store conn.old conn.new unit.now request.now events.now result }
+    ensures reads { IsOnlyRead S.Store conn.old conn.new }
+{
+    match request.counted() {
+        Counted::Nothing => Ok(0),
+        Counted::Alarms => count_of_alarms(conn, unit),
+        Counted::Events => count_of(events.len()),
+        Counted::Changes => last_change_number(conn, unit),
+    }
+}
+
+/// Whether the request shelves where so many shelves are kept that the unit's quota may be used up.
+fn crowded_for<S: Alter>(
+    conn: &mut Connection<S>,
+    unit: &UnitCode,
+    units: &List<UnitRow>,
+    request: &Request,
+) -> Result<bool, Error>
+    requires { HasNoTransaction conn.old }
+    ensures mode { HasNoTransaction conn.new }
+    ensures rows { LoadsCrowding S.Store conn.old conn.new unit.now units.now request.now result }
+    ensures reads { IsOnlyRead S.Store conn.old conn.new }
+{
+    if is_shelving(request) {
+        Ok(is_crowded(units, count_of_shelves(conn, unit)?))
+    } else {
+        Ok(false)
+    }
+}
+
+/// The change that the request approves, if it approves one that is there.
+fn approved_for<S: Alter>(
+    alloc: Global,
+    conn: &mut Connection<S>,
+    unit: &UnitCode,
+    request: &Request,
+) -> Result<List<ChangeEntry>, Error>
+    requires { HasNoTransaction conn.old }
+    ensures mode { HasNoTransaction conn.new }
+    ensures rows { LoadsApproved S.Store conn.old conn.new unit.now request.now result }
+    ensures reads { IsOnlyRead S.Store conn.old conn.new }
+{
+    match number_approved(request) {
+        Some(number) => rows_of_number(alloc, conn, unit, number),
+        None => Ok(List::new(alloc)),
+    }
+}
+
+/// The part of a caller who holds a role, with the unit's own row and the caller's grants, which were read before.
+fn holders_part<S: Alter>(
+    alloc: Global,
+    conn: &mut Connection<S>,
+    unit: &UnitCode,
+    call: &Call,
+    units: List<UnitRow>,
+    own: List<GrantRow>,
+) -> Result<UnitPart, Error>
+    requires { HasNoTransaction conn.old }
+    ensures mode { HasNoTransaction conn.new }
+    ensures found { IsHonest (state S.Store conn.new) → (m : Content)
+        → HasContent (state S.Store conn.old) m
+        → units ≡ rows_seen unit.now (state S.Store conn.old).now.trees Units
+        → own ≡ grants_of call.now.person unit.now (state S.Store conn.old).now.trees
+        → IfOk result (λ part. part ≡ part_of_holder call.now (rows_in m unit.now)) }
+    ensures reads { IsOnlyRead S.Store conn.old conn.new }
+{
+    let request = &call.request;
+    let crowded = crowded_for(conn, unit, &units, request)?;
+    let approved = approved_for(alloc, conn, unit, request)?;
+    let scope = scope_of(request, crowded, approved.as_slice().first());
+    let all = wants_all_grants(scope);
+    let grants = some_grants(alloc, conn, unit, own, all)?;
+    let tags = wanted_alarms(scope);
+    let read = some_alarms(alloc, conn, unit, tags)?;
+    let shelved = wanted_shelves(scope);
+    let shelves = rows_wanted(alloc, conn, unit, shelved)?;
+    let alarms = alarms_for(alloc, read, &shelves, tags)?;
+    let looks = looks_at_events(request);
+    let all_events = some_events(alloc, conn, unit, looks)?;
+    let recorded = wanted_records(scope);
+    let records = rows_wanted(alloc, conn, unit, recorded)?;
+    let bands = matrix_rows(alloc, conn, unit, &units, scope)?;
+    let cells = matrix_rows(alloc, conn, unit, &units, scope)?;
+    let changes = some_changes(alloc, conn, unit, &records, scope)?;
+    let count = count_for(conn, unit, request, &all_events)?;
+    let events = events_for(alloc, all_events, scope)?;
+    Ok(UnitPart {
+        rows: UnitRows {
+            units,
+            grants,
+            alarms,
+            shelves,
+            events,
+            bands,
+            cells,
+            records,
+            changes,
+        },
+        count,
+    })
+}
+
+/// The unit's part that the call looks at, where the unit was opened. Of a caller who holds no role nothing is read but
+/// the unit's own row and the caller's grants.
+fn unit_part<S: Alter>(
+    alloc: Global,
+    conn: &mut Connection<S>,
+    unit: &UnitCode,
+    call: &Call,
+) -> Result<Option<UnitPart>, Error>
+    requires { HasNoTransaction conn.old }
+    ensures mode { HasNoTransaction conn.new }
+    ensures found { ReadsContent S.Store conn.old conn.new result
+        (λ m. part_in m call.now unit.now) }
+    ensures reads { IsOnlyRead S.Store conn.old conn.new }
+{
+    let units = all_rows(alloc, conn, unit)?;
+    if !has_row(&units) {
+        return Ok(None);
+    }
+    let own = own_grants(alloc, conn, unit, &call.person)?;
+    if !holds_some_by(own.as_slice(), &call.person, call.moment) {
+        return Ok(Some(part_of_grants(alloc, units, own)));
+    }
+    let part = holders_part(alloc, conn, unit, call, units, own)?;
+    Ok(Some(part))
+}
+
+/// The part of its unit's rows that the call looks at, where it names a unit that was opened.
+pub fn part_of<S: Alter>(
+    alloc: Global,
+    conn: &mut Connection<S>,
+    call: &Call,
+) -> Result<Option<UnitPart>, Error>
+    requires { HasNoTransaction conn.old }
+    ensures mode { HasNoTransaction conn.new }
+    ensures found { IsHonest (state S.Store conn.new) → (m : Content)
+        → HasContent (state S.Store conn.old) m → (u : Name) → unit_named call.now.request ≡ Some u
+        → IfOk result (λ part. part ≡ part_in m call.now u) }
+    ensures none { unit_named call.now.request ≡ None → IfOk result (λ part. part ≡ None) }
+    ensures reads { IsOnlyRead S.Store conn.old conn.new }
+{
+    match call.request.unit() {
+        Some(unit) => unit_part(alloc, conn, unit, call),
+        None => Ok(None),
+    }
+}

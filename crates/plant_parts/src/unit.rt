@@ -1,0 +1,127 @@
+//! The rows of one unit: all of them, or all but its history, or its events alone.
+
+ghost use Rattle.std.specs.{FinMap.{contains_key, get}, Prelude.{◌≡◌}};
+ghost use Rattle.plant_books.specs.Contents.{events_in, rows_but_history as all_but_history, rows_in, with_history_of};
+ghost use Rattle.plant_statements.specs.{Keeping.{has_any}, Reading.{HasNoTransaction, IsOnlyRead, ReadsContent}};
+
+use plant_alarm::Event;
+use plant_model::{UnitRow, UnitRows};
+use plant_statements::read::all_rows;
+use plant_types::{List, UnitCode};
+use sqlite::{Alter, Connection, Error};
+use std::alloc::Global;
+
+/// Whether there is a row: a unit was opened where it has a row of its own.
+#[tactic(auto, using(plant_statements::proofs::public::Contents::any_is))]
+pub fn has_row(units: &List<UnitRow>) -> bool
+    ensures { result ≡ has_any units.now }
+{
+    !units.as_slice().is_empty()
+}
+
+/// Whether the unit was opened.
+pub fn taken<S: Alter>(
+    alloc: Global,
+    conn: &mut Connection<S>,
+    unit: &UnitCode,
+) -> Result<bool, Error>
+    requires { HasNoTransaction conn.old }
+    ensures mode { HasNoTransaction conn.new }
+    ensures found { ReadsContent S.Store conn.old conn.new result
+        (λ m. contains_key m.units unit.now) }
+    ensures reads { IsOnlyRead S.Store conn.old conn.new }
+{
+    let units = all_rows(alloc, conn, unit)?;
+    Ok(has_row(&units))
+}
+
+/// All rows of the unit but its history, where it was opened.
+pub fn rows_but_history<S: Alter>(
+    alloc: Global,
+    conn: &mut Connection<S>,
+    unit: &UnitCode,
+) -> Result<Option<UnitRows>, Error>
+    requires { HasNoTransaction conn.old }
+    ensures mode { HasNoTransaction conn.new }
+    ensures found { ReadsContent S.Store conn.old conn.new result
+        (λ m. all_but_history m unit.now) }
+    ensures reads { IsOnlyRead S.Store conn.old conn.new }
+{
+    let units = all_rows(alloc, conn, unit)?;
+    if !has_row(&units) {
+        return Ok(None);
+    }
+    let grants = all_rows(alloc, conn, unit)?;
+    let alarms = all_rows(alloc, conn, unit)?;
+    let shelves = all_rows(alloc, conn, unit)?;
+    let records = all_rows(alloc, conn, unit)?;
+    Ok(Some(UnitRows {
+        units,
+        grants,
+        alarms,
+        shelves,
+        events: List::new(alloc),
+        bands: List::new(alloc),
+        cells: List::new(alloc),
+        records,
+        changes: List::new(alloc),
+    }))
+}
+
+/// All events of the unit, none where it was never opened.
+pub fn events<S: Alter>(
+    alloc: Global,
+    conn: &mut Connection<S>,
+    unit: &UnitCode,
+) -> Result<List<Event>, Error>
+    requires { HasNoTransaction conn.old }
+    ensures mode { HasNoTransaction conn.new }
+    ensures found { ReadsContent S.Store conn.old conn.new result (λ m. events_in m unit.now) }
+    ensures reads { IsOnlyRead S.Store conn.old conn.new }
+{
+    all_rows(alloc, conn, unit)
+}
+
+/// The rows with the unit's history.
+fn with_history<S: Alter>(
+    alloc: Global,
+    conn: &mut Connection<S>,
+    unit: &UnitCode,
+    rows: UnitRows,
+) -> Result<UnitRows, Error>
+    requires { HasNoTransaction conn.old }
+    ensures mode { HasNoTransaction conn.new }
+    ensures found { ReadsContent S.Store conn.old conn.new result
+        (λ m. with_history_of (rows_in m unit.now) rows) }
+    ensures reads { IsOnlyRead S.Store conn.old conn.new }
+{
+    let bands = all_rows(alloc, conn, unit)?;
+    let cells = all_rows(alloc, conn, unit)?;
+    let changes = all_rows(alloc, conn, unit)?;
+    let events = all_rows(alloc, conn, unit)?;
+    Ok(UnitRows {
+        bands,
+        cells,
+        changes,
+        events,
+        ..rows
+    })
+}
+
+/// All rows of the unit, where it was opened.
+#[tactic(auto, using(plant_statements::proofs::public::Contents::whole_again))]
+pub fn rows_of<S: Alter>(
+    alloc: Global,
+    conn: &mut Connection<S>,
+    unit: &UnitCode,
+) -> Result<Option<UnitRows>, Error>
+    requires { HasNoTransaction conn.old }
+    ensures mode { HasNoTransaction conn.new }
+    ensures found { ReadsContent S.Store conn.old conn.new result (λ m. get m.units unit.now) }
+    ensures reads { IsOnlyRead S.Store conn.old conn.new }
+{
+    match rows_but_history(alloc, conn, unit)? {
+        None => Ok(None),
+        Some(rows) => Ok(Some(with_history(alloc, conn, unit, rows)?)),
+    }
+}

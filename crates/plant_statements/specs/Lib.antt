@@ -1,0 +1,9 @@
+pub mod Texts
+pub mod Changes
+pub mod Statements
+pub mod Keeping
+pub mod Making
+pub mod OnlyReads
+pub mod StaysInside
+pub mod Reading
+pub mod Writing

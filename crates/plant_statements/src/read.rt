@@ -1,0 +1,92 @@
+//! The statements that read one unit's rows of one table.
+
+ghost use Rattle.plant_books.specs.Books.{WasHonest};
+ghost use Rattle.plant_statements.specs.Reading.{Asks, CrashesAsShown, Decodes, HasNoTransaction, IsHonestIn, Loads, LoadsNumber, LoadsTag, IsOnlyRead, SameIfPlain};
+
+use crate::stored::{Numbered, Stored, Tagged};
+use plant_columns::decode::{Shown, read_all};
+use plant_columns::encode::{numbered, pair, single};
+use plant_types::{List, Tag, UnitCode};
+use sqlite::types::ValueRef;
+use sqlite::{Alter, Connection, Error, Row};
+use std::alloc::Global;
+
+/// Asks one question.
+pub fn ask<S: Alter>(
+    conn: &mut Connection<S>,
+    sql: &str,
+    cells: &[ValueRef<'_>],
+) -> Result<Vec<Row>, Error>
+    requires { HasNoTransaction conn.old }
+    ensures mode { HasNoTransaction conn.new }
+    ensures rows { Asks S.Store conn.old conn.new sql.now cells.now result (λ rows. rows.items) }
+    ensures same { SameIfPlain S.Store conn.old conn.new sql.now }
+    ensures shows { CrashesAsShown S.Store conn.old conn.new sql.now cells.now }
+    ensures honest { WasHonest (IsHonestIn S.Store) conn.old conn.new }
+{
+    // Tells the proof that no transaction is open; the value is not used.
+    let _settled = conn.is_autocommit();
+    conn.query_all(sql, cells)
+}
+
+/// Asks one question, and decodes what it shows.
+pub fn read_rows<T: Shown, S: Alter>(
+    alloc: Global,
+    conn: &mut Connection<S>,
+    sql: &str,
+    cells: &[ValueRef<'_>],
+) -> Result<List<T>, Error>
+    requires { HasNoTransaction conn.old }
+    ensures mode { HasNoTransaction conn.new }
+    ensures rows { Decodes S.Store conn.old conn.new sql.now cells.now T.width T.cells result }
+    ensures same { SameIfPlain S.Store conn.old conn.new sql.now }
+    ensures shows { CrashesAsShown S.Store conn.old conn.new sql.now cells.now }
+    ensures honest { WasHonest (IsHonestIn S.Store) conn.old conn.new }
+{
+    let rows = ask(conn, sql, cells)?;
+    read_all(alloc, rows.as_slice())
+}
+
+/// All rows that the unit has in one table.
+pub fn all_rows<T: Stored, S: Alter>(
+    alloc: Global,
+    conn: &mut Connection<S>,
+    unit: &UnitCode,
+) -> Result<List<T>, Error>
+    requires { HasNoTransaction conn.old }
+    ensures mode { HasNoTransaction conn.new }
+    ensures rows { Loads S.Store conn.old conn.new (T.seen unit.now) result }
+    ensures reads { IsOnlyRead S.Store conn.old conn.new }
+{
+    read_rows(alloc, conn, T::select(), &single(unit))
+}
+
+/// The unit's row of this tag in one table, if any.
+pub fn row_of_tag<T: Tagged, S: Alter>(
+    alloc: Global,
+    conn: &mut Connection<S>,
+    unit: &UnitCode,
+    tag: &Tag,
+) -> Result<List<T>, Error>
+    requires { HasNoTransaction conn.old }
+    ensures mode { HasNoTransaction conn.new }
+    ensures rows { LoadsTag S.Store conn.old conn.new T.seen unit.now T.tag tag.now result }
+    ensures reads { IsOnlyRead S.Store conn.old conn.new }
+{
+    read_rows(alloc, conn, T::select_of_tag(), &pair(unit, tag))
+}
+
+/// The unit's rows of this number in one table.
+pub fn rows_of_number<T: Numbered, S: Alter>(
+    alloc: Global,
+    conn: &mut Connection<S>,
+    unit: &UnitCode,
+    number: u32,
+) -> Result<List<T>, Error>
+    requires { HasNoTransaction conn.old }
+    ensures mode { HasNoTransaction conn.new }
+    ensures rows { LoadsNumber S.Store conn.old conn.new T.seen unit.now T.number number result }
+    ensures reads { IsOnlyRead S.Store conn.old conn.new }
+{
+    read_rows(alloc, conn, T::select_of_number(), &numbered(unit, number))
+}

@@ -1,0 +1,366 @@
+//! The tables, each described once: the statements that read its rows and that put one.
+
+ghost use Rattle.std.specs.Prelude.{◌≡◌, ◌∷◌, [], ℕ, List, true};
+ghost use Rattle.sqlite.specs.Tree.{Trees};
+ghost use Rattle.plant_columns.specs.declared.tables.TableKind.TheVariants.{Alarms, Bands, Cells, Changes, Events, Grants, Records, Shelves, Units};
+ghost use Rattle.plant_columns.specs.Tables.{rows_seen};
+ghost use Rattle.plant_model.specs.declared.rows.Row.{Row as AnyRow};
+ghost use Rattle.plant_model.specs.steps.{Keys.{has_key}, Order.{AreInOrder}, RowFacts.{change_number}};
+ghost use Rattle.plant_model.specs.declared.rows.Row.TheVariants.{Alarm as AlarmPut, Band as BandPut, Cell as CellPut, Change as ChangePut, Event as EventPut, Grant as GrantPut, Record as RecordPut, Shelf as ShelfPut, Unit as UnitPut};
+ghost use Rattle.plant_model.specs.declared.rows.RowEdit.TheVariants.{Put};
+ghost use Rattle.plant_statements.specs.{Statements.{ReadsNumber, ReadsTag, ReadsUnit}, Texts.{rows_text}};
+ghost use Rattle.plant_statements.specs.Writing.{SameReference, StaysOpen, Updates, Writes};
+ghost use Rattle.plant_types.specs.Names.{Name};
+
+use crate::texts;
+use crate::write::{remove_grant, remove_shelf, run, run_counting};
+use plant_alarm::Event;
+use plant_columns::decode::Shown;
+use plant_columns::encode::{
+    alarm_cells, band_cells, cell_cells, change_cells, event_cells, grant_cells, record_cells,
+    shelf_cells, unit_cells, wide,
+};
+use plant_model::{
+    AlarmRow, BandRow, CellRow, ChangeEntry, GrantRow, RecordEntry, ShelfRow, UnitRow, UnitRows,
+    change_at, row_of, stands,
+};
+use plant_types::UnitCode;
+use sqlite::{Alter, Error, Transaction};
+
+/// A row of a table.
+pub trait Stored: Shown {
+    /// Those that the tables have of a unit.
+    ghost seen: { Name → Trees → List Self };
+
+    /// The same row, as changes name it.
+    ghost as_row: { Self → AnyRow };
+
+    ghost select_text: { List ℕ };
+
+    /// The text that reads all rows of a unit, in the order of their keys.
+    fn select() -> &'static str
+        ensures reads { ReadsUnit Self.width Self.cells seen result.now }
+        ensures text { result.now ≡ select_text };
+
+    /// Whether the key may be that of one of these rows of the unit: false only where it is none of theirs.
+    fn has_key_in(&self, rows: &UnitRows) -> bool
+        ensures { AreInOrder rows.now → has_key (as_row self.now) rows.now ≡ true → result ≡ true }
+    {
+        let _rows = rows;
+        true
+    }
+
+    /// Puts the row over the one with the same key, and returns how many rows were written. Rows of some tables never
+    /// change: 0.
+    #[tactic(auto, using(crate::proofs::public::Writes::applies_none))]
+    fn update<S: Alter>(&self, tx: &mut Transaction<'_, S>, unit: &UnitCode) -> Result<usize, Error>
+        ensures same_reference { SameReference tx.old tx.new }
+        ensures made { Updates S.Store tx.old tx.new unit.now (Put (as_row self.now)) result }
+        ensures stays { StaysOpen S.Store tx.old tx.new result }
+    {
+        Ok(0)
+    }
+
+    /// Puts the row as a new one. Fails if there is a row of its key.
+    fn insert<S: Alter>(&self, tx: &mut Transaction<'_, S>, unit: &UnitCode) -> Result<(), Error>
+        ensures same_reference { SameReference tx.old tx.new }
+        ensures made { Writes S.Store tx.old tx.new unit.now (Put (as_row self.now) ∷ []) result }
+        ensures stays { StaysOpen S.Store tx.old tx.new result };
+}
+
+/// A row of a table whose key has a tag.
+pub trait Tagged: Stored {
+    ghost tag: { Self → Name };
+
+    /// The text that reads the unit's row of a tag.
+    fn select_of_tag() -> &'static str
+        ensures { ReadsTag Self.width Self.cells Self.seen tag result.now };
+}
+
+/// A row of a table whose key begins with a number: that of a matrix, or of a change.
+pub trait Numbered: Stored {
+    ghost number: { Self → ℕ };
+
+    /// The text that reads the unit's rows of a number.
+    fn select_of_number() -> &'static str
+        ensures { ReadsNumber Self.width Self.cells Self.seen number result.now };
+}
+
+impl Stored for UnitRow {
+    ghost seen = { λ unit trees. rows_seen unit trees Units };
+
+    ghost as_row = { UnitPut };
+
+    ghost select_text = { rows_text Units };
+
+    fn select() -> &'static str {
+        texts::UNITS_ROWS
+    }
+
+    fn update<S: Alter>(
+        &self,
+        tx: &mut Transaction<'_, S>,
+        unit: &UnitCode,
+    ) -> Result<usize, Error> {
+        run_counting(tx, texts::OVER_UNIT, &unit_cells(unit, self))
+    }
+
+    #[tactic(auto, using(crate::proofs::StoredLaws::unit_new))]
+    fn insert<S: Alter>(&self, tx: &mut Transaction<'_, S>, unit: &UnitCode) -> Result<(), Error> {
+        run(tx, texts::PUT_UNIT, &unit_cells(unit, self))
+    }
+}
+
+impl Stored for GrantRow {
+    ghost seen = { λ unit trees. rows_seen unit trees Grants };
+
+    ghost as_row = { GrantPut };
+
+    ghost select_text = { rows_text Grants };
+
+    fn select() -> &'static str {
+        texts::GRANTS_ROWS
+    }
+
+    fn has_key_in(&self, rows: &UnitRows) -> bool {
+        stands(rows.grants.as_slice(), &self.person, self.role_no)
+    }
+
+    fn update<S: Alter>(
+        &self,
+        tx: &mut Transaction<'_, S>,
+        unit: &UnitCode,
+    ) -> Result<usize, Error> {
+        remove_grant(tx, unit, &self.person, self.role_no)?;
+        self.insert(tx, unit)?;
+        Ok(1)
+    }
+
+    #[tactic(auto, using(crate::proofs::StoredLaws::grant_new))]
+    fn insert<S: Alter>(&self, tx: &mut Transaction<'_, S>, unit: &UnitCode) -> Result<(), Error> {
+        run(tx, texts::PUT_GRANT, &grant_cells(unit, self))
+    }
+}
+
+impl Stored for AlarmRow {
+    ghost seen = { λ unit trees. rows_seen unit trees Alarms };
+
+    ghost as_row = { AlarmPut };
+
+    ghost select_text = { rows_text Alarms };
+
+    fn select() -> &'static str {
+        texts::ALARMS_ROWS
+    }
+
+    #[tactic(auto, using(crate::proofs::StoredLaws::found_there))]
+    fn has_key_in(&self, rows: &UnitRows) -> bool {
+        row_of(rows.alarms.as_slice(), &self.tag).is_some()
+    }
+
+    fn update<S: Alter>(
+        &self,
+        tx: &mut Transaction<'_, S>,
+        unit: &UnitCode,
+    ) -> Result<usize, Error> {
+        run_counting(tx, texts::OVER_ALARM, &alarm_cells(unit, self))
+    }
+
+    #[tactic(auto, using(crate::proofs::StoredLaws::alarm_new))]
+    fn insert<S: Alter>(&self, tx: &mut Transaction<'_, S>, unit: &UnitCode) -> Result<(), Error> {
+        run(tx, texts::PUT_ALARM, &alarm_cells(unit, self))
+    }
+}
+
+impl Tagged for AlarmRow {
+    ghost tag = { λ r. r.tag };
+
+    fn select_of_tag() -> &'static str {
+        texts::ALARM_AT
+    }
+}
+
+impl Stored for ShelfRow {
+    ghost seen = { λ unit trees. rows_seen unit trees Shelves };
+
+    ghost as_row = { ShelfPut };
+
+    ghost select_text = { rows_text Shelves };
+
+    fn select() -> &'static str {
+        texts::SHELVES_ROWS
+    }
+
+    #[tactic(auto, using(crate::proofs::StoredLaws::found_there))]
+    fn has_key_in(&self, rows: &UnitRows) -> bool {
+        row_of(rows.shelves.as_slice(), &self.tag).is_some()
+    }
+
+    fn update<S: Alter>(
+        &self,
+        tx: &mut Transaction<'_, S>,
+        unit: &UnitCode,
+    ) -> Result<usize, Error> {
+        remove_shelf(tx, unit, &self.tag)?;
+        self.insert(tx, unit)?;
+        Ok(1)
+    }
+
+    #[tactic(auto, using(crate::proofs::StoredLaws::shelf_new))]
+    fn insert<S: Alter>(&self, tx: &mut Transaction<'_, S>, unit: &UnitCode) -> Result<(), Error> {
+        let until = wide(self.until_s)?;
+        run(tx, texts::PUT_SHELF, &shelf_cells(unit, self, until))
+    }
+}
+
+impl Tagged for ShelfRow {
+    ghost tag = { λ r. r.tag };
+
+    fn select_of_tag() -> &'static str {
+        texts::SHELF_AT
+    }
+}
+
+impl Stored for BandRow {
+    ghost seen = { λ unit trees. rows_seen unit trees Bands };
+
+    ghost as_row = { BandPut };
+
+    ghost select_text = { rows_text Bands };
+
+    fn select() -> &'static str {
+        texts::BANDS_ROWS
+    }
+
+    #[tactic(auto, using(crate::proofs::StoredLaws::band_new))]
+    fn insert<S: Alter>(&self, tx: &mut Transaction<'_, S>, unit: &UnitCode) -> Result<(), Error> {
+        let limit = wide(self.limit_s)?;
+        run(tx, texts::PUT_BAND, &band_cells(unit, self, limit))
+    }
+}
+
+impl Numbered for BandRow {
+    ghost number = { λ r. r.matrix_no };
+
+    fn select_of_number() -> &'static str {
+        texts::BANDS_AT
+    }
+}
+
+impl Stored for CellRow {
+    ghost seen = { λ unit trees. rows_seen unit trees Cells };
+
+    ghost as_row = { CellPut };
+
+    ghost select_text = { rows_text Cells };
+
+    fn select() -> &'static str {
+        texts::CELLS_ROWS
+    }
+
+    #[tactic(auto, using(crate::proofs::StoredLaws::cell_new))]
+    fn insert<S: Alter>(&self, tx: &mut Transaction<'_, S>, unit: &UnitCode) -> Result<(), Error> {
+        run(tx, texts::PUT_CELL, &cell_cells(unit, self))
+    }
+}
+
+impl Numbered for CellRow {
+    ghost number = { λ r. r.matrix_no };
+
+    fn select_of_number() -> &'static str {
+        texts::CELLS_AT
+    }
+}
+
+impl Stored for Event {
+    ghost seen = { λ unit trees. rows_seen unit trees Events };
+
+    ghost as_row = { EventPut };
+
+    ghost select_text = { rows_text Events };
+
+    fn select() -> &'static str {
+        texts::EVENTS_ROWS
+    }
+
+    #[tactic(auto, using(crate::proofs::StoredLaws::event_new))]
+    fn insert<S: Alter>(&self, tx: &mut Transaction<'_, S>, unit: &UnitCode) -> Result<(), Error> {
+        run(tx, texts::PUT_EVENT, &event_cells(unit, self))
+    }
+}
+
+impl Stored for RecordEntry {
+    ghost seen = { λ unit trees. rows_seen unit trees Records };
+
+    ghost as_row = { RecordPut };
+
+    ghost select_text = { rows_text Records };
+
+    fn select() -> &'static str {
+        texts::RECORDS_ROWS
+    }
+
+    #[tactic(auto, using(crate::proofs::StoredLaws::found_there))]
+    fn has_key_in(&self, rows: &UnitRows) -> bool {
+        row_of(rows.records.as_slice(), &self.tag).is_some()
+    }
+
+    fn update<S: Alter>(
+        &self,
+        tx: &mut Transaction<'_, S>,
+        unit: &UnitCode,
+    ) -> Result<usize, Error> {
+        run_counting(tx, texts::OVER_RECORD, &record_cells(unit, self))
+    }
+
+    #[tactic(auto, using(crate::proofs::StoredLaws::record_new))]
+    fn insert<S: Alter>(&self, tx: &mut Transaction<'_, S>, unit: &UnitCode) -> Result<(), Error> {
+        run(tx, texts::PUT_RECORD, &record_cells(unit, self))
+    }
+}
+
+impl Tagged for RecordEntry {
+    ghost tag = { λ r. r.tag };
+
+    fn select_of_tag() -> &'static str {
+        texts::RECORD_AT
+    }
+}
+
+impl Stored for ChangeEntry {
+    ghost seen = { λ unit trees. rows_seen unit trees Changes };
+
+    ghost as_row = { ChangePut };
+
+    ghost select_text = { rows_text Changes };
+
+    fn select() -> &'static str {
+        texts::CHANGES_ROWS
+    }
+
+    #[tactic(auto, using(crate::proofs::StoredLaws::found_there))]
+    fn has_key_in(&self, rows: &UnitRows) -> bool {
+        change_at(rows.changes.as_slice(), self.number).is_some()
+    }
+
+    fn update<S: Alter>(
+        &self,
+        tx: &mut Transaction<'_, S>,
+        unit: &UnitCode,
+    ) -> Result<usize, Error> {
+        run_counting(tx, texts::OVER_CHANGE, &change_cells(unit, self))
+    }
+
+    #[tactic(auto, using(crate::proofs::StoredLaws::change_new))]
+    fn insert<S: Alter>(&self, tx: &mut Transaction<'_, S>, unit: &UnitCode) -> Result<(), Error> {
+        run(tx, texts::PUT_CHANGE, &change_cells(unit, self))
+    }
+}
+
+impl Numbered for ChangeEntry {
+    ghost number = { change_number };
+
+    fn select_of_number() -> &'static str {
+        texts::CHANGE_AT
+    }
+}

@@ -1,8 +1,0 @@
-use Rattle.std.proofs.Common.{◌∙◌}
-use Rattle.plant_columns.specs.declared.tables.TableKind.TheVariants.{Events}
-use Rattle.plant_store.proofs.Queries.{if_ok}
-use Rattle.plant_store.proofs.unit.events.Goals as goal
-
-pub returns-clause-found : goal.returns-clause-found
-returns-clause-found g c honest m k =
-    if_ok c.all_rows.result (λ events h. h ∙ k.seen c.args.unit.now Events) (c.all_rows.ensures.rows honest.0 k.books)
