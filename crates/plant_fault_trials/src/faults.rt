@@ -123,8 +123,8 @@ fn serves_at_hand<B: Books + Drop>(
     hold_the_same(rt, &mut below, &mut theirs, &wanted.units, "below");
 }
 
-/// Makes the calls in one run over our books. If there is no memory for the answers, the books must be unchanged, and
-/// the run is made again.
+/// Serves the calls as one run over our books. If memory for the answers runs out, checks that the books are unchanged
+/// and serves the calls again.
 fn our_run<B: Books + Drop>(
     rt: &(impl Abort + AllocGlobal + Eprint),
     ours: B,

@@ -40,7 +40,7 @@ pub const PUT_OFFICE: &str = "INSERT INTO office (id, schema_no, admin) VALUES (
 
 pub const OFFICE_ROW: &str = "SELECT id, schema_no, admin FROM office";
 
-// All cells but the key of the row of a key, where there is one.
+// Updates the row that has this key, and leaves its key as it is.
 
 pub const OVER_UNIT: &str =
     "UPDATE units SET last_s = ?2, matrix_no = ?3, matrix_rev = ?4, quota = ?5 WHERE unit = ?1";
