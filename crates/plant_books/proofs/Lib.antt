@@ -1,6 +1,5 @@
 pub mod public
 mod ListedLaws
 mod PassingLaws
-mod RowsWithout
-mod ShelvedLaws
 mod NumbersAmong
+mod MadeLaws

@@ -2,12 +2,11 @@
 use Rattle.std.{specs.{Cmp.{tied_itself}, FinMap.Entries.{below_all, by_order, find as found, is_sorted, put}}, proofs.lemmas.List.{nil_from_length}}
 use Rattle.std.specs.{FinMap.{entries, entries-insert, entries_sorted, get, get-entries, keys, len-empty, len-entries}, List.{cons_option}}
 use Rattle.std.specs.Ordering.{eq_by_cmp}
-use Rattle.std.proofs.Common.{List, Some, T, [], ap, cond, false, map, refl, subst, sym, true, ◌++◌, ◌∙◌, ◌∷◌, ◌≡◌, flat_map, is_eq, is_lt, Err, IfSome, Ok, OnOk, Option, Result, filter_map, option_map, unwrap_or, Equal, Greater, Less, option_to_list, None}
+use Rattle.std.proofs.Common.{List, Some, T, [], ap, cond, false, map, refl, subst, sym, true, ◌++◌, ◌∙◌, ◌∷◌, ◌≡◌, flat_map, is_eq, is_lt, Err, Ok, OnOk, Option, Result, filter_map, option_map, unwrap_or, Equal, Greater, Less, option_to_list, None}
 use Rattle.plant_books.specs.Contents.{Content, after_changes, no_units, part_in, rows_in, with_rows}
-use Rattle.plant_books.specs.{Listed.{AllInOrder, IsListed, rows_at, unit_cmp}, declared.opened.OpenedUnit.{OpenedUnit}}
-use Rattle.plant_books.proofs.public.OrderLaws.{changed_in_order, or_none_in_order, put_all_in_order, rows_in_order}
+use Rattle.plant_books.specs.{Listed.{IsListed, rows_at}, declared.opened.OpenedUnit.{OpenedUnit}}
 use Rattle.plant_model.specs.{Worlds.{unit_named}, declared.call.Call.{Call}}
-use Rattle.plant_model.specs.steps.{Order.{AreInOrder}, Parts.{part_of}, RowChanges.{changed_by, no_rows}}
+use Rattle.plant_model.specs.steps.{Parts.{part_of}, RowChanges.{changed_by, no_rows}}
 use Rattle.plant_model.{specs.declared.rows.{RowEdit.{RowEdit}, UnitRows.{UnitRows}}, proofs.public.RowsFound.{less, turned}}
 use Rattle.plant_types.{specs.{KeyedRows.{put_row, row_at}, Names.{Name, name_cmp}, declared.fault.Fault.{Fault}}, proofs.public.Halves.{first}}
 use Rattle.plant_types.proofs.public.{Orders.{name_total, same_names}, Halves.{second}}
@@ -29,24 +28,23 @@ pub rows_listed : (admin u : Name) (opened : List OpenedUnit) (m : Content) → 
 rows_listed admin u opened m h = found_in u opened ∙ ap (found name_cmp u) h.units ∙ sym (get-entries m.units u)
 
 -- a unit is put as the map inserts it
-put_entry : (o : OpenedUnit) (os : List OpenedUnit) → map entry (put_row unit_cmp (λ o. o) o os) ≡ put name_cmp o.unit o.rows (map entry os)
+put_entry : (o : OpenedUnit) (os : List OpenedUnit) → map entry (put_row name_cmp (λ o. o.unit) o os) ≡ put name_cmp o.unit o.rows (map entry os)
 put_entry o [] = refl
 put_entry o (e ∷ es) =
     elim (name_cmp o.unit e.unit) as (λ v. name_cmp o.unit e.unit ≡ v
-    → map entry (by_order v (o ∷ e ∷ es) (o ∷ es) (e ∷ put_row unit_cmp (λ o. o) o es)) ≡ by_order v (entry o ∷ entry e ∷ map entry es)
+    → map entry (by_order v (o ∷ e ∷ es) (o ∷ es) (e ∷ put_row name_cmp (λ o. o.unit) o es)) ≡ by_order v (entry o ∷ entry e ∷ map entry es)
     ((e.unit, o.rows) ∷ map entry es) (entry e ∷ put name_cmp o.unit o.rows (map entry es))) [
       | Less ↦ λ p. refl
       | Equal ↦ λ p. ap (λ (k : Name). let pair : Name × UnitRows = (k, o.rows) in pair ∷ map entry es) (same_names _ _ p)
       | Greater ↦ λ p. ap (λ xs. entry e ∷ xs) (put_entry o es)
     ] refl
 
-pub put_listed : (admin u : Name) (rows : UnitRows) (opened : List OpenedUnit) (m : Content) → AreInOrder rows → IsListed admin opened m
-    → IsListed admin (put_row unit_cmp (λ o. o) record { unit = u; rows = rows } opened) (with_rows m u rows)
-put_listed admin u rows opened m order h =
+pub put_listed : (admin u : Name) (rows : UnitRows) (opened : List OpenedUnit) (m : Content) → IsListed admin opened m
+    → IsListed admin (put_row name_cmp (λ o. o.unit) record { unit = u; rows = rows } opened) (with_rows m u rows)
+put_listed admin u rows opened m h =
     record {
       admin = h.admin;
       units = put_entry record { unit = u; rows = rows } opened ∙ ap (put name_cmp u rows) h.units ∙ sym (entries-insert name_total m.units u rows);
-      ordered = put_all_in_order record { unit = u; rows = rows } opened order h.ordered;
     }
 
 pub none_listed : (admin : Name) (opened : List OpenedUnit) → opened ≡ [] → IsListed admin opened (no_units admin)
@@ -55,7 +53,6 @@ none_listed admin opened none =
       admin = refl;
       units = ap (map entry) none
           ∙ sym (nil_from_length (entries (no_units admin).units) (sym (len-entries (no_units admin).units) ∙ len-empty name_cmp UnitRows));
-      ordered = subst AllInOrder (sym none) tt;
     }
 
 -- what is said of each code with what is found there, is said of each unit of the list with its rows: each entry is found by a look-up
@@ -121,16 +118,14 @@ part_listed admin u v opened m c h is named =
 
 pub made_listed : (r : Result (Unit {0}) Fault) (admin u : Name) (opened left : List OpenedUnit) (m : Content) (cs : List RowEdit)
     → IsListed admin opened m
-    → OnOk r (left ≡ put_row unit_cmp (λ o. o) record { unit = u; rows = changed_by cs (unwrap_or (rows_at opened u) no_rows) } opened)
+    → OnOk r (left ≡ put_row name_cmp (λ o. o.unit) record { unit = u; rows = changed_by cs (unwrap_or (rows_at opened u) no_rows) } opened)
     → OnOk r (IsListed admin left (after_changes m u cs))
 made_listed (Ok x) admin u opened left m cs h is =
     let there = ap (λ o. changed_by cs (unwrap_or o no_rows)) (rows_listed admin u opened m h) in
     subst (λ os. IsListed admin os (after_changes m u cs)) (sym is)
-    (subst (λ (rows : UnitRows). IsListed admin (put_row unit_cmp (λ o. o) record {
+    (subst (λ (rows : UnitRows). IsListed admin (put_row name_cmp (λ o. o.unit) record {
       unit = u;
       rows = rows;
     } opened) (after_changes m u cs)) (sym there)
-    (put_listed admin u (changed_by cs (rows_in m u)) opened m
-    (changed_in_order cs (rows_in m u)
-    (or_none_in_order (get m.units u) (subst (λ o. IfSome o AreInOrder) (rows_listed admin u opened m h) (rows_in_order u opened h.ordered)))) h))
+    (put_listed admin u (changed_by cs (rows_in m u)) opened m h))
 made_listed (Err e) admin u opened left m cs h is = tt

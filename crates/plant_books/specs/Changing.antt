@@ -1,18 +1,8 @@
--- Changes of a unit's rows, one after another.
-use Rattle.std.specs.{List.{list_any}, Prelude.{Bool, List, OnOk, Result, false, true, ◌≡◌}}
-use Rattle.plant_model.specs.declared.rows.{Row.{Row}, UnitRows.{UnitRows}}
-use Rattle.plant_model.specs.steps.{Order.{AreInOrder}, RowChanges.{changed, put}}
+-- Changes that put events.
+use Rattle.std.specs.{List.{list_any}, Prelude.{Bool, List, false, true}}
 use Rattle.plant_model.specs.declared.rows.Row.TheVariants.{Alarm as AlarmPut, Band as BandPut, Cell as CellPut, Change as ChangePut}
 use Rattle.plant_model.specs.declared.rows.Row.TheVariants.{Event as EventPut, Grant as GrantPut, Record as RecordPut, Shelf as ShelfPut, Unit as UnitPut}
 use Rattle.plant_model.specs.declared.rows.RowEdit.{RowEdit, TheVariants.{Put, PutEvents, Remove}}
-
--- of rows in the order of their keys: if it succeeds, the row is put among them
-abbrev pub PutsRow : {A E : Type 0} → Row → UnitRows → UnitRows → Result A E → Type 0
-PutsRow row before after said = AreInOrder before → OnOk said (after ≡ put row before)
-
--- of rows in the order of their keys: if it succeeds, the change is made of them
-abbrev pub MakesChange : {A E : Type 0} → RowEdit → UnitRows → UnitRows → Result A E → Type 0
-MakesChange change before after said = AreInOrder before → OnOk said (after ≡ changed change before)
 
 -- a change that puts an event, or a list of events, be it empty
 abbrev pub is_event_put : RowEdit → Bool

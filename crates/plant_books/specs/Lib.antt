@@ -5,6 +5,5 @@ pub mod Asking
 pub mod Listed
 pub mod Changing
 pub mod Found
-pub mod Keyed
 pub mod Numbered
 pub mod Crashes

@@ -1,23 +1,14 @@
 -- Books in a list of units.
-use Rattle.std.specs.{FinMap.{entries}, List.{AllByRecursion}, Prelude.{List, Option, Some, filter_map, flat_map, map, option_map, unwrap_or, ℕ, ◌≡◌}}
-use Rattle.std.specs.declared.cmp.Ordering.{Ordering}
+use Rattle.std.specs.{FinMap.{entries}, Prelude.{List, Option, Some, filter_map, flat_map, map, option_map, unwrap_or, ℕ, ◌≡◌}}
 use Rattle.plant_books.specs.{Contents.{Content, is_held_in, mine_unit, shelves_mine}, declared.books.{MineRow.{MineRow}, MineUnit.{MineUnit}}}
 use Rattle.plant_books.specs.declared.opened.OpenedUnit.{OpenedUnit}
 use Rattle.plant_model.specs.declared.rows.{RowEdit.{RowEdit}, UnitRows.{UnitRows}}
-use Rattle.plant_model.specs.steps.{Order.{AreInOrder}, RowChanges.{changed_by, no_rows}}
+use Rattle.plant_model.specs.steps.RowChanges.{changed_by, no_rows}
 use Rattle.plant_types.specs.{KeyedRows.{put_row, row_at}, Names.{Name, name_cmp}, Options.{when}}
-
--- units by their codes
-abbrev pub unit_cmp : OpenedUnit → OpenedUnit → Ordering
-unit_cmp a b = name_cmp a.unit b.unit
 
 -- the rows of the unit with a code
 abbrev pub rows_at : List OpenedUnit → Name → Option UnitRows
 rows_at opened u = option_map (λ o. o.rows) (row_at name_cmp (λ o. o.unit) u opened)
-
--- the rows of each unit are in the order of their keys
-abbrev pub AllInOrder : List OpenedUnit → Type 0
-AllInOrder opened = AllByRecursion (λ o. AreInOrder o.rows) opened
 
 -- the codes of the units in which the person holds a role at the moment
 abbrev pub listed_codes : List OpenedUnit → ℕ → Name → List Name
@@ -37,11 +28,9 @@ opened_after opened u cs = record { unit = u; rows = changed_by cs (unwrap_or (r
 
 -- the list with this unit, which is put among the others if it was never opened
 abbrev pub listed_after : List OpenedUnit → Name → List RowEdit → List OpenedUnit
-listed_after opened u cs = put_row unit_cmp (λ o. o) (opened_after opened u cs) opened
+listed_after opened u cs = put_row name_cmp (λ o. o.unit) (opened_after opened u cs) opened
 
--- the administrator is that of the content, and the units are its codes with their rows, in the order of codes; the
--- rows of each are in the order of their keys
+-- the administrator is that of the content, and the units are its codes with their rows, in the order of codes
 pub record IsListed (administrator : Name) (opened : List OpenedUnit) (m : Content) : Type 0 where
   pub admin : administrator ≡ m.admin
   pub units : map (λ o. (o.unit, o.rows)) opened ≡ entries m.units
-  pub ordered : AllInOrder opened

@@ -7,7 +7,7 @@ ghost use Rattle.std.specs.FinMap as fin;
 
 use plant_alarm::Event;
 use plant_model::{Call, Changes, ShelfRow, UnitPart, UnitRows};
-use plant_types::{Fault, List, Moment, Person, Role, UnitCode};
+use plant_types::{Fault, List, Moment, Person, Role, Sorted, UnitCode};
 
 /// A unit in which a person holds roles, with its last moment.
 #[derive(Drop)]
@@ -88,7 +88,7 @@ pub trait Books {
         ensures count { CountsBy stores self.old self.new result };
 
     /// All events of the unit, none where it was never opened.
-    fn events(&mut self, unit: &UnitCode) -> Result<List<Event>, Fault>
+    fn events(&mut self, unit: &UnitCode) -> Result<Sorted<Event>, Fault>
         ensures found { Finds represents is_honest self.old self.new result
             (λ m. events_in m unit.now) }
         ensures same { Keeps represents self.old self.new }

@@ -6,12 +6,10 @@ mod books;
 mod changes;
 mod found;
 mod grants;
-mod keyed;
 mod numbered;
 mod opened;
 mod parts;
 mod plain;
-mod rows;
 mod scope_numbers;
 
 pub use asking::{
@@ -21,8 +19,8 @@ pub use asking::{
 pub use books::{Books, MineRow, MineUnit};
 pub use changes::{after_changes, puts_event};
 pub use found::shelved_alarms;
+pub use numbered::Numbered;
 pub use opened::push_shelves;
 pub use parts::{events_asked, part_of, part_of_grants, rows_but_history};
 pub use plain::{Plain, count_after};
-pub use rows::are_in_order;
 pub use scope_numbers::{change_numbers, matrix_numbers};

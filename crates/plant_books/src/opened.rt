@@ -1,18 +1,17 @@
-ghost use Rattle.std.specs.Prelude.{◌≡◌, IfOk, IfSome, OnErr, OnOk, is_some, option_map, unwrap_or};
+ghost use Rattle.std.specs.Prelude.{◌≡◌, IfOk, OnErr, OnOk, is_some, option_map, unwrap_or};
 ghost use Rattle.plant_books.specs.Contents.{AddsShelves, without_history};
-ghost use Rattle.plant_books.specs.Listed.{AllInOrder, listed_after, listed_codes, listed_shelves, listed_units, rows_at};
-ghost use Rattle.plant_model.specs.steps.{Order.{AreInOrder, TagsRise}, Parts.{part_of as the_part}, RowChanges.{no_rows}, RowFacts.{alarm_tag, unit_read}};
+ghost use Rattle.plant_books.specs.Listed.{listed_after, listed_codes, listed_shelves, listed_units, rows_at};
+ghost use Rattle.plant_model.specs.steps.{Parts.{part_of as the_part}, RowChanges.{no_rows}, RowFacts.{unit_read}};
 ghost use Rattle.plant_types.specs.Results.{Gives, OnlyMemory};
 ghost use Rattle.plant_model.specs.steps.RowFacts as facts;
 
 use crate::books::{MineRow, MineUnit};
 use crate::changes::after_changes;
 use crate::grants::{holds_role, roles_held};
-use crate::keyed::{Keyed, put};
 use crate::parts::{part_of, rows_but_history};
 use plant_alarm::Event;
-use plant_model::{AlarmRow, Call, RowEdit, UnitPart, UnitRows, row_of};
-use plant_types::{Fault, List, Moment, Person, Tag, TryCopy, UnitCode};
+use plant_model::{AlarmRow, Call, RowEdit, UnitPart, UnitRows};
+use plant_types::{Fault, Keyed, List, Moment, Person, Sorted, Tag, TryCopy, UnitCode};
 use std::alloc::Global;
 use std::cmp::Ordering;
 
@@ -24,17 +23,29 @@ pub struct OpenedUnit {
 }
 
 impl Keyed for OpenedUnit {
-    ghost use Rattle.plant_books.specs.Listed.{unit_cmp};
+    ghost use Rattle.plant_types.{specs.Names.{name_cmp}, proofs.public.Orders.{name_total, same_names}};
 
-    ghost order = { unit_cmp };
+    type Key = UnitCode;
 
-    fn key_cmp(&self, other: &OpenedUnit) -> Ordering {
+    ghost order = { name_cmp };
+
+    ghost key = { λ o. o.unit };
+
+    ghost total = { name_total };
+
+    ghost only = { same_names };
+
+    fn key_cmp(&self, other: &UnitCode) -> Ordering {
+        self.unit.cmp(other)
+    }
+
+    fn row_cmp(&self, other: &OpenedUnit) -> Ordering {
         self.unit.cmp(&other.unit)
     }
 }
 
 /// The rows of a unit, if it was opened.
-pub fn rows_of<'a>(units: &'a List<OpenedUnit>, unit: &UnitCode) -> Option<&'a UnitRows>
+pub fn rows_of<'a>(units: &'a Sorted<OpenedUnit>, unit: &UnitCode) -> Option<&'a UnitRows>
     ensures { option_map (λ rows. rows.now) result ≡ rows_at units.now unit.now }
 {
     units
@@ -45,7 +56,7 @@ pub fn rows_of<'a>(units: &'a List<OpenedUnit>, unit: &UnitCode) -> Option<&'a U
 }
 
 /// Whether the unit was opened.
-pub fn is_opened(units: &List<OpenedUnit>, unit: &UnitCode) -> bool
+pub fn is_opened(units: &Sorted<OpenedUnit>, unit: &UnitCode) -> bool
     ensures { result ≡ is_some (rows_at units.now unit.now) }
 {
     rows_of(units, unit).is_some()
@@ -54,7 +65,7 @@ pub fn is_opened(units: &List<OpenedUnit>, unit: &UnitCode) -> bool
 /// A copy of the rows of a unit, if it was opened.
 pub fn copy_of(
     alloc: Global,
-    units: &List<OpenedUnit>,
+    units: &Sorted<OpenedUnit>,
     unit: &UnitCode,
 ) -> Result<Option<UnitRows>, Fault>
     ensures value { IfOk result (λ rows. rows ≡ rows_at units.now unit.now) }
@@ -69,7 +80,7 @@ pub fn copy_of(
 /// A copy of the rows of a unit but its history, if it was opened.
 pub fn copy_but_history(
     alloc: Global,
-    units: &List<OpenedUnit>,
+    units: &Sorted<OpenedUnit>,
     unit: &UnitCode,
 ) -> Result<Option<UnitRows>, Fault>
     ensures value { Gives result (option_map without_history (rows_at units.now unit.now)) }
@@ -84,14 +95,14 @@ pub fn copy_but_history(
 /// A copy of the events of a unit, none where it was never opened.
 pub fn events_of(
     alloc: Global,
-    units: &List<OpenedUnit>,
+    units: &Sorted<OpenedUnit>,
     unit: &UnitCode,
-) -> Result<List<Event>, Fault>
+) -> Result<Sorted<Event>, Fault>
     ensures value { Gives result (unwrap_or (rows_at units.now unit.now) no_rows).events }
     ensures memory { OnlyMemory result }
 {
     match rows_of(units, unit) {
-        None => Ok(List::new(alloc)),
+        None => Ok(Sorted::new(alloc)),
         Some(rows) => rows.events.copy(alloc),
     }
 }
@@ -99,12 +110,11 @@ pub fn events_of(
 /// The part of a unit's rows that the call looks at, if the unit was opened.
 pub fn part_at(
     alloc: Global,
-    units: &List<OpenedUnit>,
+    units: &Sorted<OpenedUnit>,
     unit: &UnitCode,
     call: &Call,
 ) -> Result<Option<UnitPart>, Fault>
-    ensures value { IfSome (rows_at units.now unit.now) AreInOrder
-        → Gives result (option_map (the_part call.now) (rows_at units.now unit.now)) }
+    ensures value { Gives result (option_map (the_part call.now) (rows_at units.now unit.now)) }
 {
     match rows_of(units, unit) {
         None => Ok(None),
@@ -125,7 +135,7 @@ fn last_moment(rows: &UnitRows) -> Moment
 /// The codes of the units in which the person holds a role at the moment.
 pub fn codes_held(
     alloc: Global,
-    units: &List<OpenedUnit>,
+    units: &Sorted<OpenedUnit>,
     person: &Person,
     now: Moment,
 ) -> Result<List<UnitCode>, Fault>
@@ -144,7 +154,7 @@ pub fn codes_held(
 /// The units in which the person holds a role at the moment, with the roles.
 pub fn units_held(
     alloc: Global,
-    units: &List<OpenedUnit>,
+    units: &Sorted<OpenedUnit>,
     person: &Person,
     now: Moment,
 ) -> Result<List<MineUnit>, Fault>
@@ -164,11 +174,11 @@ pub fn units_held(
     Ok(mine)
 }
 
-/// When the alarm of the tag last returned to normal, of alarms in the order of their tags.
-fn return_of(alarms: &[AlarmRow], tag: &Tag) -> Option<Moment>
-    ensures { TagsRise alarm_tag alarms.now → result ≡ facts.last_return_in alarms.now tag.now }
+/// When the alarm of the tag last returned to normal.
+fn return_of(alarms: &Sorted<AlarmRow>, tag: &Tag) -> Option<Moment>
+    ensures { result ≡ facts.last_return_in alarms.now tag.now }
 {
-    row_of(alarms, tag).and_then(|alarm| alarm.return_s)
+    alarms.get(tag).and_then(|alarm| alarm.return_s)
 }
 
 /// Puts the shelves of a unit at the end.
@@ -178,15 +188,14 @@ pub fn push_shelves(
     unit: &UnitCode,
     rows: &UnitRows,
 ) -> Result<(), Fault>
-    ensures pushed { AreInOrder rows.now → AddsShelves unit.now rows.now mine.old mine.new result }
+    ensures pushed { AddsShelves unit.now rows.now mine.old mine.new result }
     ensures memory { OnlyMemory result }
 {
-    let alarms = rows.alarms.as_slice();
     for shelf in rows.shelves.as_slice() {
         mine.push(MineRow {
             unit: unit.copy(alloc)?,
             shelf: shelf.copy(alloc)?,
-            last_return: return_of(alarms, &shelf.tag),
+            last_return: return_of(&rows.alarms, &shelf.tag),
         })?;
     }
     Ok(())
@@ -195,11 +204,11 @@ pub fn push_shelves(
 /// The shelves of the units in which the person holds a role at the moment.
 pub fn shelves_held(
     alloc: Global,
-    units: &List<OpenedUnit>,
+    units: &Sorted<OpenedUnit>,
     person: &Person,
     now: Moment,
 ) -> Result<List<MineRow>, Fault>
-    ensures value { AllInOrder units.now → Gives result (listed_shelves units.now now person.now) }
+    ensures value { Gives result (listed_shelves units.now now person.now) }
     ensures memory { OnlyMemory result }
 {
     let mut mine = List::new(alloc);
@@ -213,15 +222,13 @@ pub fn shelves_held(
 
 /// Makes the changes to the rows of a unit, which is put among the others where it was never
 /// opened. If memory runs out, nothing changes.
-#[tactic(auto, using(crate::proofs::public::OrderLaws::or_none_in_order, crate::proofs::public::OrderLaws::rows_in_order))]
 pub fn change_unit(
     alloc: Global,
-    units: &mut List<OpenedUnit>,
+    units: &mut Sorted<OpenedUnit>,
     unit: &UnitCode,
     changes: &List<RowEdit>,
 ) -> Result<(), Fault>
-    ensures made { AllInOrder units.old
-        → OnOk result (units.new ≡ listed_after units.old unit.now changes.now) }
+    ensures made { OnOk result (units.new ≡ listed_after units.old unit.now changes.now) }
     ensures unchanged { OnErr result (units.new ≡ units.old) }
     ensures memory { OnlyMemory result }
 {
@@ -230,5 +237,5 @@ pub fn change_unit(
         unit: unit.copy(alloc)?,
         rows: after_changes(alloc, rows, changes)?,
     };
-    put(units, opened)
+    units.put(opened)
 }

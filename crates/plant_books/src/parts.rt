@@ -1,9 +1,9 @@
 ghost use Rattle.std.specs.Prelude.{◌≡◌, ◌<◌, ◌^◌, IfOk, filter, option_copied, true};
 ghost use Rattle.plant_books.specs.{Asking.{alarms_wanted, IsApprovedBy, changes_by, events_wanted, grants_by, rows_by}, Contents.{without_history}};
-ghost use Rattle.plant_model.specs.steps.Order.{AreInOrder, ChangesRise, EventsRise, TagsRise};
 ghost use Rattle.plant_model.specs.steps.Parts.{counted_for, is_crowded as is_crowded_in, part_of as the_part, part_of_holder as holders_part, selected};
-ghost use Rattle.plant_model.specs.steps.{RowChanges.{no_rows}, RowFacts.{alarm_tag, last_number as last_number_of, shelf_tag}};
+ghost use Rattle.plant_model.specs.steps.{RowChanges.{no_rows}, RowFacts.{last_number as last_number_of}};
 ghost use Rattle.plant_model.specs.steps.Scopes.{is_shelving as is_shelving_by, selection_by};
+ghost use Rattle.plant_import.specs.Needed.{needed as needed_of};
 ghost use Rattle.plant_types.specs.{Names.{Name, same_name}, Results.{Gives, OnlyMemory}};
 
 use crate::asking::{
@@ -17,10 +17,9 @@ use plant_alarm::Event;
 use plant_import::needed;
 use plant_model::{
     AlarmRow, BandRow, Call, CellRow, ChangeEntry, Counted, GrantRow, RecordEntry, Request, Scope,
-    ShelfRow, UnitPart, UnitRow, UnitRows, change_at, holds_some_by, is_shelving, number_approved,
-    scope_of,
+    ShelfRow, UnitPart, UnitRow, UnitRows, holds_some_by, is_shelving, number_approved, scope_of,
 };
-use plant_types::{Fault, List, Person, TryCopy, copy_all};
+use plant_types::{Fault, List, Person, Sorted, TryCopy, copy_all};
 use std::alloc::Global;
 
 /// A copy of the rows of a unit but its history.
@@ -34,10 +33,10 @@ pub fn rows_but_history(alloc: Global, rows: &UnitRows) -> Result<UnitRows, Faul
         alarms: rows.alarms.copy(alloc)?,
         shelves: rows.shelves.copy(alloc)?,
         records: rows.records.copy(alloc)?,
-        events: List::new(alloc),
-        bands: List::new(alloc),
-        cells: List::new(alloc),
-        changes: List::new(alloc),
+        events: Sorted::new(alloc),
+        bands: Sorted::new(alloc),
+        cells: Sorted::new(alloc),
+        changes: Sorted::new(alloc),
     })
 }
 
@@ -47,7 +46,7 @@ fn grants_asked(
     rows: &UnitRows,
     person: &Person,
     scope: Scope<'_>,
-) -> Result<List<GrantRow>, Fault>
+) -> Result<Sorted<GrantRow>, Fault>
     ensures value { Gives result (grants_by person.now rows.now scope.entry) }
     ensures memory { OnlyMemory result }
 {
@@ -58,54 +57,66 @@ fn grants_asked(
             asked.push(grant.copy(alloc)?)?;
         }
     }
-    Ok(asked)
+    Ok(Sorted::of(asked))
 }
 
-/// The alarms that are wanted, of all of a unit with these shelves, both in the order of their tags.
+/// The alarms that are wanted, of all of a unit with these shelves.
 fn alarms_asked(
     alloc: Global,
-    alarms: &List<AlarmRow>,
-    shelves: &List<ShelfRow>,
+    alarms: &Sorted<AlarmRow>,
+    shelves: &Sorted<ShelfRow>,
     wanted: WantedAlarms<'_>,
-) -> Result<List<AlarmRow>, Fault>
-    ensures value { TagsRise alarm_tag alarms.now → TagsRise shelf_tag shelves.now
-        → Gives result (alarms_wanted wanted.entry shelves.now alarms.now) }
+) -> Result<Sorted<AlarmRow>, Fault>
+    ensures value { Gives result (alarms_wanted wanted.entry shelves.now alarms.now) }
     ensures memory { OnlyMemory result }
 {
     match wanted {
         WantedAlarms::Those(tags) => rows_wanted(alloc, alarms, &tags),
-        WantedAlarms::Shelved => shelved_alarms(alloc, alarms.as_slice(), shelves.as_slice()),
+        WantedAlarms::Shelved => shelved_alarms(alloc, alarms, shelves),
     }
 }
 
-/// The events that are wanted, of all in rising number.
+/// Copies of the events that a file of these rows is seen beside.
+fn events_needed(
+    alloc: Global,
+    events: &Sorted<Event>,
+    rows: &[Event],
+) -> Result<Sorted<Event>, Fault>
+    ensures value { Gives result (needed_of events.now rows.now) }
+    ensures memory { OnlyMemory result }
+{
+    let some = needed(alloc, events, rows)?;
+    Ok(Sorted::of(copy_all(alloc, some)?))
+}
+
+/// The events that are wanted.
 pub fn events_asked(
     alloc: Global,
-    events: &List<Event>,
+    events: &Sorted<Event>,
     wanted: WantedEvents<'_>,
-) -> Result<List<Event>, Fault>
-    ensures value { EventsRise events.now → Gives result (events_wanted wanted.entry events.now) }
+) -> Result<Sorted<Event>, Fault>
+    ensures value { Gives result (events_wanted wanted.entry events.now) }
     ensures memory { OnlyMemory result }
 {
     match wanted {
-        WantedEvents::Nothing => Ok(List::new(alloc)),
-        WantedEvents::Beside(rows) => copy_all(alloc, needed(alloc, events.as_slice(), rows)?),
+        WantedEvents::Nothing => Ok(Sorted::new(alloc)),
+        WantedEvents::Beside(rows) => events_needed(alloc, events, rows),
         WantedEvents::Every => events.copy(alloc),
     }
 }
 
 /// The changes that the scope takes in.
-#[tactic(auto, using(crate::proofs::PassingLaws::passing_as, crate::proofs::public::NumberRanges::changes_rise, crate::proofs::public::NumberRanges::taken))]
+#[tactic(auto, using(crate::proofs::PassingLaws::passing_as))]
 fn changes_asked(
     alloc: Global,
     rows: &UnitRows,
     scope: Scope<'_>,
-) -> Result<List<ChangeEntry>, Fault>
-    ensures value { ChangesRise rows.now.changes → Gives result (changes_by rows.now scope.entry) }
+) -> Result<Sorted<ChangeEntry>, Fault>
+    ensures value { Gives result (changes_by rows.now scope.entry) }
     ensures memory { OnlyMemory result }
 {
     let numbers = change_numbers(alloc, rows.records.as_slice(), scope)?;
-    rows_of_numbers(alloc, rows.changes.as_slice(), &numbers)
+    rows_of_numbers(alloc, &rows.changes, &numbers)
 }
 
 /// The unit's own row, and the grants and alarms that the scope takes in.
@@ -114,8 +125,8 @@ fn grants_and_alarms_asked(
     rows: &UnitRows,
     person: &Person,
     scope: Scope<'_>,
-) -> Result<(List<UnitRow>, List<GrantRow>, List<AlarmRow>), Fault>
-    ensures value { AreInOrder rows.now → IfOk result (λ asked.
+) -> Result<(List<UnitRow>, Sorted<GrantRow>, Sorted<AlarmRow>), Fault>
+    ensures value { IfOk result (λ asked.
         (asked.0 ≡ (rows_by person.now rows.now scope.entry).units)
         × (asked.1 ≡ (rows_by person.now rows.now scope.entry).grants)
         × (asked.2 ≡ (rows_by person.now rows.now scope.entry).alarms)) }
@@ -133,8 +144,8 @@ fn shelves_events_and_records_asked(
     alloc: Global,
     rows: &UnitRows,
     scope: Scope<'_>,
-) -> Result<(List<ShelfRow>, List<Event>, List<RecordEntry>), Fault>
-    ensures value { (p : Name) → AreInOrder rows.now → IfOk result (λ asked.
+) -> Result<(Sorted<ShelfRow>, Sorted<Event>, Sorted<RecordEntry>), Fault>
+    ensures value { (p : Name) → IfOk result (λ asked.
         (asked.0 ≡ (rows_by p rows.now scope.entry).shelves)
         × (asked.1 ≡ (rows_by p rows.now scope.entry).events)
         × (asked.2 ≡ (rows_by p rows.now scope.entry).records)) }
@@ -152,16 +163,16 @@ fn matrices_asked(
     alloc: Global,
     rows: &UnitRows,
     scope: Scope<'_>,
-) -> Result<(List<BandRow>, List<CellRow>), Fault>
-    ensures value { (p : Name) → AreInOrder rows.now → IfOk result (λ asked.
+) -> Result<(Sorted<BandRow>, Sorted<CellRow>), Fault>
+    ensures value { (p : Name) → IfOk result (λ asked.
         (asked.0 ≡ (rows_by p rows.now scope.entry).bands)
         × (asked.1 ≡ (rows_by p rows.now scope.entry).cells)) }
     ensures memory { OnlyMemory result }
 {
     let matrices = matrix_numbers(alloc, &rows.units, scope)?;
     Ok((
-        rows_of_numbers(alloc, rows.bands.as_slice(), &matrices)?,
-        rows_of_numbers(alloc, rows.cells.as_slice(), &matrices)?,
+        rows_of_numbers(alloc, &rows.bands, &matrices)?,
+        rows_of_numbers(alloc, &rows.cells, &matrices)?,
     ))
 }
 
@@ -172,7 +183,7 @@ fn rows_asked(
     person: &Person,
     scope: Scope<'_>,
 ) -> Result<UnitRows, Fault>
-    ensures value { AreInOrder rows.now → Gives result (rows_by person.now rows.now scope.entry) }
+    ensures value { Gives result (rows_by person.now rows.now scope.entry) }
     ensures memory { OnlyMemory result }
 {
     let (units, grants, alarms) = grants_and_alarms_asked(alloc, rows, person, scope)?;
@@ -201,14 +212,14 @@ fn is_crowded_by(rows: &UnitRows, request: &Request) -> bool
 
 /// The change that the request approves, if it is there.
 fn approved_by<'a>(rows: &'a UnitRows, request: &Request) -> Option<&'a ChangeEntry>
-    ensures { AreInOrder rows.now → IsApprovedBy rows.now request.now (option_copied result) }
+    ensures { IsApprovedBy rows.now request.now (option_copied result) }
 {
-    number_approved(request).and_then(|number| change_at(rows.changes.as_slice(), number))
+    number_approved(request).and_then(|number| rows.changes.get(&number))
 }
 
 /// What the request looks at in a unit of these rows.
 fn scope_in<'a>(rows: &'a UnitRows, request: &'a Request) -> Scope<'a>
-    ensures { AreInOrder rows.now → selection_by rows.now result ≡ selected rows.now request.now }
+    ensures { selection_by rows.now result ≡ selected rows.now request.now }
 {
     scope_of(
         request,
@@ -247,7 +258,7 @@ fn count_asked(rows: &UnitRows, call: &Call) -> Result<u32, Fault>
 
 /// The part of a caller who holds a role.
 fn part_of_holder(alloc: Global, rows: &UnitRows, call: &Call) -> Result<UnitPart, Fault>
-    ensures value { AreInOrder rows.now → Gives result (holders_part call.now rows.now) }
+    ensures value { Gives result (holders_part call.now rows.now) }
     ensures memory { counted_for rows.now call.now.request < 2 ^ 32 → OnlyMemory result }
 {
     let count = count_asked(rows, call)?;
@@ -260,9 +271,9 @@ fn part_of_holder(alloc: Global, rows: &UnitRows, call: &Call) -> Result<UnitPar
 /// The caller's grants.
 fn own_grants(
     alloc: Global,
-    grants: &List<GrantRow>,
+    grants: &Sorted<GrantRow>,
     person: &Person,
-) -> Result<List<GrantRow>, Fault>
+) -> Result<Sorted<GrantRow>, Fault>
     ensures value { Gives result (filter (λ g. same_name person.now g.person) grants.now) }
     ensures memory { OnlyMemory result }
 {
@@ -272,11 +283,11 @@ fn own_grants(
             own.push(grant.copy(alloc)?)?;
         }
     }
-    Ok(own)
+    Ok(Sorted::of(own))
 }
 
 /// A part of the unit's own row and the caller's grants, and of nothing else.
-pub fn part_of_grants(alloc: Global, units: List<UnitRow>, grants: List<GrantRow>) -> UnitPart
+pub fn part_of_grants(alloc: Global, units: List<UnitRow>, grants: Sorted<GrantRow>) -> UnitPart
     ensures rows { result.rows ≡ record no_rows { units = units; grants = grants } }
     ensures count { result.count ≡ 0 }
 {
@@ -284,13 +295,13 @@ pub fn part_of_grants(alloc: Global, units: List<UnitRow>, grants: List<GrantRow
         rows: UnitRows {
             units,
             grants,
-            alarms: List::new(alloc),
-            shelves: List::new(alloc),
-            events: List::new(alloc),
-            bands: List::new(alloc),
-            cells: List::new(alloc),
-            records: List::new(alloc),
-            changes: List::new(alloc),
+            alarms: Sorted::new(alloc),
+            shelves: Sorted::new(alloc),
+            events: Sorted::new(alloc),
+            bands: Sorted::new(alloc),
+            cells: Sorted::new(alloc),
+            records: Sorted::new(alloc),
+            changes: Sorted::new(alloc),
         },
         count: 0,
     }
@@ -299,7 +310,7 @@ pub fn part_of_grants(alloc: Global, units: List<UnitRow>, grants: List<GrantRow
 /// The part of a unit's rows that the call looks at: of a caller who holds no role the unit's own row and the
 /// caller's grants alone. It is a fault of the store where the unit has more rows than a part can count.
 pub fn part_of(alloc: Global, rows: &UnitRows, call: &Call) -> Result<UnitPart, Fault>
-    ensures value { AreInOrder rows.now → Gives result (the_part call.now rows.now) }
+    ensures value { Gives result (the_part call.now rows.now) }
     ensures memory { counted_for rows.now call.now.request < 2 ^ 32 → OnlyMemory result }
 {
     if holds_some_by(rows.grants.as_slice(), &call.person, call.moment) {

@@ -8,7 +8,7 @@ use crate::opened::{
 };
 use plant_alarm::Event;
 use plant_model::{Call, Changes, UnitPart, UnitRows};
-use plant_types::{Fault, List, Moment, Person, UnitCode};
+use plant_types::{Fault, List, Moment, Person, Sorted, UnitCode};
 use std::alloc::Global;
 
 /// The count of answers `Store`, after this fault.
@@ -40,7 +40,7 @@ fn counted<T: Drop>(stores: &mut u64, said: Result<T, Fault>) -> Result<T, Fault
 #[derive(Drop)]
 pub struct Plain {
     administrator: Person,
-    units: List<OpenedUnit>,
+    units: Sorted<OpenedUnit>,
     stores: u64,
     alloc: Global,
 }
@@ -53,7 +53,7 @@ impl Plain {
     {
         Plain {
             administrator,
-            units: List::new(alloc),
+            units: Sorted::new(alloc),
             stores: 0,
             alloc,
         }
@@ -96,7 +96,7 @@ impl Books for Plain {
         copy_but_history(self.alloc, &self.units, unit)
     }
 
-    fn events(&mut self, unit: &UnitCode) -> Result<List<Event>, Fault> {
+    fn events(&mut self, unit: &UnitCode) -> Result<Sorted<Event>, Fault> {
         events_of(self.alloc, &self.units, unit)
     }
 

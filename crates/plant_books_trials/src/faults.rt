@@ -74,11 +74,11 @@ impl Same for ChangeEntry {
     }
 }
 
-fn are_same<T: Same>(some: &List<T>, other: &List<T>) -> bool {
+fn are_same<T: Same>(some: &[T], other: &[T]) -> bool {
     if some.len() != other.len() {
         return false;
     }
-    for (row, other) in some.as_slice().iter().zip(other.as_slice()) {
+    for (row, other) in some.iter().zip(other) {
         if !row.is_same(other) {
             return false;
         }
@@ -91,11 +91,11 @@ fn are_rows(some: &UnitRows, other: &UnitRows) -> bool {
         && some.bands.as_slice() == other.bands.as_slice()
         && some.cells.as_slice() == other.cells.as_slice()
         && some.events.as_slice() == other.events.as_slice()
-        && are_same(&some.grants, &other.grants)
-        && are_same(&some.alarms, &other.alarms)
-        && are_same(&some.shelves, &other.shelves)
-        && are_same(&some.records, &other.records)
-        && are_same(&some.changes, &other.changes)
+        && are_same(some.grants.as_slice(), other.grants.as_slice())
+        && are_same(some.alarms.as_slice(), other.alarms.as_slice())
+        && are_same(some.shelves.as_slice(), other.shelves.as_slice())
+        && are_same(some.records.as_slice(), other.records.as_slice())
+        && are_same(some.changes.as_slice(), other.changes.as_slice())
 }
 
 /// Whether a unit has the same rows, or none both times.

@@ -124,32 +124,70 @@ fn hold_first(
     hold_alike(found, &mut lists, &wanted.units).expect(rt, "rows")
 }
 
-/// One session on these disks, with rows at hand, and then a power cut. The next start finds what was answered, or that
-/// and the call that was being served; nothing was lost if all was answered. Gives how many were answered.
+/// One session over these books, with rows at hand: how many exchanges were answered, and the books.
+fn served<B: Books + Drop>(
+    rt: &(impl Abort + AllocGlobal),
+    wanted: &Exchanges,
+    books: B,
+) -> (usize, B) {
+    let books = mirrored(rt.alloc(), books, MAX_ROWS_AT_HAND).expect(rt, "books with rows at hand");
+    let (written, _, left) = replays_on(rt.alloc(), books, wanted.requests.as_bytes());
+    (answered(rt, wanted, &written), left.into_books())
+}
+
+/// The books hold what was answered, or that and the call that was being served.
+fn check_held(
+    rt: &(impl Abort + AllocGlobal),
+    wanted: &Exchanges,
+    found: &mut impl Books,
+    count: usize,
+) {
+    let is_kept = hold_first(rt, found, wanted, count);
+    let is_ahead = !is_kept && hold_first(rt, found, wanted, count.saturating_add(1));
+    assert!(rt; is_kept || is_ahead, "after {count} answers");
+}
+
+/// Where books were begun that a crash left in these files, the next start finds them without a unit.
+fn check_begun<D: Crash + Drop>(
+    rt: &(impl Abort + AllocGlobal),
+    wanted: &Exchanges,
+    files: Files<D>,
+) {
+    if let Some(mut found) = found_in(rt, files) {
+        assert!(rt; hold_first(rt, &mut found, wanted, 0));
+    }
+}
+
+/// A session over these books, and then a power cut: the next start finds what was answered, or that and the call that
+/// was being served. Gives how many were answered.
+fn serves_and_survives<D: Crash + Drop>(
+    rt: &(impl Abort + AllocGlobal),
+    wanted: &Exchanges,
+    books: Tables<FileStore<D>>,
+) -> usize {
+    let (count, left) = served(rt, wanted, books);
+    match found_in(rt, left.close().into_store().close()) {
+        Some(mut found) => check_held(rt, wanted, &mut found, count),
+        None => rt.panic("no books after the cut"),
+    }
+    count
+}
+
+/// One session on these disks, and then a power cut. Gives how many exchanges were answered; nothing was lost if all
+/// were.
 fn survives<D: Crash + Drop>(
     rt: &(impl Abort + AllocGlobal),
     wanted: &Exchanges,
     log: D,
     db: D,
 ) -> usize {
-    let books = match made_on(rt, log, db) {
-        Ok(books) => books,
+    match made_on(rt, log, db) {
+        Ok(books) => serves_and_survives(rt, wanted, books),
         Err(files) => {
-            if let Some(mut found) = found_in(rt, files) {
-                assert!(rt; hold_first(rt, &mut found, wanted, 0));
-            }
-            return 0;
+            check_begun(rt, wanted, files);
+            0
         }
-    };
-    let books = mirrored(rt.alloc(), books, MAX_ROWS_AT_HAND).expect(rt, "books with rows at hand");
-    let (written, _, left) = replays_on(rt.alloc(), books, wanted.requests.as_bytes());
-    let count = answered(rt, wanted, &written);
-    let files = left.into_books().close().into_store().close();
-    let mut found = found_in(rt, files).expect(rt, "books after the cut");
-    let is_kept = hold_first(rt, &mut found, wanted, count);
-    let is_ahead = !is_kept && hold_first(rt, &mut found, wanted, count.saturating_add(1));
-    assert!(rt; is_kept || is_ahead, "after {count} answers");
-    count
+    }
 }
 
 /// At how many calls of the log's disk something is cut off: it stops at each in turn, until all exchanges are

@@ -1,15 +1,15 @@
 -- Events by their numbers in a map: one more put, and those on both sides of a number.
 use Rattle.std.specs.BTreeMap.{insert_entry, Range.{entries_between, range_contains}}
 use Rattle.std.specs.{Cmp.{ranked}, declared.ops.Bound.TheVariants.{Excluded, Included, Unbounded}, FinMap.Entries.{by_order}}
-use Rattle.std.{specs.List.{list_any}, proofs.lemmas.Bool.{not-true, false≢true, le-ltb, lt-ltb, ltb-false, ltb-true, or_parts}}
-use Rattle.std.proofs.lemmas.{Bool.Decides.{nat_tests}, Grind.{common_steps}, List.{map-append, Elements.{filter-append}}, Option.{slice_get-get_or}}
-use Rattle.std.proofs.Common.{List, [], ap, arith, refl, subst, sym, ◌++◌, ◌∙◌, ◌∷◌, is_eq, nat_cmp, Bool, Some, None, false, length, map, nat_lt, not, slice_get, true, ℕ, ◌-◌, ◌<◌, ◌≡◌, ◌≤◌, ◌||◌, Equal, Greater, Less}
+use Rattle.std.{specs.List.{list_any}, proofs.lemmas.Bool.{not-true, false≢true, lt-ltb, ltb-false, ltb-true, or_parts}}
+use Rattle.std.proofs.lemmas.{Bool.Decides.{nat_tests}, Grind.{common_steps}, List.{map-append}, Option.{slice_get-get_or}}
+use Rattle.std.proofs.Common.{List, [], ap, arith, refl, subst, sym, ◌++◌, ◌∙◌, ◌∷◌, filter, is_eq, is_lt, nat_cmp, Bool, Some, None, false, length, map, nat_lt, not, slice_get, true, ℕ, ◌-◌, ◌<◌, ◌≡◌, ◌≤◌, ◌||◌, Equal, Greater, Less}
 use Rattle.plant_alarm.specs.declared.event.Event.{Event}
 use Rattle.plant_import.specs.{Merging.{IsRising, out_of_order}, Numbers.{event_number, has_number}, Relation.{below, from}}
 use Rattle.plant_import.proofs.public.{Nearest.{AreParts, order_above, order_below}, Risings.{Before, Rising, is_rising, rising_of}}
-use Rattle.plant_import.proofs.public.EachLaws.{each_filter, filter_all, filter-of_map, filter_none, filter_parts, Each, each_weaker, pairs_weaker}
+use Rattle.plant_import.proofs.public.EachLaws.{each_filter, filter-of_map, Each, each_weaker, pairs_weaker}
 use Rattle.plant_import.proofs.public.EachLaws.{split_by}
-use Rattle.plant_types.specs.KeyedRows.{put_row}
+use Rattle.plant_types.specs.KeyedRows.{put_row, rows_below, rows_from}
 
 abbrev pub numbered : List Event → List (ℕ × Event)
 numbered es = map (λ e. (e.seq, e)) es
@@ -50,19 +50,15 @@ halves n es h =
           (each_filter (λ x. not (nat_lt x.seq n)) es);
     }
 
--- two parts of events at a number are those below it and the others
-pub below_is : (n : ℕ) (es xs ys : List Event) → AreParts es n xs ys → xs ≡ below n es
-below_is n es xs ys p =
-    sym (ap (below n) p.whole
-    ∙ filter_parts (λ x. nat_lt x.seq n) xs ys (each_weaker (λ x. x.seq < n) (λ x. nat_lt x.seq n ≡ true) (λ x. lt-ltb x.seq n) xs p.low)
-    (each_weaker (λ x. n ≤ x.seq) (λ x. nat_lt x.seq n ≡ false) (λ x. le-ltb x.seq n) ys p.high))
+-- the parts of events at a number, by their order
+pub lt_is : (m n : ℕ) → is_lt (nat_cmp m n) ≡ nat_lt m n
+lt_is m n = grind (arith, nat_tests)
 
-pub from_is : (n : ℕ) (es xs ys : List Event) → AreParts es n xs ys → ys ≡ from n es
-from_is n es xs ys p = sym (ap (from n) p.whole ∙ filter-append (λ x. not (nat_lt x.seq n)) xs ys
-    ∙ (λ i. filter_none (λ x. not (nat_lt x.seq n)) xs (each_weaker (λ x. x.seq < n) (λ x. not (nat_lt x.seq n)
-    ≡ false) (λ x lt. ap not (lt-ltb x.seq n lt)) xs p.low) i
-    ++ filter_all (λ x. not (nat_lt x.seq n)) ys (each_weaker (λ x. n ≤ x.seq) (λ x. not (nat_lt x.seq n)
-    ≡ true) (λ x le. ap not (le-ltb x.seq n le)) ys p.high) i))
+pub below_is : (n : ℕ) (es : List Event) → rows_below nat_cmp event_number n es ≡ below n es
+below_is n es = λ i. filter (λ e. lt_is e.seq n i) es
+
+pub from_is : (n : ℕ) (es : List Event) → rows_from nat_cmp event_number n es ≡ from n es
+from_is n es = λ i. filter (λ e. not (lt_is e.seq n i)) es
 
 -- an event put among those of other numbers
 pub any_put : (p : Event → Bool) (e : Event) (xs : List Event) → list_any (has_number e.seq) xs ≡ false

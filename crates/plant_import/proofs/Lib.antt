@@ -5,7 +5,6 @@ mod ReadsRecords
 mod Rows
 mod Merges
 pub mod public
-mod Appended
 mod ByNumber
 mod Examples
 mod BelowAll

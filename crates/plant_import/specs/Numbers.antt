@@ -18,6 +18,10 @@ abbrev pub new_numbers : List Event → List Event → List ℕ
 new_numbers kept rows =
     unique_keys (eq_by_cmp nat_cmp) (numbers_of (filter (λ e. not (list_any (has_number e.seq) kept)) rows))
 
+-- no kept event has the row's number
+abbrev pub is_other : List Event → Event → Bool
+is_other kept e = not (list_any (has_number e.seq) kept)
+
 -- events with more of them, each put where its number belongs
 abbrev pub with_events : List Event → List Event → List Event
 with_events kept more = fold (λ es e. put_row nat_cmp event_number e es) kept more

@@ -1,16 +1,16 @@
 //! Events by their numbers: how many of a file are new, and all events with those of a file.
 
-ghost use Rattle.std.specs.List.{list_all, list_any};
-ghost use Rattle.std.specs.Prelude.{◌≡◌, ◌↔◌, ◌++◌, [], IfOk, IsTrue, List, OnOk, false, length, option_map, slice_get, unwrap_or};
+ghost use Rattle.std.specs.List.{list_any};
+ghost use Rattle.std.specs.Prelude.{◌≡◌, ◌↔◌, ◌++◌, [], IfOk, IsTrue, List, OnOk, false, filter, length, option_map, slice_get, unwrap_or};
 ghost use Rattle.plant_alarm.specs.declared.event.Event.{Event as TheEvent};
 ghost use Rattle.plant_types.specs.Results.{OnlyMemory};
-ghost use Rattle.plant_import.specs.{Merging.{IsRising}, Needed.{is_before_all}};
-ghost use Rattle.plant_import.specs.Numbers.{AreByNumber, new_numbers, with_events, AreNumbered, with_event};
+ghost use Rattle.plant_import.specs.Numbers.{AreByNumber, AreNumbered, is_other, new_numbers, with_event, with_events};
 ghost use Rattle.plant_import.specs.Numbers as numbers;
 
+use crate::needs::count_before;
 use crate::relation::place_of;
 use plant_alarm::{Event, Number};
-use plant_types::{Fault, List, copy_all};
+use plant_types::{Fault, List, Sorted, copy_all};
 use std::alloc::Global;
 use std::collections::BTreeMap;
 
@@ -22,11 +22,11 @@ fn is_at(events: &[Event], place: usize, number: Number) -> bool
     events.get(place).is_some_and(|event| event.seq == number)
 }
 
-/// Whether one of the events, which stand in rising number, has this number.
-pub fn has_number(events: &[Event], number: Number) -> bool
-    ensures { AreNumbered events.now → result ≡ list_any (numbers.has_number number) events.now }
+/// Whether one of the events has this number.
+pub fn has_number(events: &Sorted<Event>, number: Number) -> bool
+    ensures { result ≡ list_any (numbers.has_number number) events.now }
 {
-    is_at(events, place_of(events, number), number)
+    events.has(&number)
 }
 
 /// Whether the numbers of the events rise.
@@ -36,16 +36,12 @@ pub fn rise(events: &[Event]) -> bool
     events.is_sorted_by(|event, next| event.seq < next.seq)
 }
 
-/// How many numbers a file in rising number has that no kept event has. The kept events are in rising number too.
-fn count_rising(kept: &[Event], file: &[Event]) -> usize
-    ensures { AreNumbered kept.now → AreNumbered file.now
-        → result ≡ length (new_numbers kept.now file.now) }
+/// How many rows have a number that no kept event has.
+fn count_others(kept: &Sorted<Event>, rows: &[Event]) -> usize
+    ensures { result ≡ length (filter (is_other kept.now) rows.now) }
 {
-    if come_after(file, kept) {
-        return file.len();
-    }
     let mut count = 0;
-    for event in file {
+    for event in rows {
         if !has_number(kept, event.seq) {
             count += 1;
         }
@@ -53,17 +49,16 @@ fn count_rising(kept: &[Event], file: &[Event]) -> usize
     count
 }
 
-/// How many numbers the file has that no kept event has, each counted once. The kept events are in rising number.
-pub fn count_new(alloc: Global, kept: &[Event], file: &[Event]) -> Result<usize, Fault>
-    ensures value { IsRising kept.now
-        → IfOk result (λ count. count ≡ length (new_numbers kept.now file.now)) }
+/// How many numbers the file has that no kept event has, each counted once.
+pub fn count_new(alloc: Global, kept: &Sorted<Event>, file: &[Event]) -> Result<usize, Fault>
+    ensures value { IfOk result (λ count. count ≡ length (new_numbers kept.now file.now)) }
     ensures err { OnlyMemory result }
 {
     if rise(file) {
-        return Ok(count_rising(kept, file));
+        return Ok(count_others(kept, file));
     }
     let rising = in_rising_number(alloc, copy_all(alloc, file)?)?;
-    Ok(count_rising(kept, rising.as_slice()))
+    Ok(count_others(kept, rising.as_slice()))
 }
 
 /// Puts an event among others by their numbers, over the one of its number if any.
@@ -89,18 +84,26 @@ fn by_number(alloc: Global, events: List<Event>) -> Result<BTreeMap<Number, Even
 }
 
 /// The events in rising number; of two with the same number the last. Events that rise already stay as they stand.
-pub fn in_rising_number(alloc: Global, events: List<Event>) -> Result<List<Event>, Fault>
+pub fn in_rising_number(alloc: Global, events: List<Event>) -> Result<Sorted<Event>, Fault>
     ensures value { IfOk result (λ rising. rising ≡ with_events [] events) }
     ensures err { OnlyMemory result }
 {
-    if rise(events.as_slice()) {
-        return Ok(events);
+    match Sorted::from_list(events) {
+        Ok(rising) => Ok(rising),
+        Err(events) => in_order(alloc, events),
     }
+}
+
+/// The events in rising number, by a map.
+fn in_order(alloc: Global, events: List<Event>) -> Result<Sorted<Event>, Fault>
+    ensures value { IfOk result (λ rising. rising ≡ with_events [] events) }
+    ensures err { OnlyMemory result }
+{
     let mut rising = List::new(alloc);
     for event in by_number(alloc, events)?.into_values() {
         rising.push(event)?;
     }
-    Ok(rising)
+    Ok(Sorted::of(rising))
 }
 
 /// Adds copies of the events.
@@ -125,60 +128,60 @@ fn without_first(events: &[Event], number: Number) -> &[Event]
     }
 }
 
-/// Two lists of events in rising number as one. Of two with the same number that of the second counts.
-fn joined(alloc: Global, kept: &[Event], more: &[Event]) -> Result<List<Event>, Fault>
-    ensures value { AreNumbered kept.now → AreNumbered more.now
-        → IfOk result (λ all. all ≡ with_events kept.now more.now) }
+/// The kept events and more as one list. Of two with the same number that of the second counts.
+fn joined(alloc: Global, kept: &Sorted<Event>, more: &Sorted<Event>) -> Result<Sorted<Event>, Fault>
+    ensures value { IfOk result (λ all. all ≡ with_events kept.now more.now) }
     ensures err { OnlyMemory result }
 {
     let mut all = List::new(alloc);
-    let mut rest = kept;
-    for event in more {
+    let mut rest = kept.as_slice();
+    let events = more.as_slice();
+    for event in events {
         let (below, above) = rest.split_at(place_of(rest, event.seq));
         push_all(alloc, &mut all, below)?;
         all.push(event.copy(alloc)?)?;
         rest = without_first(above, event.seq);
     }
     push_all(alloc, &mut all, rest)?;
-    Ok(all)
+    Ok(Sorted::of(all))
 }
 
-/// The kept events and more of them, in any order, in rising number. The kept events are in rising number.
-pub fn events_after(alloc: Global, kept: &[Event], more: &[Event]) -> Result<List<Event>, Fault>
-    ensures value { IsRising kept.now → IfOk result (λ all. all ≡ with_events kept.now more.now) }
+/// The kept events and more of them, in any order, in rising number.
+pub fn events_after(
+    alloc: Global,
+    kept: &Sorted<Event>,
+    more: &[Event],
+) -> Result<Sorted<Event>, Fault>
+    ensures value { IfOk result (λ all. all ≡ with_events kept.now more.now) }
     ensures err { OnlyMemory result }
 {
     let rising = in_rising_number(alloc, copy_all(alloc, more)?)?;
-    if kept.is_empty() {
+    if kept.as_slice().is_empty() {
         return Ok(rising);
     }
-    joined(alloc, kept, rising.as_slice())
+    joined(alloc, kept, &rising)
 }
 
-/// Whether events, in rising number, all come after others, in rising number too.
-fn come_after(events: &[Event], others: &[Event]) -> bool
-    ensures { AreNumbered others.now → AreNumbered events.now
-        → result ≡ list_all (is_before_all events.now) others.now }
-{
-    let Some(last) = others.last() else {
-        return true;
-    };
-    let Some(first) = events.first() else {
-        return true;
-    };
-    last.seq < first.seq
-}
-
-/// Puts events, in any order, among the kept ones, which are in rising number. Its time is that of the new events
-/// where these rise and come after all others, else that of going over the kept events once.
-pub fn put_events(alloc: Global, kept: &mut List<Event>, more: &[Event]) -> Result<(), Fault>
-    ensures value { AreNumbered kept.old → OnOk result (kept.new ≡ with_events kept.old more.now) }
+/// Puts copies of the events among the kept ones, one after another.
+fn put_each(alloc: Global, kept: &mut Sorted<Event>, more: &[Event]) -> Result<(), Fault>
+    ensures value { OnOk result (kept.new ≡ with_events kept.old more.now) }
     ensures err { OnlyMemory result }
 {
-    if rise(more) && come_after(more, kept.as_slice()) {
-        return push_all(alloc, kept, more);
+    for event in more {
+        kept.put(event.copy(alloc)?)?;
     }
-    let rising = in_rising_number(alloc, copy_all(alloc, more)?)?;
-    *kept = joined(alloc, kept.as_slice(), rising.as_slice())?;
+    Ok(())
+}
+
+/// Puts events, in any order, among the kept ones. Its time is that of the new events where these rise and come after
+/// all others, else that of going over the kept events once.
+pub fn put_events(alloc: Global, kept: &mut Sorted<Event>, more: &[Event]) -> Result<(), Fault>
+    ensures value { OnOk result (kept.new ≡ with_events kept.old more.now) }
+    ensures err { OnlyMemory result }
+{
+    if rise(more) && count_before(kept, more) == kept.len() {
+        return put_each(alloc, kept, more);
+    }
+    *kept = events_after(alloc, kept, more)?;
     Ok(())
 }

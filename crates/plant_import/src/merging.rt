@@ -10,7 +10,7 @@ use crate::event_numbers::{put, rise};
 use crate::relation::{Nearest, Relation, nearest_among, nearest_by_number, relation_of};
 use crate::{BadFile, Cause};
 use plant_alarm::{Event, Number};
-use plant_types::{Fault, List, Moment, Tag};
+use plant_types::{Fault, List, Moment, Sorted, Tag};
 use std::alloc::Global;
 use std::collections::{BTreeMap, BTreeSet};
 
@@ -23,12 +23,11 @@ pub struct Merged {
     pub repeated: u64,
 }
 
-/// What a file adds to the kept events, or its first faulty row with the first cause of that row.
-///
-/// The kept events are in rising number, and their moments don't fall.
+/// What a file adds to the kept events, whose moments don't fall, or its first faulty row with the first cause of that
+/// row.
 pub fn merge(
     alloc: Global,
-    kept: &[Event],
+    kept: &Sorted<Event>,
     file: &[Event],
     tags: &[Tag],
     now: Moment,
@@ -131,7 +130,7 @@ fn add(
 /// or its first fault.
 #[tactic(auto, unfolding(crate::specs::Merging::merge_fault))]
 fn judged(
-    kept: &[Event],
+    kept: &Sorted<Event>,
     nearest: Nearest<'_>,
     event: &Event,
     known: &BTreeSet<Tag>,

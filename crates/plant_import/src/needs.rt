@@ -1,15 +1,14 @@
 //! The kept events that an import needs.
 
-ghost use Rattle.std.specs.Prelude.{◌≡◌, ◌≤◌, IfOk, List, filter, length, nat_lt, option_map, true, unwrap_or};
+ghost use Rattle.std.specs.Prelude.{◌≡◌, ◌≤◌, ◌&&◌, IfOk, List, filter, length, nat_lt, option_map, true, unwrap_or};
 ghost use Rattle.plant_alarm.specs.declared.event.Event.{Event as TheEvent};
 ghost use Rattle.plant_types.specs.Results.{OnlyMemory};
-ghost use Rattle.plant_import.specs.{Numbers.{AreNumbered}, Reached.{AreReached}};
+ghost use Rattle.plant_import.specs.{Numbers.{AreNumbered, is_other}, Reached.{AreReached}};
 ghost use Rattle.plant_import.specs.Needed as needs;
 
 use crate::event_numbers::has_number;
-use crate::relation::place_of;
 use plant_alarm::{Event, Number};
-use plant_types::{Fault, Tag};
+use plant_types::{Fault, Sorted, Tag};
 use std::alloc::Global;
 use std::collections::BTreeMap;
 
@@ -28,33 +27,41 @@ fn least_number(rows: &[Event]) -> Option<Number>
     least
 }
 
-/// How many of the kept events, which stand in rising number, come before every row.
-fn count_before(kept: &[Event], rows: &[Event]) -> usize
+/// How many of the kept events come before every row.
+pub fn count_before(kept: &Sorted<Event>, rows: &[Event]) -> usize
     ensures bound { result ≤ length kept.now }
-    ensures value { AreNumbered kept.now
-        → result ≡ length (filter (needs.is_before_all rows.now) kept.now) }
+    ensures value { result ≡ length (filter (needs.is_before_all rows.now) kept.now) }
 {
     match least_number(rows) {
-        Some(least) => place_of(kept, least),
+        Some(least) => kept.place(&least),
         None => kept.len(),
     }
 }
 
-fn from_last_before<'a>(kept: &'a [Event], rows: &[Event]) -> &'a [Event]
-    ensures { AreNumbered kept.now → result.now ≡ needs.from_last_before kept.now rows.now }
+/// The kept events from the last before every row on.
+fn from_last_before<'a>(kept: &'a Sorted<Event>, rows: &[Event]) -> &'a [Event]
+    ensures value { result.now ≡ needs.from_last_before kept.now rows.now }
+    ensures order { AreNumbered result.now }
 {
-    let (_, near) = kept.split_at(count_before(kept, rows).saturating_sub(1));
+    let before = count_before(kept, rows).saturating_sub(1);
+    let (_, near) = kept.as_slice().split_at(before);
     near
 }
 
-/// The last number of each alarm among events in rising number.
+/// The last number of each alarm among these events.
 #[tactic(auto, using(crate::proofs::public::NeededLaws::reached_next))]
-fn last_numbers(alloc: Global, events: &[Event]) -> Result<BTreeMap<Tag, Number>, Fault>
-    ensures value { AreNumbered events.now → IfOk result (λ lasts. AreReached lasts events.now) }
+fn last_numbers(
+    alloc: Global,
+    kept: &Sorted<Event>,
+    rows: &[Event],
+) -> Result<BTreeMap<Tag, Number>, Fault>
+    ensures value { IfOk result
+        (λ lasts. AreReached lasts (needs.from_last_before kept.now rows.now)) }
     ensures err { OnlyMemory result }
 {
     let mut lasts = BTreeMap::new(alloc);
-    for event in events {
+    let near = from_last_before(kept, rows);
+    for event in near {
         lasts.insert(event.tag.copy(alloc)?, event.seq)?;
     }
     Ok(lasts)
@@ -71,40 +78,44 @@ fn is_overtaken(lasts: &BTreeMap<Tag, Number>, event: &Event) -> bool
     }
 }
 
-/// Whether the row's number is new among events in rising number, and one of its alarm's events has a greater one.
-fn is_late(lasts: &BTreeMap<Tag, Number>, events: &[Event], row: &Event) -> bool
-    ensures { AreNumbered events.now → AreReached lasts.now events.now
-        → result ≡ needs.is_late events.now row.now }
+/// Whether the row's number is new, and an alarm's last number greater.
+fn is_late(lasts: &BTreeMap<Tag, Number>, kept: &Sorted<Event>, row: &Event) -> bool
+    ensures { (near : List TheEvent) → AreReached lasts.now near
+        → result ≡ (needs.is_overtaken near row.now && is_other kept.now row.now) }
 {
-    is_overtaken(lasts, row) && !has_number(events, row.seq)
+    is_overtaken(lasts, row) && !has_number(kept, row.seq)
 }
 
-/// Whether a row has a new number, and a kept event of its alarm a greater one. The kept events are in rising number.
+/// Whether a row has a new number, and a kept event of its alarm a greater one.
 #[tactic(auto, using(crate::proofs::public::NeededLaws::near_late, std::proofs::lemmas::List::take_all))]
-pub fn has_late(alloc: Global, kept: &[Event], rows: &[Event]) -> Result<bool, Fault>
-    ensures value { AreNumbered kept.now
-        → IfOk result (λ late. late ≡ needs.has_late kept.now rows.now) }
+pub fn has_late(alloc: Global, kept: &Sorted<Event>, rows: &[Event]) -> Result<bool, Fault>
+    ensures value { IfOk result (λ late. late ≡ needs.has_late kept.now rows.now) }
     ensures err { OnlyMemory result }
 {
-    let near = from_last_before(kept, rows);
-    let lasts = last_numbers(alloc, near)?;
+    // Gives the proof the order of the events; tests nothing.
+    let _events = kept.as_slice();
+    let lasts = last_numbers(alloc, kept, rows)?;
     for row in rows {
-        if is_late(&lasts, near, row) {
+        if is_late(&lasts, kept, row) {
             return Ok(true);
         }
     }
     Ok(false)
 }
 
-/// The kept events, in rising number, that a file of these rows is seen beside: all, where a row comes late, else
-/// those from the last before every row on.
-pub fn needed<'a>(alloc: Global, kept: &'a [Event], rows: &[Event]) -> Result<&'a [Event], Fault>
-    ensures value { AreNumbered kept.now
-        → IfOk result (λ some. some.now ≡ needs.needed kept.now rows.now) }
+/// The kept events that a file of these rows is seen beside: all, where a row comes late, else those from the last
+/// before every row on.
+pub fn needed<'a>(
+    alloc: Global,
+    kept: &'a Sorted<Event>,
+    rows: &[Event],
+) -> Result<&'a [Event], Fault>
+    ensures value { IfOk result (λ some. some.now ≡ needs.needed kept.now rows.now) }
+    ensures order { IfOk result (λ some. AreNumbered some.now) }
     ensures err { OnlyMemory result }
 {
     if has_late(alloc, kept, rows)? {
-        return Ok(kept);
+        return Ok(kept.as_slice());
     }
     Ok(from_last_before(kept, rows))
 }

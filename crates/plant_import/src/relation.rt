@@ -5,6 +5,7 @@ ghost use Rattle.plant_import.specs.Relation.{AreNearest, IsFirst, IsLast, IsRel
 ghost use Rattle.plant_import.specs.Relation as relation;
 
 use plant_alarm::{Event, Number};
+use plant_types::Sorted;
 use std::collections::BTreeMap;
 
 /// How an event relates to events in rising number.
@@ -30,11 +31,11 @@ pub struct Nearest<'a> {
     pub from: Option<&'a Event>,
 }
 
-/// The nearest to a number of events in rising number whose moments don't fall.
-pub fn nearest_among<'a>(events: &'a [Event], seq: Number) -> Nearest<'a>
-    ensures { IsRising events.now → AreNearest events.now seq result }
+/// The nearest to a number of events.
+pub fn nearest_among<'a>(events: &'a Sorted<Event>, seq: Number) -> Nearest<'a>
+    ensures { AreNearest events.now seq result }
 {
-    let (below, from) = events.split_at(place_of(events, seq));
+    let (below, from) = events.split(&seq);
     Nearest {
         below: below.last(),
         from: from.first(),

@@ -9,7 +9,7 @@ use plant_store::Tables;
 use plant_trials::{Calls, bytes_of, calls_of, mirrored, root, served, text};
 use plant_types::Fault;
 use plant_types::limits::MAX_ROWS_AT_HAND;
-use sqlite::{Connection, Files, Options};
+use sqlite::{Connection, FileStore, Files, Options};
 use sqlite_disk::{Disk, Memory, Tally};
 use std::io;
 use std::process::Abort;
@@ -165,14 +165,12 @@ fn answered_at_hand<B: Books + Drop>(
     count
 }
 
-/// The same of an office on these disks, or nothing if too few syncs succeed to make its books.
-fn answered_on<D: Disk + Drop>(
+/// New books on these disks, if enough syncs succeed to make them.
+fn made_on<D: Disk + Drop>(
     rt: &(impl Abort + AllocGlobal),
     log: D,
     db: D,
-    wanted: &Exchanges,
-    calls: &[Call],
-) -> Option<usize> {
+) -> Option<Tables<FileStore<D>>> {
     if !log.may_be_used() || !db.may_be_used() {
         rt.panic("no disk")
     }
@@ -181,8 +179,22 @@ fn answered_on<D: Disk + Drop>(
         return None;
     };
     match Tables::create(rt.alloc(), conn, root) {
-        Ok(books) => Some(answered_at_hand(rt, books, wanted, calls)),
+        Ok(books) => Some(books),
         Err(_) => None,
+    }
+}
+
+/// The same of an office on these disks, or nothing if too few syncs succeed to make its books.
+fn answered_on<D: Disk + Drop>(
+    rt: &(impl Abort + AllocGlobal),
+    log: D,
+    db: D,
+    wanted: &Exchanges,
+    calls: &[Call],
+) -> Option<usize> {
+    match made_on(rt, log, db) {
+        Some(books) => Some(answered_at_hand(rt, books, wanted, calls)),
+        None => None,
     }
 }
 

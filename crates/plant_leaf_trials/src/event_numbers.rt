@@ -1,8 +1,9 @@
 //! Events in rising number.
 
-use crate::fixtures::event;
+use crate::fixtures::{event, sorted};
 use plant_alarm::{Event, EventKind};
 use plant_import::{count_new, events_after};
+use plant_types::Sorted;
 use std::alloc::Global;
 use std::process::Abort;
 
@@ -33,19 +34,19 @@ fn have_numbers(events: &[Event], numbers: &[u64]) -> bool {
 
 #[test]
 fn puts_events_in_rising_number(rt: HostRuntime) {
-    let kept = events(&rt, rt.alloc(), &[2, 4, 6]);
+    let kept = sorted(&rt, events(&rt, rt.alloc(), &[2, 4, 6]));
     let more = events(&rt, rt.alloc(), &[7, 5, 1, 3, 9]);
     let all = events_after(rt.alloc(), &kept, &more).expect(&rt, "memory");
     assert!(rt; have_numbers(all.as_slice(), &[1, 2, 3, 4, 5, 6, 7, 9]));
 }
 
 /// A hundred thousand events with even numbers.
-pub(crate) fn many_kept(rt: &impl Abort, alloc: Global) -> Vec<Event> {
+pub(crate) fn many_kept(rt: &impl Abort, alloc: Global) -> Sorted<Event> {
     let mut kept = Vec::new(alloc);
     for i in 1..=100_000 {
         kept.push(active(rt, alloc, 2 * i)).expect(rt, "memory");
     }
-    kept
+    sorted(rt, kept)
 }
 
 /// Ten thousand events with odd numbers that fall.

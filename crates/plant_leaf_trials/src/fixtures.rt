@@ -1,7 +1,7 @@
 //! Values built from numbers and bytes. The test fails if a value is invalid or memory runs out.
 
 use plant_alarm::{Event, EventKind, Number};
-use plant_types::{Moment, Seconds, Tag, Words};
+use plant_types::{List, Moment, Seconds, Sorted, Tag, Words};
 use std::alloc::Global;
 use std::process::Abort;
 
@@ -40,4 +40,9 @@ pub(crate) fn event(
         tag: tag(rt, alloc, name),
         kind,
     }
+}
+
+/// The events, which stand in rising number.
+pub(crate) fn sorted(rt: &impl Abort, events: Vec<Event>) -> Sorted<Event> {
+    Sorted::from_list(List::from_vec(events)).expect(rt, "events in rising number")
 }

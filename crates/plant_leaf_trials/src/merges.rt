@@ -4,7 +4,7 @@ use crate::event_numbers::{many_kept, many_new};
 use crate::fixtures::{event, moment, tag};
 use plant_alarm::{Event, EventKind};
 use plant_import::merge;
-use plant_types::Tag;
+use plant_types::{Sorted, Tag};
 use std::alloc::Global;
 use std::process::Abort;
 
@@ -41,7 +41,7 @@ fn adds_new_rows_in_the_order_of_the_file(rt: HostRuntime) {
     let file = events(&rt, rt.alloc(), &ROWS);
     let tags = two_tags(&rt, rt.alloc());
     let now = moment(&rt, 825_672_600);
-    let merged = merge(rt.alloc(), &[], &file, &tags, now)
+    let merged = merge(rt.alloc(), &Sorted::new(rt.alloc()), &file, &tags, now)
         .expect(&rt, "memory")
         .expect(&rt, "no fault");
     assert!(rt; merged.fresh.as_slice() == file.as_slice());

@@ -1,6 +1,6 @@
 //! The kept events that a file is seen beside.
 
-use crate::fixtures::event;
+use crate::fixtures::{event, sorted};
 use plant_alarm::{Event, EventKind};
 use plant_import::needed;
 use std::alloc::Global;
@@ -25,7 +25,7 @@ const KEPT: [(u64, &[u8]); 4] = [
 
 /// How many of the kept events a file of these rows needs: the last ones.
 fn count(rt: &(impl Abort + AllocGlobal), rows: &[(u64, &[u8])]) -> usize {
-    let kept = events(rt, rt.alloc(), &KEPT);
+    let kept = sorted(rt, events(rt, rt.alloc(), &KEPT));
     let rows = events(rt, rt.alloc(), rows);
     needed(rt.alloc(), &kept, &rows).expect(rt, "memory").len()
 }

@@ -5,7 +5,7 @@ ghost use Rattle.plant_books.specs.Counting.{CountsFault};
 use plant_alarm::Event;
 use plant_books::{Books, MineRow, MineUnit, count_after};
 use plant_model::{Call, Changes, UnitPart, UnitRows};
-use plant_types::{Fault, List, Moment, Person, UnitCode};
+use plant_types::{Fault, List, Moment, Person, Sorted, UnitCode};
 use std::alloc::Global;
 
 /// The first lists of units are empty, then the store shuts. A list of shelves runs out of memory. Everything else fails
@@ -75,7 +75,7 @@ impl Books for Failing {
         Err(self.fault())
     }
 
-    fn events(&mut self, _unit: &UnitCode) -> Result<List<Event>, Fault> {
+    fn events(&mut self, _unit: &UnitCode) -> Result<Sorted<Event>, Fault> {
         Err(self.fault())
     }
 

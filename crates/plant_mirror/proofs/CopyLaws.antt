@@ -4,8 +4,8 @@ use Rattle.std.specs.{Map.{keys_of, lookup, lookup_entry, remove_entry}, Option.
 use Rattle.std.proofs.Common.{Bool, Err, IfOk, IfSome, List, None, Ok, Result, Some, [], ap, arith, cond, false, map, not, refl, subst, suc, sym, take, true, zero, ℕ, ◌+◌, ◌-◌, ◌≤◌, ◌∙◌, ◌∷◌, ◌≡◌, Option, is_some, length, option_map, slice_get, unwrap_or, ◌&&◌}
 use Rattle.lru.specs.LruCache.{LruCache, last_entry, promoted, put_entries}
 use Rattle.plant_books.specs.{Changing.{puts_event}, Contents.{Content, after_changes, mine_row, rows_in, shelves_there, without_events, without_history, without_reviews}}
-use Rattle.plant_books.proofs.public.{HistoryLaws.{changed_unreviewed, changed_without, part_unreviewed, part_without}, OrderLaws.{changed_in_order}}
-use Rattle.plant_model.specs.steps.{Order.{AreInOrder}, Parts.{part_of, part_of_holder, part_of_stranger}, RowChanges.{changed_by, no_rows}, RowFacts.{holds_by}, Scopes.{looks_at_events, looks_at_reviews}}
+use Rattle.plant_books.proofs.public.HistoryLaws.{changed_unreviewed, changed_without, part_unreviewed, part_without}
+use Rattle.plant_model.specs.steps.{Parts.{part_of, part_of_holder, part_of_stranger}, RowChanges.{changed_by, no_rows}, RowFacts.{holds_by}, Scopes.{looks_at_events, looks_at_reviews}}
 use Rattle.plant_model.{specs.declared.{call.Call.{Call}, rows.{RowEdit.{RowEdit}, UnitPart.{UnitPart}, UnitRows.{UnitRows}}}, proofs.public.WorldLaws.{same_of}}
 use Rattle.plant_mirror.specs.{Copies.{AreCopies, Copy, IsCopy, There, row_count, rows_of_all, seen}, declared.at_hand.AtHand.{AtHand}}
 use Rattle.plant_types.{specs.{Names.{Name, same_name}, declared.fault.Fault.{Fault}}, proofs.public.Orders.{name_total}}
@@ -75,7 +75,7 @@ true_put there c u copy h is = by (lookup_entry (same_name u) c.entries) refl
 -- ---- without a unit's copy the others stay true where its rows change
 
 still_true : (there after : There) (c : Copy) → after c.0 ≡ there c.0 → IsCopy there c → IsCopy after c
-still_true there after c same h = record { same = ap (option_map (seen c.1.has_events)) same ∙ h.same; ordered = h.ordered }
+still_true there after c same h = ap (option_map (seen c.1.has_events)) same ∙ h
 
 others_true : (u v : Name) (there after : There) (es : List Copy) → u ≡ v → AllByRecursion (λ w. same_name v w ≡ false) (keys_of es)
     → ((w : Name) → same_name u w ≡ false → after w ≡ there w) → AreCopies there es → AreCopies after es
@@ -245,10 +245,6 @@ seen_changed false cs rows none =
 seen_rows : (b : Bool) (o : Option UnitRows) (rows : UnitRows) → option_map (seen b) o ≡ Some rows → seen b (unwrap_or o no_rows) ≡ rows
 seen_rows b o rows e = grind arith
 
-in_order_unreviewed : (rows : UnitRows) → AreInOrder rows → AreInOrder (without_reviews rows)
-in_order_unreviewed rows h =
-    record { alarms = h.alarms; shelves = h.shelves; events = h.events; bands = tt; cells = tt; records = h.records; changes = tt }
-
 -- a copy after changes is one of the unit after them
 pub changed_there : (m : Content) (u : Name) (cs : List RowEdit) (copy after : AtHand) → IsCopy (get m.units) (u, copy)
     → after.has_events ≡ copy.has_events → after.rows ≡ without_reviews (changed_by cs copy.rows) → (not copy.has_events && puts_event cs) ≡ false
@@ -257,8 +253,5 @@ changed_there m u cs copy after h flag is none =
     let b = copy.has_events in
     let there = ap (option_map (seen b)) (unit_after m u cs) in
     let rows = seen_changed b cs (rows_in m u) none
-    ∙ ap (λ r. without_reviews (changed_by cs r)) (seen_rows b (get m.units u) copy.rows h.same) ∙ sym is in
-    record {
-      same = ap (λ d. option_map (seen d) (get (after_changes m u cs).units u)) flag ∙ there ∙ ap (λ x. Some x) rows;
-      ordered = subst AreInOrder (sym is) (in_order_unreviewed (changed_by cs copy.rows) (changed_in_order cs copy.rows h.ordered));
-    }
+    ∙ ap (λ r. without_reviews (changed_by cs r)) (seen_rows b (get m.units u) copy.rows h) ∙ sym is in
+    ap (λ d. option_map (seen d) (get (after_changes m u cs).units u)) flag ∙ there ∙ ap (λ x. Some x) rows

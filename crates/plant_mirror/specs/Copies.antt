@@ -2,7 +2,6 @@
 use Rattle.std.specs.{FinMap.{get}, Prelude.{Bool, List, Option, Some, [], false, length, option_map, true, ℕ, ◌+◌, ◌∷◌, ◌≡◌}}
 use Rattle.plant_books.specs.Contents.{Content, without_history, without_reviews}
 use Rattle.plant_model.specs.declared.rows.UnitRows.{UnitRows}
-use Rattle.plant_model.specs.steps.Order.{AreInOrder}
 use Rattle.plant_mirror.specs.declared.at_hand.AtHand.{AtHand}
 use Rattle.plant_types.specs.Names.{Name, same_name}
 
@@ -30,10 +29,9 @@ abbrev pub seen : Bool → UnitRows → UnitRows
 seen true rows = without_reviews rows
 seen false rows = without_history rows
 
--- a copy of what there is of its unit, its rows in the order of their keys
-pub record IsCopy (there : There) (copy : Copy) : Type 0 where
-  pub same : option_map (seen copy.1.has_events) (there copy.0) ≡ Some copy.1.rows
-  pub ordered : AreInOrder copy.1.rows
+-- a copy of what there is of its unit
+abbrev pub IsCopy : There → Copy → Type 0
+IsCopy there copy = option_map (seen copy.1.has_events) (there copy.0) ≡ Some copy.1.rows
 
 -- each is a copy of what there is
 abbrev pub AreCopies : There → List Copy → Type 0

@@ -9,7 +9,7 @@ ghost use Rattle.plant_mirror.specs.Copies as copies;
 
 use plant_books::{after_changes, puts_event};
 use plant_model::{Call, RowEdit, UnitRows, holds_some_by, looks_at_events, looks_at_reviews};
-use plant_types::List;
+use plant_types::{List, Sorted};
 use std::alloc::Global;
 
 /// A unit's rows at hand: all but its matrices and changes, with its events or without.
@@ -24,9 +24,9 @@ fn without_reviews(alloc: Global, rows: UnitRows) -> UnitRows
     ensures { result ≡ unreviewed rows }
 {
     UnitRows {
-        bands: List::new(alloc),
-        cells: List::new(alloc),
-        changes: List::new(alloc),
+        bands: Sorted::new(alloc),
+        cells: Sorted::new(alloc),
+        changes: Sorted::new(alloc),
         ..rows
     }
 }

@@ -10,7 +10,7 @@ use lru::LruCache;
 use plant_alarm::Event;
 use plant_books::{MineRow, push_shelves};
 use plant_types::limits::MAX_ROWS_AT_HAND;
-use plant_types::{Fault, List, UnitCode};
+use plant_types::{Fault, List, Sorted, UnitCode};
 use std::alloc::Global;
 
 /// Copies of the rows of some units, never of more rows than the limit, which is never above `MAX_ROWS_AT_HAND`.
@@ -76,7 +76,7 @@ impl Copies {
     }
 
     /// The unit's events, where they are at hand.
-    pub fn events_of(&self, unit: &UnitCode) -> Option<&List<Event>>
+    pub fn events_of(&self, unit: &UnitCode) -> Option<&Sorted<Event>>
         ensures { (there : There) → AreCopies there self.now.units.entries
             → IfSome result (λ events. events.now ≡ (unwrap_or (there unit.now) no_rows).events) }
     {

@@ -2,19 +2,19 @@ ghost use Rattle.std.specs.{List.{list_any}, Prelude.{◌≡◌, ◌≤◌, [], 
 ghost use Rattle.plant_books.specs.Crashes.{LosesNoPart};
 ghost use Rattle.plant_books.specs.{Books.{CountsBy, KeepsOnErr, Makes, WasHonest}, Contents.{Content, codes_held, part_in}};
 ghost use Rattle.plant_mirror.specs.{Copies.{IsMirrored, rows_of_all, seen}, Leaves.{Leaves, AnswersOf, Mirrors}};
-ghost use Rattle.plant_model.specs.{steps.Order.{AreInOrder}, Worlds.{unit_named}};
+ghost use Rattle.plant_model.specs.Worlds.{unit_named};
 ghost use Rattle.plant_types.specs.{Names.{same_name}, Results.{OnlyMemory}};
 ghost use Rattle.std.specs.FinMap as fin;
 
 use crate::at_hand::AtHand;
 use crate::copies::Copies;
 use plant_alarm::Event;
-use plant_books::{Books, MineRow, MineUnit, are_in_order, part_of, rows_but_history};
+use plant_books::{Books, MineRow, MineUnit, part_of, rows_but_history};
 use plant_model::{
     Call, Changes, UnitPart, UnitRows, holds_some_by, looks_at_events, looks_at_reviews,
 };
 use plant_types::limits::MAX_ROWS_AT_HAND;
-use plant_types::{Fault, List, Moment, Person, TryCopy, UnitCode};
+use plant_types::{Fault, List, Moment, Person, Sorted, TryCopy, UnitCode};
 use std::alloc::Global;
 
 /// A keeper over another, with the rows of the units that were last used at hand. The events of a unit are brought to
@@ -44,20 +44,6 @@ fn made(said: Result<UnitPart, Fault>) -> Result<Option<UnitPart>, Fault>
         Ok(part) => Ok(Some(part)),
         Err(Fault::Memory) => Err(Fault::Memory),
         Err(Fault::Store) => Ok(None),
-    }
-}
-
-/// The unit's code again, if its rows stand in the order of their keys and there is memory.
-fn code_in_order(alloc: Global, unit: &UnitCode, rows: &UnitRows) -> Option<UnitCode>
-    ensures code { IfSome result (λ code. code ≡ unit.now) }
-    ensures order { IfSome result (λ code. AreInOrder rows.now) }
-{
-    if !are_in_order(rows) {
-        return None;
-    }
-    match unit.copy(alloc) {
-        Ok(code) => Some(code),
-        Err(_) => None,
     }
 }
 
@@ -107,7 +93,7 @@ impl<B: Books> Mirror<B> {
         books
     }
 
-    /// Keeps what is at hand of the unit's rows, if they stand in the order of their keys and there is memory.
+    /// Keeps what is at hand of the unit's rows, if there is memory.
     fn keep(&mut self, unit: &UnitCode, copy: AtHand)
         ensures kept { (m : Content) → Mirrors B.Books self.old m
             → (B.is_honest self.old.books
@@ -115,7 +101,7 @@ impl<B: Books> Mirror<B> {
             → Mirrors B.Books self.new m }
         ensures below { self.new.books ≡ self.old.books }
     {
-        if let Some(unit) = code_in_order(self.alloc, unit, &copy.rows) {
+        if let Ok(unit) = unit.copy(self.alloc) {
             self.copies.keep(unit, copy);
         }
     }
@@ -317,7 +303,7 @@ impl<B: Books> Books for Mirror<B> {
         }
     }
 
-    fn events(&mut self, unit: &UnitCode) -> Result<List<Event>, Fault> {
+    fn events(&mut self, unit: &UnitCode) -> Result<Sorted<Event>, Fault> {
         match self.copies.events_of(unit) {
             Some(events) => events.copy(self.alloc),
             None => self.books.events(unit),

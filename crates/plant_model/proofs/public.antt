@@ -19,3 +19,4 @@ pub mod QuotaLaws
 pub mod Base
 pub mod RowsFound
 pub mod PlaceOrders
+pub mod NumberOrders

@@ -6,6 +6,7 @@ pub mod Alarms
 pub mod Shelves
 pub mod Service
 pub mod Matrices
+pub mod PlaceOrders
 pub mod Events
 pub mod Rows
 pub mod Facts

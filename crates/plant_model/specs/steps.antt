@@ -2,8 +2,6 @@
 pub mod LooksAt
 pub mod Parts
 pub mod Scopes
-pub mod Found
-pub mod Order
 pub mod RowFacts
 pub mod RowChanges
 pub mod Keys

@@ -6,7 +6,7 @@ use crate::{
     AlarmRow, BandRow, CellRow, ChangeEntry, GrantRow, Key, RecordEntry, Row, RowEdit, ShelfRow,
     UnitRow, UnitRows,
 };
-use plant_types::{Fault, List, TryCopy};
+use plant_types::{Fault, List, Sorted, TryCopy};
 use std::alloc::Global;
 
 impl UnitRows {
@@ -16,14 +16,14 @@ impl UnitRows {
     {
         UnitRows {
             units: List::new(alloc),
-            grants: List::new(alloc),
-            alarms: List::new(alloc),
-            shelves: List::new(alloc),
-            events: List::new(alloc),
-            bands: List::new(alloc),
-            cells: List::new(alloc),
-            records: List::new(alloc),
-            changes: List::new(alloc),
+            grants: Sorted::new(alloc),
+            alarms: Sorted::new(alloc),
+            shelves: Sorted::new(alloc),
+            events: Sorted::new(alloc),
+            bands: Sorted::new(alloc),
+            cells: Sorted::new(alloc),
+            records: Sorted::new(alloc),
+            changes: Sorted::new(alloc),
         }
     }
 }

@@ -1,5 +1,5 @@
 //! The calls on a unit, the answers to them, and the rows that they leave: the types that the layers above share,
-//! the rows of a tag or a number and the grants held at a moment, and in `specs/` the definitions of what a unit
+//! alarms by their tags and the grants held at a moment, and in `specs/` the definitions of what a unit
 //! and the whole office answer.
 #![tactic(auto)]
 
@@ -7,13 +7,14 @@ mod call;
 mod copies;
 mod found;
 mod held;
+mod keyed;
 mod kinds;
 pub mod laws;
 mod reply;
 mod rows;
 
 pub use call::{Call, Request};
-pub use found::{Tagged, alarm_of, change_at, last_return, place_of, row_near, row_of};
+pub use found::{alarm_of, last_return};
 pub use held::{holds_some_by, is_before, is_held_by, is_pair, stands};
 pub use kinds::{
     CallKind, Counted, Effect, Scope, is_shelving, looks_at_events, looks_at_reviews,

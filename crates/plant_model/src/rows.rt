@@ -5,7 +5,7 @@ ghost use Rattle.plant_types.specs.Results.{Gives, OnlyMemory};
 use crate::{Refused, Reply};
 use plant_alarm::{AlarmState, Event};
 use plant_ration::{Cell, ChangeState};
-use plant_types::{Fault, List, Moment, Person, Quota, Role, Seconds, Tag, TryCopy, Words};
+use plant_types::{Fault, List, Moment, Person, Quota, Role, Seconds, Sorted, Tag, TryCopy, Words};
 use std::alloc::Global;
 
 /// The unit's own row: its last moment, the number and the revision of the matrix in force, and its quota of shelves.
@@ -152,14 +152,14 @@ pub struct ChangeEntry {
 #[derive(Drop)]
 pub struct UnitRows {
     pub units: List<UnitRow>,
-    pub grants: List<GrantRow>,
-    pub alarms: List<AlarmRow>,
-    pub shelves: List<ShelfRow>,
-    pub events: List<Event>,
-    pub bands: List<BandRow>,
-    pub cells: List<CellRow>,
-    pub records: List<RecordEntry>,
-    pub changes: List<ChangeEntry>,
+    pub grants: Sorted<GrantRow>,
+    pub alarms: Sorted<AlarmRow>,
+    pub shelves: Sorted<ShelfRow>,
+    pub events: Sorted<Event>,
+    pub bands: Sorted<BandRow>,
+    pub cells: Sorted<CellRow>,
+    pub records: Sorted<RecordEntry>,
+    pub changes: Sorted<ChangeEntry>,
 }
 
 /// The rows that one call looks at, and how many alarms, changes or events the unit has, whichever the call needs. A

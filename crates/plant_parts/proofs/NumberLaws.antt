@@ -1,7 +1,8 @@
 -- The numbers of the tables' rows do not fall.
 use Rattle.std.{specs.Cmp.{eq_by_cmp_equiv}, proofs.{Common.{◌≡◌, ℕ}, lemmas.Cmp.{nat_cmp_total}}}
 use Rattle.sqlite.specs.Effect.{Database}
-use Rattle.plant_books.{specs.Numbered.{NumbersRise}, proofs.public.NumberRanges.{bands_rise, cells_rise, changes_rise}}
+use Rattle.plant_books.specs.Numbered.{NumbersRise}
+use Rattle.plant_model.proofs.public.NumberOrders.{bands_rise, cells_rise, changes_rise}
 use Rattle.plant_columns.specs.Tables.{AreBooks, band_shape, cell_shape, change_shape, rows_seen}
 use Rattle.plant_columns.{proofs.public.{ShapeLaws.{good}, Shapes.{rises}}, specs.declared.tables.TableKind.TheVariants.{Bands, Cells, Changes}}
 use Rattle.plant_model.specs.{Histories.{same_number}, declared.rows.{BandRow.{BandRow}, CellRow.{CellRow}}}

@@ -4,16 +4,16 @@ use Rattle.sqlite.specs.{Held.{Held, state}, State.{HasCleanDisk}, Tree.{Trees}}
 use Rattle.sqlite_trees.specs.declared.store.Store.{Ghosts}
 use Rattle.plant_alarm.specs.declared.event.Event.{Event}
 use Rattle.plant_model.specs.Histories.{same_number}
-use Rattle.plant_model.specs.steps.{Parts.{counted_for, is_crowded}, RowFacts.{last_number}}
+use Rattle.plant_model.specs.steps.{Parts.{Selection, counted_for, is_crowded}, RowFacts.{last_number}}
 use Rattle.plant_model.specs.declared.call.Request.{Request}
 use Rattle.plant_model.specs.steps.Scopes.{is_shelving, looks_at_events, number_approved, selection_by}
 use Rattle.plant_model.specs.declared.{kinds.Scope.{Scope}, rows.{AlarmRow.{AlarmRow}}}
 use Rattle.plant_model.specs.declared.rows.{ChangeEntry.{ChangeEntry}, GrantRow.{GrantRow}, RecordEntry.{RecordEntry}, UnitRow.{UnitRow}}
 use Rattle.plant_model.specs.declared.rows.UnitRows.{UnitRows}
-use Rattle.plant_books.specs.{Numbered.{NumbersRise, of_numbers}, declared.asking.WantedAlarms.{WantedAlarms}}
+use Rattle.plant_books.specs.{Contents.{rows_in}, Numbered.{NumbersRise, of_numbers}, declared.asking.WantedAlarms.{WantedAlarms}}
 use Rattle.plant_columns.specs.declared.tables.TableKind.{TableKind, TheVariants.{Alarms, Changes, Events, Grants, Shelves}}
 use Rattle.plant_columns.specs.Tables.{AreBooks, rows_seen}
-use Rattle.plant_statements.specs.Changes.{IsHonest}
+use Rattle.plant_statements.specs.{Changes.{IsHonest}, Reading.{ReadsContent}}
 use Rattle.plant_parts.specs.Wanted.{alarms_with, events_with}
 use Rattle.plant_types.specs.Names.{Name, same_name}
 
@@ -92,6 +92,12 @@ LoadsMatrices g before after seen unit number_of units scope said =
     → NumbersRise number_of (seen unit (state g before).now.trees) → (rows : UnitRows) → rows.units ≡ units
     → IfOk said (λ found. found
     ≡ filter (λ r. (selection_by rows scope).matrix (number_of r)) (seen unit (state g before).now.trees))
+
+-- the result is this of the unit's rows and of what the scope selects of them
+abbrev pub ReadsSelected : {S A E : Type 0} → Ghosts S → Held S → Held S → Name → Scope → Result A E → (UnitRows → Selection → A)
+    → Type 0
+ReadsSelected g before after unit scope said what =
+    ReadsContent g before after said (λ m. what (rows_in m unit) (selection_by (rows_in m unit) scope))
 
 -- the result is the unit's changes that the scope takes in, where it takes in these records
 abbrev pub LoadsChanges : {S E : Type 0} → Ghosts S → Held S → Held S → Name → List RecordEntry → Scope

@@ -1,13 +1,13 @@
 //! The part of a unit's rows that a call looks at.
 
-ghost use Rattle.std.specs.{Ordering.{nat_cmp}, Prelude.{◌≡◌, false, IfOk, None, Some}};
+ghost use Rattle.std.specs.Prelude.{◌≡◌, false, filter, IfOk, None, Some};
 ghost use Rattle.sqlite.specs.Held.{state};
 ghost use Rattle.plant_model.specs.Worlds.{unit_named};
-ghost use Rattle.plant_model.specs.steps.{Order.{TagsRise}, Parts.{part_of_holder}, RowFacts.{alarm_tag, event_number, shelf_tag}};
-ghost use Rattle.plant_types.specs.{KeyedRows.{IsInOrder}, Names.{Name}};
+ghost use Rattle.plant_model.specs.steps.{Parts.{counted_for, part_of_holder, selected}, Scopes.{selection_by}};
+ghost use Rattle.plant_types.specs.Names.{Name};
 ghost use Rattle.plant_books.specs.Contents.{Content, part_in, rows_in};
 ghost use Rattle.plant_statements.specs.{Changes.{IsHonest}, Keeping.{HasContent}};
-ghost use Rattle.plant_parts.specs.Parts.{AreAskedBy, LoadsApproved, LoadsCount, LoadsCrowding, LoadsGrants, alarms_seen, events_seen, grants_of};
+ghost use Rattle.plant_parts.specs.Parts.{AreAskedBy, LoadsApproved, LoadsCount, LoadsCrowding, LoadsGrants, ReadsSelected, alarms_seen, events_seen, grants_of};
 ghost use Rattle.plant_statements.specs.Reading.{HasNoTransaction, Loads, IsOnlyRead, ReadsContent};
 ghost use Rattle.plant_parts.specs.Wanted.{alarms_left, rows_with};
 ghost use Rattle.plant_columns.specs.{Tables.{rows_seen}, declared.tables.TableKind.TheVariants.{Units}};
@@ -21,12 +21,13 @@ use plant_books::{
     wanted_alarms, wanted_events, wanted_records, wanted_shelves, wants_all_grants,
 };
 use plant_model::{
-    AlarmRow, Call, ChangeEntry, Counted, GrantRow, Request, Scope, ShelfRow, UnitPart, UnitRow,
-    UnitRows, holds_some_by, is_shelving, looks_at_events, number_approved, scope_of,
+    AlarmRow, BandRow, Call, CellRow, ChangeEntry, Counted, GrantRow, RecordEntry, Request, Scope,
+    ShelfRow, UnitPart, UnitRow, UnitRows, holds_some_by, is_shelving, looks_at_events,
+    number_approved, scope_of,
 };
-use plant_statements::read::{all_rows, row_of_tag, rows_of_number};
-use plant_statements::stored::Tagged;
-use plant_types::{List, UnitCode};
+use plant_statements::read::{all_rows, row_of_tag, rows_of_number, sorted_rows};
+use plant_statements::stored::StoredByTag;
+use plant_types::{List, Sorted, UnitCode};
 use sqlite::{Alter, Connection, Error, ErrorCode};
 use std::alloc::Global;
 
@@ -35,38 +36,38 @@ pub fn some_grants<S: Alter>(
     alloc: Global,
     conn: &mut Connection<S>,
     unit: &UnitCode,
-    own: List<GrantRow>,
+    own: Sorted<GrantRow>,
     all: bool,
-) -> Result<List<GrantRow>, Error>
+) -> Result<Sorted<GrantRow>, Error>
     requires { HasNoTransaction conn.old }
     ensures mode { HasNoTransaction conn.new }
     ensures rows { LoadsGrants S.Store conn.old conn.new unit.now own all result }
     ensures reads { IsOnlyRead S.Store conn.old conn.new }
 {
     if all {
-        all_rows(alloc, conn, unit)
+        sorted_rows(alloc, conn, unit)
     } else {
         Ok(own)
     }
 }
 
 /// The unit's rows of the tags that are wanted.
-fn rows_wanted<T: Tagged, S: Alter>(
+fn rows_wanted<T: StoredByTag, S: Alter>(
     alloc: Global,
     conn: &mut Connection<S>,
     unit: &UnitCode,
     wanted: Wanted<'_>,
-) -> Result<List<T>, Error>
+) -> Result<Sorted<T>, Error>
     requires { HasNoTransaction conn.old }
     ensures mode { HasNoTransaction conn.new }
     ensures rows { Loads S.Store conn.old conn.new
-        (λ trees. rows_with T.tag wanted.entry (T.seen unit.now trees)) result }
+        (λ trees. rows_with T.key wanted.entry (T.seen unit.now trees)) result }
     ensures reads { IsOnlyRead S.Store conn.old conn.new }
 {
     match wanted {
-        Wanted::Nothing => Ok(List::new(alloc)),
+        Wanted::Nothing => Ok(Sorted::new(alloc)),
         Wanted::One(tag) => row_of_tag(alloc, conn, unit, tag),
-        Wanted::Every => all_rows(alloc, conn, unit),
+        Wanted::Every => sorted_rows(alloc, conn, unit),
     }
 }
 
@@ -76,7 +77,7 @@ pub fn some_alarms<S: Alter>(
     conn: &mut Connection<S>,
     unit: &UnitCode,
     wanted: WantedAlarms<'_>,
-) -> Result<List<AlarmRow>, Error>
+) -> Result<Sorted<AlarmRow>, Error>
     requires { HasNoTransaction conn.old }
     ensures mode { HasNoTransaction conn.new }
     ensures rows { Loads S.Store conn.old conn.new (alarms_seen wanted.entry unit.now) result }
@@ -84,23 +85,22 @@ pub fn some_alarms<S: Alter>(
 {
     match wanted {
         WantedAlarms::Those(wanted) => rows_wanted(alloc, conn, unit, wanted),
-        WantedAlarms::Shelved => all_rows(alloc, conn, unit),
+        WantedAlarms::Shelved => sorted_rows(alloc, conn, unit),
     }
 }
 
-/// Of the alarms that were read those that are wanted beside these shelves, both in the order of their tags.
+/// Of the alarms that were read those that are wanted beside these shelves.
 fn alarms_for(
     alloc: Global,
-    read: List<AlarmRow>,
-    shelves: &List<ShelfRow>,
+    read: Sorted<AlarmRow>,
+    shelves: &Sorted<ShelfRow>,
     wanted: WantedAlarms<'_>,
-) -> Result<List<AlarmRow>, Error>
-    ensures { TagsRise alarm_tag read → TagsRise shelf_tag shelves.now
-        → IfOk result (λ alarms. alarms ≡ alarms_left wanted.entry shelves.now read) }
+) -> Result<Sorted<AlarmRow>, Error>
+    ensures { IfOk result (λ alarms. alarms ≡ alarms_left wanted.entry shelves.now read) }
 {
     match wanted {
         WantedAlarms::Those(_) => Ok(read),
-        WantedAlarms::Shelved => shelved_alarms(alloc, read.as_slice(), shelves.as_slice()).map_err(
+        WantedAlarms::Shelved => shelved_alarms(alloc, &read, shelves).map_err(
             |_| Error::SqliteFailure(ErrorCode::OutOfMemory),
         ),
     }
@@ -112,22 +112,26 @@ pub fn some_events<S: Alter>(
     conn: &mut Connection<S>,
     unit: &UnitCode,
     wanted: bool,
-) -> Result<List<Event>, Error>
+) -> Result<Sorted<Event>, Error>
     requires { HasNoTransaction conn.old }
     ensures mode { HasNoTransaction conn.new }
     ensures rows { Loads S.Store conn.old conn.new (events_seen wanted unit.now) result }
     ensures reads { IsOnlyRead S.Store conn.old conn.new }
 {
     if wanted {
-        all_rows(alloc, conn, unit)
+        sorted_rows(alloc, conn, unit)
     } else {
-        Ok(List::new(alloc))
+        Ok(Sorted::new(alloc))
     }
 }
 
-/// Of the unit's events, which stand in rising number, those that the scope takes in. All of them are not copied.
-fn events_for(alloc: Global, events: List<Event>, scope: Scope<'_>) -> Result<List<Event>, Error>
-    ensures { IsInOrder nat_cmp event_number events → IfOk result (AreAskedBy scope.entry events) }
+/// Of the unit's events those that the scope takes in. All of them are not copied.
+fn events_for(
+    alloc: Global,
+    events: Sorted<Event>,
+    scope: Scope<'_>,
+) -> Result<Sorted<Event>, Error>
+    ensures { IfOk result (AreAskedBy scope.entry events) }
 {
     let wanted = wanted_events(scope);
     if matches!(wanted, WantedEvents::Every) {
@@ -143,7 +147,7 @@ fn count_for<S: Alter>(
     conn: &mut Connection<S>,
     unit: &UnitCode,
     request: &Request,
-    events: &List<Event>,
+    events: &Sorted<Event>,
 ) -> Result<u32, Error>
     requires { HasNoTransaction conn.old }
     ensures mode { HasNoTransaction conn.new }
@@ -183,7 +187,7 @@ fn approved_for<S: Alter>(
     conn: &mut Connection<S>,
     unit: &UnitCode,
     request: &Request,
-) -> Result<List<ChangeEntry>, Error>
+) -> Result<Sorted<ChangeEntry>, Error>
     requires { HasNoTransaction conn.old }
     ensures mode { HasNoTransaction conn.new }
     ensures rows { LoadsApproved S.Store conn.old conn.new unit.now request.now result }
@@ -191,8 +195,140 @@ fn approved_for<S: Alter>(
 {
     match number_approved(request) {
         Some(number) => rows_of_number(alloc, conn, unit, number),
-        None => Ok(List::new(alloc)),
+        None => Ok(Sorted::new(alloc)),
     }
+}
+
+/// The alarms and the shelves that the scope takes in.
+fn alarms_and_shelves<S: Alter>(
+    alloc: Global,
+    conn: &mut Connection<S>,
+    unit: &UnitCode,
+    scope: Scope<'_>,
+) -> Result<(Sorted<AlarmRow>, Sorted<ShelfRow>), Error>
+    requires { HasNoTransaction conn.old }
+    ensures mode { HasNoTransaction conn.new }
+    ensures found { ReadsSelected S.Store conn.old conn.new unit.now scope.entry result (λ rows s.
+        (filter (λ r. s.alarm r.tag) rows.alarms, filter (λ r. s.shelf r.tag) rows.shelves)) }
+    ensures reads { IsOnlyRead S.Store conn.old conn.new }
+{
+    let tags = wanted_alarms(scope);
+    let read = some_alarms(alloc, conn, unit, tags)?;
+    let shelved = wanted_shelves(scope);
+    let shelves = rows_wanted(alloc, conn, unit, shelved)?;
+    let alarms = alarms_for(alloc, read, &shelves, tags)?;
+    Ok((alarms, shelves))
+}
+
+/// The events that the scope takes in, and the count that the request needs, where the scope takes in what the request
+/// looks at.
+fn events_and_count<S: Alter>(
+    alloc: Global,
+    conn: &mut Connection<S>,
+    unit: &UnitCode,
+    request: &Request,
+    scope: Scope<'_>,
+) -> Result<(Sorted<Event>, u32), Error>
+    requires { HasNoTransaction conn.old }
+    ensures mode { HasNoTransaction conn.new }
+    ensures found { IsHonest (state S.Store conn.new) → (m : Content)
+        → HasContent (state S.Store conn.old) m
+        → selection_by (rows_in m unit.now) scope.entry ≡ selected (rows_in m unit.now) request.now
+        → IfOk result (λ found. found ≡ (
+          (selected (rows_in m unit.now) request.now).events
+              (rows_in m unit.now).events,
+          counted_for (rows_in m unit.now) request.now,
+        )) }
+    ensures reads { IsOnlyRead S.Store conn.old conn.new }
+{
+    let looks = looks_at_events(request);
+    let all = some_events(alloc, conn, unit, looks)?;
+    let count = count_for(conn, unit, request, &all)?;
+    let events = events_for(alloc, all, scope)?;
+    Ok((events, count))
+}
+
+/// The records and the changes that the scope takes in.
+fn records_and_changes<S: Alter>(
+    alloc: Global,
+    conn: &mut Connection<S>,
+    unit: &UnitCode,
+    scope: Scope<'_>,
+) -> Result<(Sorted<RecordEntry>, Sorted<ChangeEntry>), Error>
+    requires { HasNoTransaction conn.old }
+    ensures mode { HasNoTransaction conn.new }
+    ensures found { ReadsSelected S.Store conn.old conn.new unit.now scope.entry result (λ rows s.
+        (filter (λ r. s.rationale r.tag) rows.records, filter (λ r. s.change r.number) rows.changes)) }
+    ensures reads { IsOnlyRead S.Store conn.old conn.new }
+{
+    let recorded = wanted_records(scope);
+    let records = rows_wanted(alloc, conn, unit, recorded)?;
+    let changes = some_changes(alloc, conn, unit, &records, scope)?;
+    Ok((records, changes))
+}
+
+/// The limits and the cells of the matrices that the scope takes in, of a unit with this row of its own.
+fn matrices<S: Alter>(
+    alloc: Global,
+    conn: &mut Connection<S>,
+    unit: &UnitCode,
+    units: &List<UnitRow>,
+    scope: Scope<'_>,
+) -> Result<(Sorted<BandRow>, Sorted<CellRow>), Error>
+    requires { HasNoTransaction conn.old }
+    ensures mode { HasNoTransaction conn.new }
+    ensures found { IsHonest (state S.Store conn.new) → (m : Content)
+        → HasContent (state S.Store conn.old) m → units.now ≡ (rows_in m unit.now).units
+        → IfOk result (λ found. found ≡ (
+          filter (λ r. (selection_by (rows_in m unit.now) scope.entry).matrix r.matrix_no) (rows_in m unit.now).bands,
+          filter (λ r. (selection_by (rows_in m unit.now) scope.entry).matrix r.matrix_no) (rows_in m unit.now).cells,
+        )) }
+    ensures reads { IsOnlyRead S.Store conn.old conn.new }
+{
+    let bands = matrix_rows(alloc, conn, unit, units, scope)?;
+    let cells = matrix_rows(alloc, conn, unit, units, scope)?;
+    Ok((bands, cells))
+}
+
+/// The part of a caller who holds a role, with the unit's own row and the grants of the part, which were read before. The
+/// scope takes in what the call looks at.
+fn part_in_scope<S: Alter>(
+    alloc: Global,
+    conn: &mut Connection<S>,
+    unit: &UnitCode,
+    call: &Call,
+    scope: Scope<'_>,
+    units: List<UnitRow>,
+    grants: Sorted<GrantRow>,
+) -> Result<UnitPart, Error>
+    requires { HasNoTransaction conn.old }
+    ensures mode { HasNoTransaction conn.new }
+    ensures found { IsHonest (state S.Store conn.new) → (m : Content)
+        → HasContent (state S.Store conn.old) m
+        → selection_by (rows_in m unit.now) scope.entry ≡ selected (rows_in m unit.now) call.now.request
+        → units ≡ (rows_in m unit.now).units
+        → grants ≡ (part_of_holder call.now (rows_in m unit.now)).rows.grants
+        → IfOk result (λ part. part ≡ part_of_holder call.now (rows_in m unit.now)) }
+    ensures reads { IsOnlyRead S.Store conn.old conn.new }
+{
+    let (alarms, shelves) = alarms_and_shelves(alloc, conn, unit, scope)?;
+    let (events, count) = events_and_count(alloc, conn, unit, &call.request, scope)?;
+    let (records, changes) = records_and_changes(alloc, conn, unit, scope)?;
+    let (bands, cells) = matrices(alloc, conn, unit, &units, scope)?;
+    Ok(UnitPart {
+        rows: UnitRows {
+            units,
+            grants,
+            alarms,
+            shelves,
+            events,
+            bands,
+            cells,
+            records,
+            changes,
+        },
+        count,
+    })
 }
 
 /// The part of a caller who holds a role, with the unit's own row and the caller's grants, which were read before.
@@ -202,7 +338,7 @@ fn holders_part<S: Alter>(
     unit: &UnitCode,
     call: &Call,
     units: List<UnitRow>,
-    own: List<GrantRow>,
+    own: Sorted<GrantRow>,
 ) -> Result<UnitPart, Error>
     requires { HasNoTransaction conn.old }
     ensures mode { HasNoTransaction conn.new }
@@ -219,34 +355,7 @@ fn holders_part<S: Alter>(
     let scope = scope_of(request, crowded, approved.as_slice().first());
     let all = wants_all_grants(scope);
     let grants = some_grants(alloc, conn, unit, own, all)?;
-    let tags = wanted_alarms(scope);
-    let read = some_alarms(alloc, conn, unit, tags)?;
-    let shelved = wanted_shelves(scope);
-    let shelves = rows_wanted(alloc, conn, unit, shelved)?;
-    let alarms = alarms_for(alloc, read, &shelves, tags)?;
-    let looks = looks_at_events(request);
-    let all_events = some_events(alloc, conn, unit, looks)?;
-    let recorded = wanted_records(scope);
-    let records = rows_wanted(alloc, conn, unit, recorded)?;
-    let bands = matrix_rows(alloc, conn, unit, &units, scope)?;
-    let cells = matrix_rows(alloc, conn, unit, &units, scope)?;
-    let changes = some_changes(alloc, conn, unit, &records, scope)?;
-    let count = count_for(conn, unit, request, &all_events)?;
-    let events = events_for(alloc, all_events, scope)?;
-    Ok(UnitPart {
-        rows: UnitRows {
-            units,
-            grants,
-            alarms,
-            shelves,
-            events,
-            bands,
-            cells,
-            records,
-            changes,
-        },
-        count,
-    })
+    part_in_scope(alloc, conn, unit, call, scope, units, grants)
 }
 
 /// The unit's part that the call looks at, where the unit was opened. Of a caller who holds no role nothing is read but

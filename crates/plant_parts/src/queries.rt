@@ -8,16 +8,16 @@ ghost use Rattle.plant_statements.specs.Reading.{HasNoTransaction, IsOnlyRead, L
 use plant_columns::decode::number;
 use plant_columns::encode::{pair, single};
 use plant_model::{AlarmRow, GrantRow};
-use plant_statements::read::{ask, read_rows};
+use plant_statements::read::{ask, in_order, read_rows};
 use plant_statements::stored::Stored;
 use plant_statements::texts;
-use plant_types::{List, Person, UnitCode};
+use plant_types::{List, Person, Sorted, UnitCode};
 use sqlite::{Alter, Connection, Error};
 use std::alloc::Global;
 
-/// One person's grants in the unit.
+/// The rows that the person has in the table of grants of a unit, as they were read.
 #[tactic(auto, using(plant_statements::proofs::public::ReadsOnly::reads_plain, plant_statements::proofs::public::Meanings::lists_own_grants))]
-pub fn own_grants<S: Alter>(
+fn own_as_read<S: Alter>(
     alloc: Global,
     conn: &mut Connection<S>,
     unit: &UnitCode,
@@ -29,6 +29,22 @@ pub fn own_grants<S: Alter>(
     ensures reads { IsOnlyRead S.Store conn.old conn.new }
 {
     read_rows(alloc, conn, texts::OWN_GRANTS, &pair(unit, person))
+}
+
+/// One person's grants in the unit.
+pub fn own_grants<S: Alter>(
+    alloc: Global,
+    conn: &mut Connection<S>,
+    unit: &UnitCode,
+    person: &Person,
+) -> Result<Sorted<GrantRow>, Error>
+    requires { HasNoTransaction conn.old }
+    ensures mode { HasNoTransaction conn.new }
+    ensures rows { Loads S.Store conn.old conn.new (grants_of person.now unit.now) result }
+    ensures reads { IsOnlyRead S.Store conn.old conn.new }
+{
+    let rows = own_as_read(alloc, conn, unit, person)?;
+    in_order(rows)
 }
 
 /// So many rows as a part counts them. More than it can count are an error other than that memory ran out.

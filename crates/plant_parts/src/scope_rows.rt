@@ -6,9 +6,9 @@ ghost use Rattle.plant_statements.specs.Reading.{HasNoTransaction, IsOnlyRead};
 
 use plant_books::{change_numbers, matrix_numbers};
 use plant_model::{ChangeEntry, RecordEntry, Scope, UnitRow};
-use plant_statements::read::rows_of_number;
-use plant_statements::stored::Numbered;
-use plant_types::{List, UnitCode};
+use plant_statements::read::{in_order, rows_of_number};
+use plant_statements::stored::StoredByNumber;
+use plant_types::{List, Sorted, UnitCode};
 use sqlite::{Alter, Connection, Error, ErrorCode};
 use std::alloc::Global;
 use std::collections::BTreeSet;
@@ -22,12 +22,12 @@ fn append<T: Drop>(rows: &mut Vec<T>, more: List<T>) -> Result<(), Error>
 }
 
 /// The unit's rows of these numbers.
-fn rows_of_numbers<T: Numbered, S: Alter>(
+fn rows_of_numbers<T: StoredByNumber, S: Alter>(
     alloc: Global,
     conn: &mut Connection<S>,
     unit: &UnitCode,
     numbers: &BTreeSet<u32>,
-) -> Result<List<T>, Error>
+) -> Result<Sorted<T>, Error>
     requires { HasNoTransaction conn.old }
     ensures mode { HasNoTransaction conn.new }
     ensures rows { LoadsNumbers S.Store conn.old conn.new T.seen unit.now T.number numbers.now result }
@@ -36,19 +36,19 @@ fn rows_of_numbers<T: Numbered, S: Alter>(
     let mut rows = Vec::new(alloc);
     for number in numbers {
         let read = rows_of_number(alloc, conn, unit, *number)?;
-        append(&mut rows, read)?;
+        append(&mut rows, read.into_list())?;
     }
-    Ok(List::from_vec(rows))
+    in_order(List::from_vec(rows))
 }
 
 /// The unit's rows of the matrices that the scope takes in: their limits, or their cells.
-pub fn matrix_rows<T: Numbered, S: Alter>(
+pub fn matrix_rows<T: StoredByNumber, S: Alter>(
     alloc: Global,
     conn: &mut Connection<S>,
     unit: &UnitCode,
     units: &List<UnitRow>,
     scope: Scope<'_>,
-) -> Result<List<T>, Error>
+) -> Result<Sorted<T>, Error>
     requires { HasNoTransaction conn.old }
     ensures mode { HasNoTransaction conn.new }
     ensures rows { LoadsMatrices S.Store conn.old conn.new T.seen unit.now T.number units.now scope.entry result }
@@ -65,9 +65,9 @@ pub fn some_changes<S: Alter>(
     alloc: Global,
     conn: &mut Connection<S>,
     unit: &UnitCode,
-    records: &List<RecordEntry>,
+    records: &Sorted<RecordEntry>,
     scope: Scope<'_>,
-) -> Result<List<ChangeEntry>, Error>
+) -> Result<Sorted<ChangeEntry>, Error>
     requires { HasNoTransaction conn.old }
     ensures mode { HasNoTransaction conn.new }
     ensures rows { LoadsChanges S.Store conn.old conn.new unit.now records.now scope.entry result }

@@ -6,8 +6,8 @@ ghost use Rattle.plant_statements.specs.{Keeping.{has_any}, Reading.{HasNoTransa
 
 use plant_alarm::Event;
 use plant_model::{UnitRow, UnitRows};
-use plant_statements::read::all_rows;
-use plant_types::{List, UnitCode};
+use plant_statements::read::{all_rows, sorted_rows};
+use plant_types::{List, Sorted, UnitCode};
 use sqlite::{Alter, Connection, Error};
 use std::alloc::Global;
 
@@ -51,20 +51,20 @@ pub fn rows_but_history<S: Alter>(
     if !has_row(&units) {
         return Ok(None);
     }
-    let grants = all_rows(alloc, conn, unit)?;
-    let alarms = all_rows(alloc, conn, unit)?;
-    let shelves = all_rows(alloc, conn, unit)?;
-    let records = all_rows(alloc, conn, unit)?;
+    let grants = sorted_rows(alloc, conn, unit)?;
+    let alarms = sorted_rows(alloc, conn, unit)?;
+    let shelves = sorted_rows(alloc, conn, unit)?;
+    let records = sorted_rows(alloc, conn, unit)?;
     Ok(Some(UnitRows {
         units,
         grants,
         alarms,
         shelves,
-        events: List::new(alloc),
-        bands: List::new(alloc),
-        cells: List::new(alloc),
+        events: Sorted::new(alloc),
+        bands: Sorted::new(alloc),
+        cells: Sorted::new(alloc),
         records,
-        changes: List::new(alloc),
+        changes: Sorted::new(alloc),
     }))
 }
 
@@ -73,13 +73,13 @@ pub fn events<S: Alter>(
     alloc: Global,
     conn: &mut Connection<S>,
     unit: &UnitCode,
-) -> Result<List<Event>, Error>
+) -> Result<Sorted<Event>, Error>
     requires { HasNoTransaction conn.old }
     ensures mode { HasNoTransaction conn.new }
     ensures found { ReadsContent S.Store conn.old conn.new result (λ m. events_in m unit.now) }
     ensures reads { IsOnlyRead S.Store conn.old conn.new }
 {
-    all_rows(alloc, conn, unit)
+    sorted_rows(alloc, conn, unit)
 }
 
 /// The rows with the unit's history.
@@ -95,10 +95,10 @@ fn with_history<S: Alter>(
         (λ m. with_history_of (rows_in m unit.now) rows) }
     ensures reads { IsOnlyRead S.Store conn.old conn.new }
 {
-    let bands = all_rows(alloc, conn, unit)?;
-    let cells = all_rows(alloc, conn, unit)?;
-    let changes = all_rows(alloc, conn, unit)?;
-    let events = all_rows(alloc, conn, unit)?;
+    let bands = sorted_rows(alloc, conn, unit)?;
+    let cells = sorted_rows(alloc, conn, unit)?;
+    let changes = sorted_rows(alloc, conn, unit)?;
+    let events = sorted_rows(alloc, conn, unit)?;
     Ok(UnitRows {
         bands,
         cells,

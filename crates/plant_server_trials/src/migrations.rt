@@ -65,13 +65,19 @@ fn run<S: Alter>(stop: &impl Abort, conn: &mut Connection<S>, statements: &str) 
     conn.execute_batch(statements).expect(stop, "statements");
 }
 
+/// Makes a store of schema 1, and then runs these statements.
+fn fill<S: Alter>(stop: &impl Abort, conn: &mut Connection<S>, statements: &str) {
+    run(stop, conn, SCHEMA);
+    run(stop, conn, ROWS);
+    run(stop, conn, statements);
+}
+
 /// A store of schema 1 in memory.
 fn older(rt: &(impl Abort + AllocGlobal)) -> Connection<MemStore>
     ensures { HasNoTransaction result }
 {
     let mut conn = Connection::open_in_memory(rt.alloc()).expect(rt, "a database");
-    run(rt, &mut conn, SCHEMA);
-    run(rt, &mut conn, ROWS);
+    fill(rt, &mut conn, "");
     if conn.is_autocommit() {
         conn
     } else {
@@ -99,9 +105,7 @@ fn answers_over_a_migrated_store(rt: HostRuntime) {
 /// Makes a file with a store of schema 1, after these statements. Its rows are still in the log, beside it.
 fn make_older(stop: &impl Abort, rt: &HostRuntime, path: &str, statements: &str) {
     let mut conn = Connection::open(rt, path).expect(stop, "a file");
-    run(stop, &mut conn, SCHEMA);
-    run(stop, &mut conn, ROWS);
-    run(stop, &mut conn, statements);
+    fill(stop, &mut conn, statements);
 }
 
 /// A name with an ending.

@@ -8,7 +8,7 @@ use plant_examples::{BASE, Exchanges, LOOKED_AT, SHELVED};
 use plant_model::{Call, Changes, UnitPart, UnitRows};
 use plant_trials::{after, lists, mirrored};
 use plant_types::limits::MAX_ROWS_AT_HAND;
-use plant_types::{Fault, List, Moment, Person, UnitCode};
+use plant_types::{Fault, List, Moment, Person, Sorted, UnitCode};
 use std::process::Abort;
 
 /// A viewer's requests of each kind that reads of a unit, but for its shelves, its floods and what was reviewed, and two
@@ -204,7 +204,7 @@ impl<B: Books> Books for Counting<B> {
         self.books.rows_but_history(unit)
     }
 
-    fn events(&mut self, unit: &UnitCode) -> Result<List<Event>, Fault> {
+    fn events(&mut self, unit: &UnitCode) -> Result<Sorted<Event>, Fault> {
         self.count_asked();
         self.count_events();
         self.books.events(unit)

@@ -1,14 +1,15 @@
 //! The statements that read one unit's rows of one table.
 
+ghost use Rattle.std.specs.Prelude.{◌≡◌, IfOk};
 ghost use Rattle.plant_books.specs.Books.{WasHonest};
 ghost use Rattle.plant_statements.specs.Reading.{Asks, CrashesAsShown, Decodes, HasNoTransaction, IsHonestIn, Loads, LoadsNumber, LoadsTag, IsOnlyRead, SameIfPlain};
 
-use crate::stored::{Numbered, Stored, Tagged};
+use crate::stored::{Stored, StoredByNumber, StoredByTag};
 use plant_columns::decode::{Shown, read_all};
 use plant_columns::encode::{numbered, pair, single};
-use plant_types::{List, Tag, UnitCode};
+use plant_types::{Keyed, List, Sorted, Tag, UnitCode};
 use sqlite::types::ValueRef;
-use sqlite::{Alter, Connection, Error, Row};
+use sqlite::{Alter, Connection, Error, ErrorCode, Row};
 use std::alloc::Global;
 
 /// Asks one question.
@@ -61,8 +62,33 @@ pub fn all_rows<T: Stored, S: Alter>(
     read_rows(alloc, conn, T::select(), &single(unit))
 }
 
-/// The unit's row of this tag in one table, if any.
-pub fn row_of_tag<T: Tagged, S: Alter>(
+/// The rows that were read. If they do not stand in the order of their keys, the file is damaged.
+pub fn in_order<T: Keyed>(rows: List<T>) -> Result<Sorted<T>, Error>
+    ensures { IfOk result (λ sorted. sorted ≡ rows) }
+{
+    match Sorted::from_list(rows) {
+        Ok(sorted) => Ok(sorted),
+        Err(_) => Err(Error::SqliteFailure(ErrorCode::DatabaseCorrupt)),
+    }
+}
+
+/// All rows that the unit has in one table, in the order of their keys.
+pub fn sorted_rows<T: Stored + Keyed, S: Alter>(
+    alloc: Global,
+    conn: &mut Connection<S>,
+    unit: &UnitCode,
+) -> Result<Sorted<T>, Error>
+    requires { HasNoTransaction conn.old }
+    ensures mode { HasNoTransaction conn.new }
+    ensures rows { Loads S.Store conn.old conn.new (T.seen unit.now) result }
+    ensures reads { IsOnlyRead S.Store conn.old conn.new }
+{
+    let rows = all_rows(alloc, conn, unit)?;
+    in_order(rows)
+}
+
+/// The rows of this tag as they were read.
+fn as_read_of_tag<T: StoredByTag, S: Alter>(
     alloc: Global,
     conn: &mut Connection<S>,
     unit: &UnitCode,
@@ -70,14 +96,30 @@ pub fn row_of_tag<T: Tagged, S: Alter>(
 ) -> Result<List<T>, Error>
     requires { HasNoTransaction conn.old }
     ensures mode { HasNoTransaction conn.new }
-    ensures rows { LoadsTag S.Store conn.old conn.new T.seen unit.now T.tag tag.now result }
+    ensures rows { LoadsTag S.Store conn.old conn.new T.seen unit.now T.key tag.now result }
     ensures reads { IsOnlyRead S.Store conn.old conn.new }
 {
     read_rows(alloc, conn, T::select_of_tag(), &pair(unit, tag))
 }
 
-/// The unit's rows of this number in one table.
-pub fn rows_of_number<T: Numbered, S: Alter>(
+/// The unit's row of this tag in one table, if any.
+pub fn row_of_tag<T: StoredByTag, S: Alter>(
+    alloc: Global,
+    conn: &mut Connection<S>,
+    unit: &UnitCode,
+    tag: &Tag,
+) -> Result<Sorted<T>, Error>
+    requires { HasNoTransaction conn.old }
+    ensures mode { HasNoTransaction conn.new }
+    ensures rows { LoadsTag S.Store conn.old conn.new T.seen unit.now T.key tag.now result }
+    ensures reads { IsOnlyRead S.Store conn.old conn.new }
+{
+    let rows = as_read_of_tag(alloc, conn, unit, tag)?;
+    in_order(rows)
+}
+
+/// The rows of this number as they were read.
+fn as_read_of_number<T: StoredByNumber, S: Alter>(
     alloc: Global,
     conn: &mut Connection<S>,
     unit: &UnitCode,
@@ -89,4 +131,20 @@ pub fn rows_of_number<T: Numbered, S: Alter>(
     ensures reads { IsOnlyRead S.Store conn.old conn.new }
 {
     read_rows(alloc, conn, T::select_of_number(), &numbered(unit, number))
+}
+
+/// The unit's rows of this number in one table.
+pub fn rows_of_number<T: StoredByNumber, S: Alter>(
+    alloc: Global,
+    conn: &mut Connection<S>,
+    unit: &UnitCode,
+    number: u32,
+) -> Result<Sorted<T>, Error>
+    requires { HasNoTransaction conn.old }
+    ensures mode { HasNoTransaction conn.new }
+    ensures rows { LoadsNumber S.Store conn.old conn.new T.seen unit.now T.number number result }
+    ensures reads { IsOnlyRead S.Store conn.old conn.new }
+{
+    let rows = as_read_of_number(alloc, conn, unit, number)?;
+    in_order(rows)
 }

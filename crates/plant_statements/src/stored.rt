@@ -5,7 +5,7 @@ ghost use Rattle.sqlite.specs.Tree.{Trees};
 ghost use Rattle.plant_columns.specs.declared.tables.TableKind.TheVariants.{Alarms, Bands, Cells, Changes, Events, Grants, Records, Shelves, Units};
 ghost use Rattle.plant_columns.specs.Tables.{rows_seen};
 ghost use Rattle.plant_model.specs.declared.rows.Row.{Row as AnyRow};
-ghost use Rattle.plant_model.specs.steps.{Keys.{has_key}, Order.{AreInOrder}, RowFacts.{change_number}};
+ghost use Rattle.plant_model.specs.steps.Keys.{has_key};
 ghost use Rattle.plant_model.specs.declared.rows.Row.TheVariants.{Alarm as AlarmPut, Band as BandPut, Cell as CellPut, Change as ChangePut, Event as EventPut, Grant as GrantPut, Record as RecordPut, Shelf as ShelfPut, Unit as UnitPut};
 ghost use Rattle.plant_model.specs.declared.rows.RowEdit.TheVariants.{Put};
 ghost use Rattle.plant_statements.specs.{Statements.{ReadsNumber, ReadsTag, ReadsUnit}, Texts.{rows_text}};
@@ -15,6 +15,7 @@ ghost use Rattle.plant_types.specs.Names.{Name};
 use crate::texts;
 use crate::write::{remove_grant, remove_shelf, run, run_counting};
 use plant_alarm::Event;
+use plant_books::Numbered;
 use plant_columns::decode::Shown;
 use plant_columns::encode::{
     alarm_cells, band_cells, cell_cells, change_cells, event_cells, grant_cells, record_cells,
@@ -22,9 +23,9 @@ use plant_columns::encode::{
 };
 use plant_model::{
     AlarmRow, BandRow, CellRow, ChangeEntry, GrantRow, RecordEntry, ShelfRow, UnitRow, UnitRows,
-    change_at, row_of, stands,
+    stands,
 };
-use plant_types::UnitCode;
+use plant_types::{Keyed, Tag, UnitCode};
 use sqlite::{Alter, Error, Transaction};
 
 /// A row of a table.
@@ -44,7 +45,7 @@ pub trait Stored: Shown {
 
     /// Whether the key may be that of one of these rows of the unit: false only where it is none of theirs.
     fn has_key_in(&self, rows: &UnitRows) -> bool
-        ensures { AreInOrder rows.now → has_key (as_row self.now) rows.now ≡ true → result ≡ true }
+        ensures { has_key (as_row self.now) rows.now ≡ true → result ≡ true }
     {
         let _rows = rows;
         true
@@ -68,22 +69,18 @@ pub trait Stored: Shown {
         ensures stays { StaysOpen S.Store tx.old tx.new result };
 }
 
-/// A row of a table whose key has a tag.
-pub trait Tagged: Stored {
-    ghost tag: { Self → Name };
-
+/// A row of a table whose key is a tag.
+pub trait StoredByTag: Stored + Keyed<Key = Tag> {
     /// The text that reads the unit's row of a tag.
     fn select_of_tag() -> &'static str
-        ensures { ReadsTag Self.width Self.cells Self.seen tag result.now };
+        ensures { ReadsTag Self.width Self.cells Self.seen Self.key result.now };
 }
 
 /// A row of a table whose key begins with a number: that of a matrix, or of a change.
-pub trait Numbered: Stored {
-    ghost number: { Self → ℕ };
-
+pub trait StoredByNumber: Stored + Numbered {
     /// The text that reads the unit's rows of a number.
     fn select_of_number() -> &'static str
-        ensures { ReadsNumber Self.width Self.cells Self.seen number result.now };
+        ensures { ReadsNumber Self.width Self.cells Self.seen Self.number result.now };
 }
 
 impl Stored for UnitRow {
@@ -155,7 +152,7 @@ impl Stored for AlarmRow {
 
     #[tactic(auto, using(crate::proofs::StoredLaws::found_there))]
     fn has_key_in(&self, rows: &UnitRows) -> bool {
-        row_of(rows.alarms.as_slice(), &self.tag).is_some()
+        rows.alarms.get(&self.tag).is_some()
     }
 
     fn update<S: Alter>(
@@ -172,9 +169,7 @@ impl Stored for AlarmRow {
     }
 }
 
-impl Tagged for AlarmRow {
-    ghost tag = { λ r. r.tag };
-
+impl StoredByTag for AlarmRow {
     fn select_of_tag() -> &'static str {
         texts::ALARM_AT
     }
@@ -193,7 +188,7 @@ impl Stored for ShelfRow {
 
     #[tactic(auto, using(crate::proofs::StoredLaws::found_there))]
     fn has_key_in(&self, rows: &UnitRows) -> bool {
-        row_of(rows.shelves.as_slice(), &self.tag).is_some()
+        rows.shelves.get(&self.tag).is_some()
     }
 
     fn update<S: Alter>(
@@ -213,9 +208,7 @@ impl Stored for ShelfRow {
     }
 }
 
-impl Tagged for ShelfRow {
-    ghost tag = { λ r. r.tag };
-
+impl StoredByTag for ShelfRow {
     fn select_of_tag() -> &'static str {
         texts::SHELF_AT
     }
@@ -239,9 +232,7 @@ impl Stored for BandRow {
     }
 }
 
-impl Numbered for BandRow {
-    ghost number = { λ r. r.matrix_no };
-
+impl StoredByNumber for BandRow {
     fn select_of_number() -> &'static str {
         texts::BANDS_AT
     }
@@ -264,9 +255,7 @@ impl Stored for CellRow {
     }
 }
 
-impl Numbered for CellRow {
-    ghost number = { λ r. r.matrix_no };
-
+impl StoredByNumber for CellRow {
     fn select_of_number() -> &'static str {
         texts::CELLS_AT
     }
@@ -302,7 +291,7 @@ impl Stored for RecordEntry {
 
     #[tactic(auto, using(crate::proofs::StoredLaws::found_there))]
     fn has_key_in(&self, rows: &UnitRows) -> bool {
-        row_of(rows.records.as_slice(), &self.tag).is_some()
+        rows.records.get(&self.tag).is_some()
     }
 
     fn update<S: Alter>(
@@ -319,9 +308,7 @@ impl Stored for RecordEntry {
     }
 }
 
-impl Tagged for RecordEntry {
-    ghost tag = { λ r. r.tag };
-
+impl StoredByTag for RecordEntry {
     fn select_of_tag() -> &'static str {
         texts::RECORD_AT
     }
@@ -340,7 +327,7 @@ impl Stored for ChangeEntry {
 
     #[tactic(auto, using(crate::proofs::StoredLaws::found_there))]
     fn has_key_in(&self, rows: &UnitRows) -> bool {
-        change_at(rows.changes.as_slice(), self.number).is_some()
+        rows.changes.get(&self.number).is_some()
     }
 
     fn update<S: Alter>(
@@ -357,9 +344,7 @@ impl Stored for ChangeEntry {
     }
 }
 
-impl Numbered for ChangeEntry {
-    ghost number = { change_number };
-
+impl StoredByNumber for ChangeEntry {
     fn select_of_number() -> &'static str {
         texts::CHANGE_AT
     }

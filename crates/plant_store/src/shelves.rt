@@ -2,6 +2,7 @@
 
 ghost use Rattle.std.specs.List.{dedup};
 ghost use Rattle.std.specs.Prelude.{◌≡◌, IfOk, map};
+ghost use Rattle.sqlite_value.specs.{Order.{column}, declared.value.Value.TheVariants.{Text as TextValue}};
 ghost use Rattle.plant_books.specs.Contents.{mine_shelves as shelves_held};
 ghost use Rattle.plant_store.specs.Mine.{as_mine, line_cmp, repeats, shelf_line_cells};
 ghost use Rattle.plant_store.specs.Mine.{own_shelf_lines, standing_shelves};
@@ -14,7 +15,7 @@ use plant_columns::encode::single;
 use plant_model::{ShelfRow, is_before};
 use plant_statements::memory::push;
 use plant_statements::read::read_rows;
-use plant_types::{List, Moment, Person, Role, UnitCode};
+use plant_types::{List, Moment, Person, Role, Tag, UnitCode, Words};
 use sqlite::{Alter, Connection, Error, Row};
 use std::alloc::Global;
 use std::cmp::Ordering;
@@ -29,25 +30,48 @@ pub struct ShelfLine {
     pub last_return: Option<Moment>,
 }
 
+/// The unit of a line, and the tag, the person and the words of its shelf.
+fn texts_of_line(alloc: Global, row: &Row) -> Result<(UnitCode, Tag, Person, Words), Error>
+    ensures { IfOk result (λ texts. (column row.now 0 ≡ TextValue texts.0)
+        × (column row.now 3 ≡ TextValue texts.1)
+        × (column row.now 7 ≡ TextValue texts.2)
+        × (column row.now 8 ≡ TextValue texts.3)) }
+{
+    Ok((
+        text(alloc, row, 0)?,
+        text(alloc, row, 3)?,
+        text(alloc, row, 7)?,
+        text(alloc, row, 8)?,
+    ))
+}
+
 impl Shown for ShelfLine {
     ghost width = { 10 };
 
     ghost cells = { shelf_line_cells };
 
     fn from_row(alloc: Global, row: &Row) -> Result<ShelfLine, Error> {
+        // The texts come last: what is read before an error is given back then, and a number needs no care.
+        let role_no = coded(row, 1)?;
+        let end_s = open_moment(row, 2)?;
+        let one_shot = flag(row, 4)?;
+        let start_s = moment(row, 5)?;
+        let until_s = wide(row, 6)?;
+        let last_return = open_moment(row, 9)?;
+        let (unit, tag, person, words) = texts_of_line(alloc, row)?;
         Ok(ShelfLine {
-            unit: text(alloc, row, 0)?,
-            role_no: coded(row, 1)?,
-            end_s: open_moment(row, 2)?,
+            unit,
+            role_no,
+            end_s,
             shelf: ShelfRow {
-                tag: text(alloc, row, 3)?,
-                one_shot: flag(row, 4)?,
-                start_s: moment(row, 5)?,
-                until_s: wide(row, 6)?,
-                person: text(alloc, row, 7)?,
-                words: text(alloc, row, 8)?,
+                tag,
+                one_shot,
+                start_s,
+                until_s,
+                person,
+                words,
             },
-            last_return: open_moment(row, 9)?,
+            last_return,
         })
     }
 }

@@ -20,7 +20,7 @@ use plant_model::{Call, Changes, UnitPart, UnitRows};
 use plant_parts::{part, unit};
 use plant_statements::make::make_all;
 use plant_statements::write;
-use plant_types::{Fault, List, Moment, Person, UnitCode};
+use plant_types::{Fault, List, Moment, Person, Sorted, UnitCode};
 use sqlite::{Alter, Connection, Error as SqlError, ErrorCode};
 use sqlite_schema::schema::Schema;
 use std::alloc::Global;
@@ -286,7 +286,7 @@ impl<S: Alter> Books for Tables<S> {
         heard(&mut self.conn, &mut self.stores, &mut self.shut, said)
     }
 
-    fn events(&mut self, unit: &UnitCode) -> Result<List<Event>, Fault> {
+    fn events(&mut self, unit: &UnitCode) -> Result<Sorted<Event>, Fault> {
         let said = unit::events(self.alloc, &mut self.conn, unit);
         heard(&mut self.conn, &mut self.stores, &mut self.shut, said)
     }

@@ -118,6 +118,19 @@ fn is_taken<B: Books + Drop>(rt: &impl Abort, alloc: Global, mut books: B) -> bo
     books.taken(&unit(rt, alloc, b"U1")).expect(rt, "an answer")
 }
 
+/// Whether the unit is there after the books are closed and opened again.
+fn is_there_again<D: Disk + Drop>(
+    rt: &impl Abort,
+    alloc: Global,
+    books: Tables<FileStore<D>>,
+) -> bool {
+    let root = person(rt, alloc, b"root");
+    match reopen(alloc, books, root, Options::new(7)) {
+        Some(again) => is_taken(rt, alloc, again),
+        None => rt.panic("no books again"),
+    }
+}
+
 /// Whether a unit that is kept in these files is found again.
 fn is_found_again<D: Disk + Drop>(
     rt: &impl Abort,
@@ -126,12 +139,10 @@ fn is_found_again<D: Disk + Drop>(
 ) -> bool
     requires { HasNoTransaction conn }
 {
-    let Ok(books) = Tables::create(alloc, conn, person(rt, alloc, b"root")) else {
-        rt.panic("no books")
-    };
-    let books = with_unit(rt, alloc, books);
-    let again = reopen(alloc, books, person(rt, alloc, b"root"), Options::new(7));
-    is_taken(rt, alloc, again.expect(rt, "books again"))
+    match Tables::create(alloc, conn, person(rt, alloc, b"root")) {
+        Ok(books) => is_there_again(rt, alloc, with_unit(rt, alloc, books)),
+        Err(_) => rt.panic("no books"),
+    }
 }
 
 #[test]

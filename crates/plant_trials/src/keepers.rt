@@ -7,7 +7,7 @@ use plant_model::{
     AlarmRow, BandRow, CellRow, ChangeEntry, GrantRow, RecordEntry, ShelfRow, UnitRow, UnitRows,
 };
 use plant_office::Books;
-use plant_types::{Fault, List, UnitCode};
+use plant_types::{Fault, UnitCode};
 use std::alloc::Global;
 
 /// A row that can be compared with another.
@@ -150,8 +150,7 @@ impl Same for ChangeEntry {
     }
 }
 
-fn are_same<T: Same>(ours: &List<T>, theirs: &List<T>) -> bool {
-    let (ours, theirs) = (ours.as_slice(), theirs.as_slice());
+fn are_same<T: Same>(ours: &[T], theirs: &[T]) -> bool {
     if ours.len() != theirs.len() {
         return false;
     }
@@ -179,15 +178,15 @@ fn are_same_rows(ours: &Option<UnitRows>, theirs: &Option<UnitRows>) -> bool {
         records,
         changes,
     } = ours;
-    are_same(units, &theirs.units)
-        && are_same(grants, &theirs.grants)
-        && are_same(alarms, &theirs.alarms)
-        && are_same(shelves, &theirs.shelves)
-        && are_same(events, &theirs.events)
-        && are_same(bands, &theirs.bands)
-        && are_same(cells, &theirs.cells)
-        && are_same(records, &theirs.records)
-        && are_same(changes, &theirs.changes)
+    are_same(units.as_slice(), theirs.units.as_slice())
+        && are_same(grants.as_slice(), theirs.grants.as_slice())
+        && are_same(alarms.as_slice(), theirs.alarms.as_slice())
+        && are_same(shelves.as_slice(), theirs.shelves.as_slice())
+        && are_same(events.as_slice(), theirs.events.as_slice())
+        && are_same(bands.as_slice(), theirs.bands.as_slice())
+        && are_same(cells.as_slice(), theirs.cells.as_slice())
+        && are_same(records.as_slice(), theirs.records.as_slice())
+        && are_same(changes.as_slice(), theirs.changes.as_slice())
 }
 
 /// Whether a unit has the same rows on both sides, of which the second may be a fault. They are let go here, once for
@@ -217,7 +216,7 @@ fn hold_events_alike(
 ) -> Result<bool, Fault> {
     let ours = ours.events(unit)?;
     let theirs = theirs.events(unit)?;
-    Ok(are_same(&ours, &theirs))
+    Ok(are_same(ours.as_slice(), theirs.as_slice()))
 }
 
 /// Whether both keepers hold the same rows of this unit: together, and its events apart from the others.

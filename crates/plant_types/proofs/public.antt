@@ -1,4 +1,6 @@
 pub mod KeyedRowLaws
+pub mod SortedLaws
+pub mod PlaceLaws
 pub mod Orders
 pub mod Halves
 pub mod DateTests

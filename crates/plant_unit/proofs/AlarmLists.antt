@@ -82,17 +82,15 @@ summarized es alarms told_so i r d s e is lt er es' = es' ∙ ap (λ l. get_or l
 
 -- what one more event does to the summaries
 pub added_own : (alarms : List AlarmRow) (es : List Event) (e : Event) (old new : List Summary) (p : ℕ) (r : AlarmRow)
-    → IsInOrder name_cmp alarm_tag alarms → (IsInOrder name_cmp alarm_tag alarms → Parts e.tag alarms p)
-    → Some r ≡ slice_get alarms p → same_name r.tag e.tag ≡ true → old ≡ summaries alarms es
+    → IsInOrder name_cmp alarm_tag alarms → Parts e.tag alarms p → Some r ≡ slice_get alarms p → same_name r.tag e.tag ≡ true → old ≡ summaries alarms es
     → ((fs : List Event) → slice_get old p ≡ Some (summary r.latching fs) → new ≡ set old p (summary r.latching (fs ++ e ∷ [])))
     → new ≡ summaries alarms (es ++ e ∷ [])
 added_own alarms es e old new p r order parts is t so adds =
     adds (of_alarm r.tag es) (ap (λ l. slice_get l p) so ∙ slice_get-map (summary_of es) alarms p ∙ ap (option_map (summary_of es)) (sym is))
     ∙ ap (λ l. set l p (summary r.latching (of_alarm r.tag es ++ e ∷ []))) so
-    ∙ set_own es e alarms p r (ordered name_cmp alarm_tag alarms order) (parts order) is t
+    ∙ set_own es e alarms p r (ordered name_cmp alarm_tag alarms order) parts is t
 
 pub added_other : (alarms : List AlarmRow) (es : List Event) (e : Event) (old : List Summary) (p : ℕ) → IsInOrder name_cmp alarm_tag alarms
-    → (IsInOrder name_cmp alarm_tag alarms → Parts e.tag alarms p)
-    → ((r : AlarmRow) → Some r ≡ slice_get alarms p → same_name r.tag e.tag ≡ false) → old ≡ summaries alarms es
+    → Parts e.tag alarms p → ((r : AlarmRow) → Some r ≡ slice_get alarms p → same_name r.tag e.tag ≡ false) → old ≡ summaries alarms es
     → old ≡ summaries alarms (es ++ e ∷ [])
-added_other alarms es e old p order parts away so = so ∙ none_own es e alarms p (ordered name_cmp alarm_tag alarms order) (parts order) away
+added_other alarms es e old p order parts away so = so ∙ none_own es e alarms p (ordered name_cmp alarm_tag alarms order) parts away

@@ -128,16 +128,15 @@ import_added f t rows m rises is =
 
 -- what the code finds of a file beside the events that it needs
 pub counted_at : (f : Facts) (rows kept : List Event) (k n : ℕ) (b : Bool) → IsRising f.events → kept ≡ needed f.events rows → k ≡ length f.events
-    → (IsRising kept → n ≡ length (new_numbers kept rows)) → b ≡ nat_lt max_events (k + n)
+    → n ≡ length (new_numbers kept rows) → b ≡ nat_lt max_events (k + n)
     → b ≡ nat_lt max_events (length f.events + length (new_numbers f.events rows))
 counted_at f rows kept k n b rises ek el en eb =
-    let rising : IsRising kept = subst (λ (l : List Event). IsRising l) (sym ek) (needed_rises f.events rows rises) in
-    let count : n ≡ length (new_numbers f.events rows) = en rising ∙ ap (λ l. length (new_numbers l rows)) ek
+    let count : n ≡ length (new_numbers f.events rows) = en ∙ ap (λ l. length (new_numbers l rows)) ek
     ∙ ap length (needed_numbers f.events rows rises) in
     eb ∙ (λ i. nat_lt max_events (el i + count i))
 
 pub merged_at : (f : Facts) (t : ℕ) (rows kept : List Event) (tags : List Name) (k n : ℕ) (b : Bool) (m x : Result Merged BadFile) → IsRising f.events
-    → kept ≡ needed f.events rows → k ≡ length f.events → (IsRising kept → n ≡ length (new_numbers kept rows))
+    → kept ≡ needed f.events rows → k ≡ length f.events → n ≡ length (new_numbers kept rows)
     → b ≡ nat_lt max_events (k + n) → b ≡ false → tags ≡ tags_of f → (IsRising kept → m ≡ merge kept rows tags t) → m ≡ x
     → refused_by x ≡ addition f t rows
 merged_at f t rows kept tags k n b m x rises ek el en eb room et em ex =

@@ -1,6 +1,6 @@
 -- What the parts of a legal history keep.
-use Rattle.std.{specs.{FinMap.Entries.{below_all}, List.{cons_option, list_all}, Prelude.{All}}, proofs.lemmas.List.Elements.{All-nil, All-cons}}
-use Rattle.std.proofs.Common.{ap, arith, cond, inl, inr, refl, subst, sym, ◌∙◌, is_lt, nat_cmp, Ordering, Bool, List, None, Option, Some, T, [], false, filter, filter_map, if◌then◌else◌, is_some, length, map, max, option_map, true, unwrap_or, ℕ, ◌&&◌, ◌<◌, ◌==◌, ◌||◌, ◌∷◌, ◌≡◌, ◌≤◌}
+use Rattle.std.{specs.{List.{cons_option, list_all}, Prelude.{All}}, proofs.lemmas.List.Elements.{All-nil, All-cons}}
+use Rattle.std.proofs.Common.{ap, arith, cond, inl, inr, refl, subst, sym, ◌∙◌, nat_cmp, Bool, List, None, Option, Some, [], false, filter, filter_map, if◌then◌else◌, is_some, length, map, max, option_map, true, unwrap_or, ℕ, ◌&&◌, ◌<◌, ◌==◌, ◌||◌, ◌∷◌, ◌≡◌, ◌≤◌}
 use Rattle.std.proofs.lemmas.{Bool.{and_parts, false_from_ne_true, or_left, or_right, or_cases}, List.Elements.{All-filter}}
 use Rattle.std.proofs.lemmas.{List.{Folds.{list_any_none}, Sums.{list_all-from_AllPass}}, Option.{same_Some}}
 use Rattle.plant_alarm.specs.{States.{summary}, declared.event.Event.{Event}}
@@ -8,25 +8,24 @@ use Rattle.plant_model.specs.{Alarms.{latching}, Changes.{Draft, change, draft, 
 use Rattle.plant_model.specs.{Events.{events}, Histories.{same_number}, Legality.{IsLegal}, Matrices.{matrix_numbered}}
 use Rattle.plant_model.specs.steps.LooksAt.{AllEvents, AllRecords, Approval, File, OneChange, OneRecord, Scope, scope_of, scope_of_proposal}
 use Rattle.plant_model.specs.steps.Parts.{Selection, counted_for, every, is_source, none, of_approved, of_topic, part_of, part_of_holder, part_of_stranger, rows_selected, selected, selection}
-use Rattle.plant_model.specs.steps.RowFacts.{alarm_tag, cells_at, change_found, change_number, change_read, has_cells, holds_by, matrix_read, record_found, record_tag, shelf_tag}
-use Rattle.plant_model.specs.Rows.{alarm_row, alarm_rows, cell_rows, change_entry, change_rows, changes_of, max_of_kind, record_entry, record_rows, records_of, revision_of_limit, rows_of, shelf_rows, sheet_of_kind, tag_of_kind, topic_of}
-use Rattle.plant_model.specs.{Shelves.{shelf}, declared.call.{Call.{Call}, Request.{Request, TheVariants.{Floods, Import, Propose, Register}}}}
+use Rattle.plant_model.specs.steps.RowFacts.{alarm_tag, cells_at, change_found, change_number, change_read, has_cells, holds_by, matrix_read, record_found, record_tag}
+use Rattle.plant_model.specs.Rows.{alarm_row, alarm_rows, cell_rows, change_entry, change_rows, max_of_kind, record_entry, record_rows, revision_of_limit, rows_of, sheet_of_kind, tag_of_kind, topic_of}
+use Rattle.plant_model.specs.declared.call.{Call.{Call}, Request.{Request, TheVariants.{Floods, Import, Propose, Register}}}
 use Rattle.plant_model.specs.declared.rows.{AlarmRow.{AlarmRow}, CellRow.{CellRow}, ChangeEntry.{ChangeEntry}}
 use Rattle.plant_model.specs.declared.rows.ChangeTopic.{ChangeTopic, TheVariants.{Matrix as MatrixTopic}}
 use Rattle.plant_model.specs.declared.rows.{RecordEntry.{RecordEntry}, UnitPart.{UnitPart}, UnitRows.{UnitRows}}
 use Rattle.plant_model.proofs.public.{CountLaws.{few_limits, few_matrices, few_proposals, few_records}, EventLaws.{events_rise}}
 use Rattle.plant_model.proofs.public.FactLaws.{alarm_in, change_entry_in, revision_in, same_number_of, sheet_source}
-use Rattle.plant_model.proofs.public.HistoryLaws.{alarm_of, alarms_told, change_with, changes_told, number_of_change, numbers_of_changes, record_with, records_told, shelves_told, tag_of_record, tags_of_alarms, tags_of_records, tags_of_shelves}
+use Rattle.plant_model.proofs.public.HistoryLaws.{alarm_of, change_with, record_with, tags_of_alarms, tags_of_records}
 use Rattle.plant_model.proofs.public.{PartLaws.{matrix_there, own_holds}, QuotaLaws.{few_alarms}}
-use Rattle.plant_model.proofs.public.ReadLaws.{change_count, in_force_numbered, left_in_order, proposed_matrix, read_back, row_at-left, shaped}
-use Rattle.plant_types.specs.{KeyedRows.{IsInOrder, in_order, row_at}, Limits.{max_changes, max_events}, Names.{Name, name_cmp, same_name}}
-use Rattle.plant_types.proofs.public.{KeyedRowLaws.{IsInOrder-rows}, Orders.{name_total, number_total, same_names, same_numbers}, Halves.{both}}
-use Rattle.plant_types.proofs.public.Halves.{first, second}
-use Rattle.plant_unit.specs.{Additions.{AreEventsFor, AreEventsIn, AreKept}, Readings.{has_its_sheet, has_kind, has_sheet, is_left_out, is_matrix_at}}
+use Rattle.plant_model.proofs.public.ReadLaws.{change_count, in_force_numbered, proposed_matrix, read_back, row_at-left, shaped}
+use Rattle.plant_types.specs.{KeyedRows.{in_order, row_at}, Limits.{max_changes, max_events}, Names.{Name, name_cmp, same_name}}
+use Rattle.plant_types.proofs.public.Orders.{name_total, number_total, same_names, same_numbers}
+use Rattle.plant_unit.specs.{Additions.{AreCountable, AreEventsFor, AreEventsIn, AreKept}, Readings.{has_its_sheet, has_kind, has_sheet, is_left_out, is_matrix_at}}
 use Rattle.plant_unit.{specs.Summaries.{summary_in, summary_of}, proofs.EventBounds.{few_events}}
 use Rattle.plant_ration.specs.{Grid.{Grid}, Matrix.{is_matrix}, declared.change.ChangeKind.{ChangeKind, TheVariants.{Limit, Matrix, Rationale}}}
 use Rattle.plant_ration.specs.declared.change.Sheet.{Sheet}
-use Rattle.plant_import.{specs.Merging.{IsRising}, proofs.public.NeededLaws.{needed_few, needed_rises}}
+use Rattle.plant_import.{specs.Merging.{IsRising}, proofs.public.NeededLaws.{needed_few}}
 
 -- Tests of rows that pass a wider one
 filter-none : {X : Type 0} (narrow wide : X → Bool) → ((x : X) → narrow x ≡ true → wide x ≡ false) → (xs : List X)
@@ -39,56 +38,27 @@ filter-none narrow wide never (x ∷ xs) =
       | false ↦ λ _. filter-none narrow wide never xs
     ] refl
 
-no_event_rises : IsRising []
-no_event_rises i j d lt le = absurd (omega arith)
+-- the events that a request looks at are no more than all
+none_few : AreCountable []
+none_few = omega arith
 
--- the events that a request looks at rise as all do, and are no more
-abbrev RiseAndAreFew : List Event → Type 0
-RiseAndAreFew es = IsRising es × (length es ≤ 4294967295)
-
-none_few : RiseAndAreFew []
-none_few = (no_event_rises, omega arith)
-
-few_of_topic : (rows : UnitRows) (tag : Option Name) (k : ChangeTopic) (es : List Event) → RiseAndAreFew ((of_topic rows tag k).events es)
+few_of_topic : (rows : UnitRows) (tag : Option Name) (k : ChangeTopic) (es : List Event) → AreCountable ((of_topic rows tag k).events es)
 few_of_topic rows tag MatrixTopic es = none_few
 few_of_topic rows None _ es = none_few
 few_of_topic rows _ _ es = none_few
 
-few_of_approved : (rows : UnitRows) (n : ℕ) (o : Option ChangeEntry) (es : List Event) → RiseAndAreFew ((of_approved rows n o).events es)
+few_of_approved : (rows : UnitRows) (n : ℕ) (o : Option ChangeEntry) (es : List Event) → AreCountable ((of_approved rows n o).events es)
 few_of_approved rows n None es = none_few
 few_of_approved rows n (Some c) es = few_of_topic rows c.tag c.kind_no es
 
-few_of : (rows : UnitRows) (s : Scope) (es : List Event) → IsRising es → length es ≤ max_events → RiseAndAreFew ((selection rows s).events es)
-few_of rows (File file) es h few = (needed_rises es file h, (let le = needed_few es file h in omega (arith, few, le)))
-few_of rows AllEvents es h few = (h, omega (arith, few))
+few_of : (rows : UnitRows) (s : Scope) (es : List Event) → IsRising es → length es ≤ max_events → AreCountable ((selection rows s).events es)
+few_of rows (File file) es h few = let le = needed_few es file h in omega (arith, few, le)
+few_of rows AllEvents es h few = omega (arith, few)
 few_of rows (Approval n) es h few = few_of_approved rows n (change_found rows n) es
 few_of rows _ es h few = none_few
 
 fits : (n most : ℕ) → n ≤ most → most < 4294967295 → n < 4294967295
 fits n most few fit = omega arith
-
--- the records of a history stand in the order of their tags
-module _ {K X Y : Type 0} (R : K → K → Ordering) (key : X → K) (row : X → Y) (read : Y → K) (same : (x : X) → key x ≡ read (row x)) where
-  below_rows : (k : K) (xs : List X) → T (below_all R k (map (λ x. (key x, x)) xs)) → T (below_all R k (map (λ y. (read y, y)) (map row xs)))
-  below_rows k [] h = tt
-  below_rows k (x ∷ xs) h = both _ _ (subst (λ n. T (is_lt (R k n))) (same x) (first _ _ h)) (below_rows k xs (second _ _ h))
-
-  rows_rise : (xs : List X) → IsInOrder R key xs → IsInOrder R read (map row xs)
-  rows_rise [] h = tt
-  rows_rise (x ∷ xs) h =
-      both _ _ (subst (λ k. T (below_all R k (map (λ y. (read y, y)) (map row xs)))) (same x) (below_rows (key x) xs (first _ _ h)))
-      (rows_rise xs (second _ _ h))
-
-records_rise : (h : List Call) → IsInOrder name_cmp record_tag (record_rows h)
-records_rise h =
-    rows_rise name_cmp tag_of_record record_entry record_tag (λ r. refl) (records_of h)
-    (IsInOrder-rows (record_of h) (tags_of_records h) (records_told h))
-
--- and the changes in that of their numbers
-changes_rise : (h : List Call) → IsInOrder nat_cmp change_number (change_rows h)
-changes_rise h =
-    rows_rise nat_cmp number_of_change change_entry change_number (λ r. refl) (changes_of h)
-    (IsInOrder-rows (change h) (numbers_of_changes h) (changes_told h))
 
 -- what holds of the row of each sheet's record holds of the rows of all records
 rows_all : (h : List Call) (P : RecordEntry → Type 0) → ((a : Name) (x : ℕ × Sheet) → sheet h a ≡ Some x → P (record_entry (record_with h a x)))
@@ -274,15 +244,7 @@ module _ (h : List Call) (legal : IsLegal h) (p : Name) (t : ℕ) (q : Request) 
   holder_kept : AreKept (part_of_holder c (rows_of h))
   holder_kept =
       record {
-        events_rise = (few_of (rows_of h) (scope_of q) (events h) (events_rise h legal) (few_events h legal)).0;
-        events_few = (few_of (rows_of h) (scope_of q) (events h) (events_rise h legal) (few_events h legal)).1;
-        alarms_in_order =
-            left_in_order name_cmp alarm_tag (λ r. s.alarm r.tag) (alarm_rows h)
-            (IsInOrder-rows (alarm_row h) (tags_of_alarms h) (alarms_told h));
-        shelves_in_order =
-            left_in_order name_cmp shelf_tag (λ r. s.shelf r.tag) (shelf_rows h) (IsInOrder-rows (shelf h) (tags_of_shelves h) (shelves_told h));
-        records_in_order = left_in_order name_cmp record_tag (λ r. s.rationale r.tag) (record_rows h) (records_rise h);
-        changes_in_order = left_in_order nat_cmp change_number (λ r. s.change r.number) (change_rows h) (changes_rise h);
+        events_few = few_of (rows_of h) (scope_of q) (events h) (events_rise h legal) (few_events h legal);
         matrix_whole = matrix_whole;
         changes_whole = changes_whole;
         changes_read = changes_read;
@@ -296,12 +258,7 @@ module _ (h : List Call) (legal : IsLegal h) (p : Name) (t : ℕ) (q : Request) 
   stranger_kept : AreKept (part_of_stranger c (rows_of h))
   stranger_kept =
       record {
-        events_rise = no_event_rises;
         events_few = omega arith;
-        alarms_in_order = tt;
-        shelves_in_order = tt;
-        records_in_order = tt;
-        changes_in_order = tt;
         matrix_whole = refl;
         changes_whole = λ n c e. cc;
         changes_read = λ n c e. cc;

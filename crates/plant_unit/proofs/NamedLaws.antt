@@ -5,7 +5,7 @@ use Rattle.std.proofs.lemmas.List.{take_more, Elements.{filter-append}, Folds.{l
 use Rattle.plant_alarm.specs.{States.{summary}, declared.{event.Event.{Event}, summary.Summary.{Summary}}}
 use Rattle.plant_floods.specs.Activations.{of_alarm}
 use Rattle.plant_import.specs.{Needed.{from_last_before, has_late, needed}, Numbers.{event_number, with_events}}
-use Rattle.plant_import.proofs.public.{LaterLaws.{fresh_after}, NeededLaws.{needed_late, needed_rises}, Risings.{in_number_order}}
+use Rattle.plant_import.proofs.public.{LaterLaws.{fresh_after}, NeededLaws.{needed_late}}
 use Rattle.plant_types.{specs.{KeyedRows.{IsInOrder}, Names.{Name, name_cmp, same_name}}, proofs.public.{KeyedRowLaws.{tied}, Orders.{same_names}}}
 use Rattle.plant_model.specs.declared.rows.AlarmRow.{AlarmRow}
 use Rattle.plant_unit.specs.{Additions.{AreAdded}, Summaries.{AreNamed, summaries}}
@@ -53,8 +53,3 @@ late_all kept es rows fresh b is added eb t =
 pub none_late : (kept es rows fresh : List Event) (b : Bool) → kept ≡ needed es rows → AreAdded es rows fresh → b ≡ has_late kept rows → b ≡ false
     → has_late es rows ≡ false
 none_late kept es rows fresh b is added eb f = sym (needed_late es rows added.rise) ∙ ap (λ l. has_late l rows) (sym is) ∙ sym eb ∙ f
-
--- what a file needs of events in rising number stands in their order
-pub needed_ordered : (kept es rows fresh : List Event) → kept ≡ needed es rows → AreAdded es rows fresh → IsInOrder nat_cmp event_number kept
-needed_ordered kept es rows fresh is added =
-    subst (λ (l : List Event). IsInOrder nat_cmp event_number l) (sym is) (in_number_order (needed es rows) (needed_rises es rows added.rise))

@@ -1,18 +1,18 @@
 -- What a file adds to a unit, or why it is refused.
-use Rattle.std.specs.{List.{list_all}, Ordering.{nat_cmp}}
+use Rattle.std.specs.List.{list_all}
 use Rattle.std.specs.Prelude.{Err, List, None, Ok, Option, Result, Some, length, true, ℕ, ◌-◌, ◌<◌, ◌||◌, ◌∷◌, ◌≡◌, ◌≤◌}
 use Rattle.plant_model.specs.Facts.{Facts, limit_revision_of}
 use Rattle.plant_model.specs.steps.CallChanges.{unit_after}
 use Rattle.plant_model.specs.steps.LooksAt.{Scope, scope_of, AllAlarms, AllEvents, AllGrants, AllRecords, AllShelves, Approval, Content, File, NothingElse, OneAlarm, OneChange, OneRecord, Shelving}
 use Rattle.plant_model.specs.Refusals.{file_refusals, first_refusal}
 use Rattle.plant_model.specs.steps.RowChanges.{import_changes}
-use Rattle.plant_model.specs.steps.RowFacts.{alarm_tag, change_found, change_number, change_read, facts_among, facts_in, record_tag, shelf_tag, unit_read}
+use Rattle.plant_model.specs.steps.RowFacts.{change_found, change_read, facts_among, facts_in, unit_read}
 use Rattle.plant_model.specs.{Rows.{change_entry}, declared.{call.Request.{Request, TheVariants.{Import}}, reply.{Refused.{Refused}, Reply.{Reply}}}}
 use Rattle.plant_model.specs.declared.{reply.Reply.TheVariants.{Imported}, rows.{ChangeEntry.{ChangeEntry}, Row.TheVariants.{Unit as UnitPut}}}
 use Rattle.plant_model.specs.declared.rows.{RowEdit.{RowEdit, TheVariants.{Put}}, UnitPart.{UnitPart}}
 use Rattle.plant_alarm.specs.declared.event.Event.{Event}
 use Rattle.plant_import.specs.{Merging.{IsRising, first_fault, fresh}, Needed.{needed}, declared.merging.Merged.{Merged}}
-use Rattle.plant_types.specs.{KeyedRows.{IsInOrder}, Names.{Name, name_cmp}, Results.{Gives}}
+use Rattle.plant_types.specs.{Names.{Name}, Results.{Gives}}
 use Rattle.plant_unit.specs.{Readings.{has_its_sheet, has_kind, is_left_out, is_matrix_at}, Summaries.{HaveSummaries}}
 
 -- what is decided, unless it is refused
@@ -74,21 +74,14 @@ pub record AreAdded (es rows added : List Event) : Type 0 where
 -- by all events of the unit: the changes of an import that adds these of a file's rows at a moment
 abbrev pub GivesImport : {E : Type 0} → UnitPart → ℕ → List Event → List Event → Result (List RowEdit) E → Type 0
 GivesImport part t rows added said =
-    IsInOrder name_cmp alarm_tag part.rows.alarms → (u : Name) (es : List Event) → AreEventsOf part rows es
-    → AreAdded es rows added
+    (u : Name) (es : List Event) → AreEventsOf part rows es → AreAdded es rows added
     → Gives said (Put (UnitPut (unit_after (facts_among part es) t (Import u (Ok rows))))
     ∷ import_changes (facts_among part es) rows)
 
 -- what the parts of a legal history keep
 pub record AreKept (part : UnitPart) : Type 0 where
-  -- events and changes in rising number, events not too many to be counted; alarms, shelves and records in the order of
-  -- their tags
-  pub events_rise : IsRising part.rows.events
+  -- events not too many to be counted
   pub events_few : length part.rows.events ≤ 4294967295
-  pub alarms_in_order : IsInOrder name_cmp alarm_tag part.rows.alarms
-  pub shelves_in_order : IsInOrder name_cmp shelf_tag part.rows.shelves
-  pub records_in_order : IsInOrder name_cmp record_tag part.rows.records
-  pub changes_in_order : IsInOrder nat_cmp change_number part.rows.changes
   -- the matrix in force, where the part has cells of it, is a matrix
   pub matrix_whole : (is_left_out part.rows (unit_read part.rows).matrix_no
       || is_matrix_at part.rows (unit_read part.rows).matrix_no) ≡ true

@@ -2,10 +2,10 @@
 use Rattle.std.specs.BTreeSet.{BTreeSet}
 use Rattle.std.specs.Prelude.{option_to_list, Bool, IfOk, List, OnOk, Option, Result, Some, [], filter, if◌then◌else◌, map, slice_get, slice_set, ℕ, ◌++◌, ◌∷◌, ◌≡◌}
 use Rattle.plant_alarm.specs.{States.{summary}, declared.{event.Event.{Event}, summary.Summary.{Summary}}}
-use Rattle.plant_import.specs.{Merging.{IsRising}, Needed.{needed}, Numbers.{with_events}}
+use Rattle.plant_import.specs.{Needed.{needed}, Numbers.{with_events}}
 use Rattle.plant_model.specs.declared.rows.{AlarmRow.{AlarmRow}, RowEdit.{RowEdit}}
-use Rattle.plant_model.specs.steps.{RowChanges.{state_put}, RowFacts.{alarm_tag}}
-use Rattle.plant_types.specs.{KeyedRows.{IsInOrder}, Names.{Name, name_cmp}, Results.{Gives}}
+use Rattle.plant_model.specs.steps.RowChanges.{state_put}
+use Rattle.plant_types.specs.{Names.{Name}, Results.{Gives}}
 use Rattle.plant_unit.specs.{Additions.{AreAdded}, Summaries.{AreNamed, HaveSummaries, has_event_of, summaries, summary_of}}
 
 -- the summary at a place, of some events, becomes that of these events and one more
@@ -13,21 +13,17 @@ abbrev pub AddsAt : ℕ → Event → Bool → List Summary → List Summary →
 AddsAt place event latching before after = (es : List Event) → slice_get before place ≡ Some (summary latching es)
     → after ≡ slice_set before place (summary latching (es ++ event ∷ []))
 
--- of alarms in the order of their tags: their summaries, of some events, become those of these events and more
+-- the summaries of alarms, of some events, become those of these events and more
 abbrev pub AddsEvents : List AlarmRow → List Event → List Summary → List Summary → Type 0
-AddsEvents alarms more before after = IsInOrder name_cmp alarm_tag alarms → (es : List Event)
-    → before ≡ summaries alarms es → after ≡ summaries alarms (es ++ more)
+AddsEvents alarms more before after = (es : List Event) → before ≡ summaries alarms es → after ≡ summaries alarms (es ++ more)
 
--- of alarms in the order of their tags: their summaries, of all kept events and the new ones
+-- the summaries of alarms, of all kept events and the new ones
 abbrev pub GivesAnew : {E : Type 0} → List AlarmRow → List Event → List Event → Result (List Summary) E → Type 0
-GivesAnew alarms kept fresh said = IsRising kept → IsInOrder name_cmp alarm_tag alarms
-    → Gives said (summaries alarms (with_events kept fresh))
+GivesAnew alarms kept fresh said = Gives said (summaries alarms (with_events kept fresh))
 
--- of alarms in the order of their tags, whose columns are those of some events: their summaries, of these events and
--- the new ones
+-- of alarms whose columns are those of some events: their summaries, of these events and the new ones
 abbrev pub GivesOn : {E : Type 0} → List AlarmRow → List Event → Result (List Summary) E → Type 0
-GivesOn alarms fresh said = IsInOrder name_cmp alarm_tag alarms → (es : List Event) → HaveSummaries alarms es
-    → Gives said (summaries alarms (es ++ with_events [] fresh))
+GivesOn alarms fresh said = (es : List Event) → HaveSummaries alarms es → Gives said (summaries alarms (es ++ with_events [] fresh))
 
 -- the change of the alarm's row, of some events, if the new ones name it
 abbrev pub GivesNamed : {E : Type 0} → BTreeSet Name → AlarmRow → Summary → Result (Option RowEdit) E → Type 0
@@ -44,11 +40,11 @@ abbrev pub PushesNamed : {A E : Type 0} → BTreeSet Name → List AlarmRow → 
 PushesNamed named alarms of_alarms before after said = (es fresh : List Event) → AreNamed named fresh
     → of_alarms ≡ summaries alarms es → OnOk said (after ≡ before ++ states_put es fresh alarms)
 
--- the fact holds of all events before the import: its file needs the kept ones and adds the new ones; the alarms are in
--- the order of their tags, and their columns are computed from all events
+-- the fact holds of all events before the import: its file needs the kept ones and adds the new ones, and the columns of
+-- the alarms are computed from all events
 abbrev pub ForImport : List AlarmRow → List Event → List Event → List Event → (List Event → Type 0) → Type 0
-ForImport alarms kept rows fresh fact = IsInOrder name_cmp alarm_tag alarms → (es : List Event) → kept ≡ needed es rows
-    → AreAdded es rows fresh → HaveSummaries alarms es → fact es
+ForImport alarms kept rows fresh fact = (es : List Event) → kept ≡ needed es rows → AreAdded es rows fresh
+    → HaveSummaries alarms es → fact es
 
 -- the states that the alarms have after the import
 abbrev pub states_after : List Event → List Event → List AlarmRow → List RowEdit

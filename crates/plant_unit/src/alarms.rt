@@ -8,9 +8,9 @@ ghost use Rattle.plant_unit.specs.Summaries.{AreNamed};
 ghost use Rattle.plant_unit.specs.Summaries as states;
 
 use plant_alarm::{Event, Summary};
-use plant_import::{events_after, has_late, rise};
-use plant_model::{AlarmRow, Row, RowEdit, place_of};
-use plant_types::{Fault, List, Tag, TryCopy};
+use plant_import::{events_after, has_late, in_rising_number, rise};
+use plant_model::{AlarmRow, Row, RowEdit};
+use plant_types::{Fault, List, Sorted, Tag, TryCopy, copy_all};
 use std::alloc::Global;
 use std::collections::BTreeSet;
 
@@ -26,13 +26,14 @@ fn add_at(summaries: &mut List<Summary>, place: usize, event: &Event, latching: 
     }
 }
 
-/// Brings the summaries of alarms, which stand in the order of their tags, forward by one more event.
-fn add_event(summaries: &mut List<Summary>, alarms: &[AlarmRow], event: &Event)
+/// Brings the summaries of alarms forward by one more event.
+fn add_event(summaries: &mut List<Summary>, alarms: &Sorted<AlarmRow>, event: &Event)
     ensures length { length summaries.new ≡ length summaries.old }
     ensures value { AddsEvents alarms.now (event.now ∷ []) summaries.old summaries.new }
 {
-    let place = place_of(alarms, &event.tag);
-    if let Some(alarm) = alarms.get(place) {
+    let place = alarms.place(&event.tag);
+    let rows = alarms.as_slice();
+    if let Some(alarm) = rows.get(place) {
         if alarm.tag == event.tag {
             add_at(summaries, place, event, alarm.latching);
         }
@@ -68,8 +69,8 @@ fn summaries_in(alloc: Global, alarms: &[AlarmRow]) -> Result<List<Summary>, Fau
     Ok(summaries)
 }
 
-/// Brings the summaries of alarms, which stand in the order of their tags, forward by more events.
-fn add_events(summaries: &mut List<Summary>, alarms: &[AlarmRow], events: &[Event])
+/// Brings the summaries of alarms forward by more events.
+fn add_events(summaries: &mut List<Summary>, alarms: &Sorted<AlarmRow>, events: &[Event])
     ensures length { length summaries.new ≡ length summaries.old }
     ensures value { AddsEvents alarms.now events.now summaries.old summaries.new }
 {
@@ -81,15 +82,15 @@ fn add_events(summaries: &mut List<Summary>, alarms: &[AlarmRow], events: &[Even
 /// The summaries of alarms, computed anew from their kept and their new events.
 fn summaries_from_events(
     alloc: Global,
-    alarms: &[AlarmRow],
-    kept: &[Event],
+    alarms: &Sorted<AlarmRow>,
+    kept: &Sorted<Event>,
     fresh: &[Event],
 ) -> Result<List<Summary>, Fault>
     ensures length { IfOk result (λ s. length s ≡ length alarms.now) }
     ensures value { GivesAnew alarms.now kept.now fresh.now result }
     ensures err { OnlyMemory result }
 {
-    let mut summaries = no_summaries(alloc, alarms)?;
+    let mut summaries = no_summaries(alloc, alarms.as_slice())?;
     add_events(
         &mut summaries,
         alarms,
@@ -98,13 +99,12 @@ fn summaries_from_events(
     Ok(summaries)
 }
 
-/// Brings the summaries of alarms, which stand in the order of their tags, forward by more events in rising number,
-/// however they stand here.
+/// Brings the summaries of alarms forward by more events in rising number, however they stand here.
 #[tactic(auto, using(plant_import::proofs::public::Placed::puts_none, plant_import::proofs::public::Placed::rises_of))]
 fn add_rising(
     alloc: Global,
     summaries: &mut List<Summary>,
-    alarms: &[AlarmRow],
+    alarms: &Sorted<AlarmRow>,
     events: &[Event],
 ) -> Result<(), Fault>
     ensures length { length summaries.new ≡ length summaries.old }
@@ -115,25 +115,22 @@ fn add_rising(
         add_events(summaries, alarms, events);
         return Ok(());
     }
-    add_events(
-        summaries,
-        alarms,
-        events_after(alloc, &[], events)?.as_slice(),
-    );
+    let rising = in_rising_number(alloc, copy_all(alloc, events)?)?;
+    add_events(summaries, alarms, rising.as_slice());
     Ok(())
 }
 
 /// The summaries in the rows of alarms, brought forward by new events that come after all others of their alarms.
 fn summaries_from_rows(
     alloc: Global,
-    alarms: &[AlarmRow],
+    alarms: &Sorted<AlarmRow>,
     fresh: &[Event],
 ) -> Result<List<Summary>, Fault>
     ensures length { IfOk result (λ s. length s ≡ length alarms.now) }
     ensures value { GivesOn alarms.now fresh.now result }
     ensures err { OnlyMemory result }
 {
-    let mut summaries = summaries_in(alloc, alarms)?;
+    let mut summaries = summaries_in(alloc, alarms.as_slice())?;
     add_rising(alloc, &mut summaries, alarms, fresh)?;
     Ok(summaries)
 }
@@ -205,8 +202,8 @@ fn push_named(
 /// The summaries of alarms after a file's new rows. They go on from those in the alarms' rows, unless a row comes late.
 fn summaries_after(
     alloc: Global,
-    alarms: &[AlarmRow],
-    kept: &[Event],
+    alarms: &Sorted<AlarmRow>,
+    kept: &Sorted<Event>,
     rows: &[Event],
     fresh: &[Event],
 ) -> Result<List<Summary>, Fault>
@@ -226,8 +223,8 @@ fn summaries_after(
 pub fn push_alarms(
     alloc: Global,
     changes: &mut List<RowEdit>,
-    alarms: &[AlarmRow],
-    kept: &[Event],
+    alarms: &Sorted<AlarmRow>,
+    kept: &Sorted<Event>,
     rows: &[Event],
     fresh: &[Event],
 ) -> Result<(), Fault>
@@ -237,5 +234,11 @@ pub fn push_alarms(
 {
     let summaries = summaries_after(alloc, alarms, kept, rows, fresh)?;
     let named = tags_named(alloc, fresh)?;
-    push_named(alloc, changes, alarms, summaries.as_slice(), &named)
+    push_named(
+        alloc,
+        changes,
+        alarms.as_slice(),
+        summaries.as_slice(),
+        &named,
+    )
 }

@@ -5,14 +5,11 @@ ghost use Rattle.plant_types.specs.{KeyedRows.{row_at}, Names.{name_cmp}};
 ghost use Rattle.plant_alarm.specs.Shelves.{is_unshelved};
 ghost use Rattle.plant_model.specs.{Facts.{is_steward_row, others_shelved, returned, shelf_now}, Refusals.{holds_some}};
 ghost use Rattle.plant_model.specs.steps.RowFacts.{facts_in, shelf_tag};
-ghost use Rattle.plant_unit.specs.Additions.{AreKept};
 ghost use Rattle.plant_model.specs.Shelves as shelves;
 ghost use Rattle.plant_unit.specs.Shelving as shelving;
 
 use plant_alarm::{Shelf, ShelfState, shelf_at};
-use plant_model::{
-    GrantRow, ShelfRow, UnitPart, holds_some_by, is_held_by, last_return, row_near, row_of,
-};
+use plant_model::{GrantRow, ShelfRow, UnitPart, holds_some_by, is_held_by, last_return};
 use plant_types::{Moment, Person, Role, Tag};
 
 /// Whether the pair is held at the moment.
@@ -87,21 +84,23 @@ fn is_unshelved(state: ShelfState) -> bool
 
 /// When the alarm of a tag last returned to normal.
 fn returned_at(part: &UnitPart, tag: &Tag) -> Option<Moment>
-    ensures { AreKept part.now → result ≡ returned (facts_in part.now) tag.now }
+    ensures { result ≡ returned (facts_in part.now) tag.now }
 {
-    row_of(part.rows.alarms.as_slice(), tag).and_then(|alarm| alarm.return_s)
+    part.rows.alarms.get(tag).and_then(|alarm| alarm.return_s)
 }
 
 /// When the alarm of a tag last returned to normal, the alarm being looked for at a place first.
 pub fn returned_near(part: &UnitPart, place: usize, tag: &Tag) -> Option<Moment>
-    ensures { AreKept part.now → result ≡ returned (facts_in part.now) tag.now }
+    ensures { result ≡ returned (facts_in part.now) tag.now }
 {
-    row_near(part.rows.alarms.as_slice(), place, tag).and_then(|alarm| alarm.return_s)
+    part.rows
+        .alarms
+        .get_near(place, tag)
+        .and_then(|alarm| alarm.return_s)
 }
 
 fn is_other_shelved(part: &UnitPart, tag: &Tag, row: &ShelfRow, now: Moment) -> bool
-    ensures { AreKept part.now
-        → result ≡ shelving.is_other_shelved (facts_in part.now) tag.now row.now now }
+    ensures { result ≡ shelving.is_other_shelved (facts_in part.now) tag.now row.now now }
 {
     if *tag == row.tag {
         return false;
@@ -111,7 +110,7 @@ fn is_other_shelved(part: &UnitPart, tag: &Tag, row: &ShelfRow, now: Moment) -> 
 
 /// How many other alarms are shelved at the moment.
 pub fn others_shelved(part: &UnitPart, tag: &Tag, now: Moment) -> usize
-    ensures { AreKept part.now → result ≡ others_shelved (facts_in part.now) tag.now now }
+    ensures { result ≡ others_shelved (facts_in part.now) tag.now now }
 {
     let shelves = part.rows.shelves.as_slice();
     shelves

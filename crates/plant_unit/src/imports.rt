@@ -44,7 +44,7 @@ fn merge_file(
     ensures value { GivesAddition part.now now rows.now result }
     ensures err { OnlyMemory result }
 {
-    let kept = part.rows.events.as_slice();
+    let kept = &part.rows.events;
     if is_full(part.count, count_new(alloc, kept, rows)?) {
         return Ok(Err(Refused::UnitFull(Full::Events)));
     }
@@ -83,10 +83,10 @@ fn import_changes(
     let mut row = *unit;
     row.last_s = now;
     changes.push(RowEdit::Put(Row::Unit(row)))?;
-    let kept = part.rows.events.as_slice();
-    let alarms = part.rows.alarms.as_slice();
+    let (alarms, kept) = (&part.rows.alarms, &part.rows.events);
     push_alarms(alloc, &mut changes, alarms, kept, rows, added.as_slice())?;
-    changes.push(RowEdit::PutEvents(in_rising_number(alloc, added)?))?;
+    let rising = in_rising_number(alloc, added)?;
+    changes.push(RowEdit::PutEvents(rising.into_list()))?;
     Ok(changes)
 }
 

@@ -5,12 +5,11 @@ ghost use Rattle.plant_types.specs.{KeyedRows.{row_at}, Names.{name_cmp}, Result
 ghost use Rattle.plant_model.specs.steps.RowFacts.{change_found, facts_in, record_from, record_tag};
 ghost use Rattle.plant_model.specs.declared.rows.ChangeTopic.TheVariants.{Limit as LimitTopic, Matrix as MatrixTopic, Record as RecordTopic};
 ghost use Rattle.plant_model.specs.declared.rows.UnitRows.{UnitRows as TheRows};
-ghost use Rattle.plant_unit.specs.{Additions.{AreKept}, FromFacts.{GivesFrom}, Readings.{change_whole, kind_found, sheet_found, source_found}};
+ghost use Rattle.plant_unit.specs.{FromFacts.{GivesFrom}, Readings.{change_whole, kind_found, sheet_found, source_found}};
 
 use crate::matrices::matrix_of;
 use plant_model::{
-    ChangeEntry, ChangeRow, ChangeTopic, RecordEntry, RecordRow, UnitPart, UnitRows, change_at,
-    row_of,
+    ChangeEntry, ChangeRow, ChangeTopic, RecordEntry, RecordRow, UnitPart, UnitRows,
 };
 use plant_ration::{Cell, ChangeKind, Sheet};
 use plant_types::{Fault, Tag, TryCopy};
@@ -33,9 +32,9 @@ pub fn entry_of<'a>(part: &'a UnitPart, number: u32) -> Option<&'a ChangeEntry>
 
 /// The row of the change that a record came from.
 pub fn source_of<'a>(part: &'a UnitPart, row: &RecordEntry) -> Option<&'a ChangeEntry>
-    ensures { AreKept part.now → option_copied result ≡ source_found part.now.rows row.now }
+    ensures { option_copied result ≡ source_found part.now.rows row.now }
 {
-    change_at(part.rows.changes.as_slice(), row.change_no)
+    part.rows.changes.get(&row.change_no)
 }
 
 /// How many changes of an alarm's record were approved.
@@ -47,9 +46,9 @@ pub fn revision_of(part: &UnitPart, tag: &Tag) -> u32
 
 /// The priority of an alarm, where it has a record.
 pub fn priority_of(part: &UnitPart, tag: &Tag) -> Option<Cell>
-    ensures { AreKept part.now → result ≡ (facts_in part.now).priority tag.now }
+    ensures { result ≡ (facts_in part.now).priority tag.now }
 {
-    row_of(part.rows.records.as_slice(), tag).map(|row| row.cell_no)
+    part.rows.records.get(tag).map(|row| row.cell_no)
 }
 
 /// The sheet of a change, where all its columns are there.

@@ -15,7 +15,7 @@ use crate::reading::{change_of, priority_of, rationale_of};
 use plant_alarm::ShelfState;
 use plant_model::{
     AlarmLine, AlarmRow, Refused, Reply, ShelfLine, ShelfRow, StandingLine, StatusRow, UnitPart,
-    alarm_of, row_of,
+    alarm_of,
 };
 use plant_types::{Fault, List, Moment, Tag, UnitCode};
 use std::alloc::Global;
@@ -120,9 +120,9 @@ pub fn shelves(
 }
 
 fn is_shelved(part: &UnitPart, alarm: &AlarmRow, now: Moment) -> bool
-    ensures { AreKept part.now → result ≡ is_shelved (facts_in part.now) alarm.now now }
+    ensures { result ≡ is_shelved (facts_in part.now) alarm.now now }
 {
-    let shelf = row_of(part.rows.shelves.as_slice(), &alarm.tag);
+    let shelf = part.rows.shelves.get(&alarm.tag);
     !matches!(state_of(shelf, alarm.return_s, now), ShelfState::Unshelved)
 }
 

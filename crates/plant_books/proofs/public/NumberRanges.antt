@@ -1,9 +1,9 @@
 -- The rows of a number among rows whose numbers do not fall: where they begin and end, and those of several numbers.
 use Rattle.std.{specs.{Cmp.{ranked}, FinMap.Entries.{below_all}}, proofs.lemmas.{List.Elements.{filter_agree}, Bool.{le-ltb}}}
 use Rattle.std.specs.{List.Sorted.{IsNonDecreasingBy, IsPartitionPoint, IsPartitionedBy, IsStrictlySortedBy}, Ordering.{ordering_then}}
-use Rattle.std.proofs.Common.{Bool, List, [], ap, arith, cond, drop, false, get_or, inl, inr, length, not, refl, subst, suc, sym, take, true, zero, ℕ, ◌++◌, ◌<◌, ◌∙◌, ◌∷◌, ◌≡◌, ◌≤◌, ◌⊎◌, nat_cmp, Ordering, Equal, Greater, Less, T, filter, map, nat_le, nat_lt, ◌||◌, BTreeSet, ◌&&◌}
+use Rattle.std.proofs.Common.{Bool, List, [], ap, arith, cond, drop, false, get_or, inl, inr, length, not, refl, subst, suc, sym, take, true, zero, ℕ, ◌++◌, ◌<◌, ◌∙◌, ◌∷◌, ◌≡◌, ◌≤◌, ◌⊎◌, nat_cmp, Ordering, Equal, Greater, Less, T, filter, map, nat_le, nat_lt, ◌||◌, ◌&&◌}
 use Rattle.std.proofs.lemmas.{Bool.{cases_order, le-leb, lt-ltb, or_right, lt-leb, and_right}, List.Sorted.{IsPartitionedBy-leb, IsPartitionedBy-ltb}}
-use Rattle.plant_books.{specs.Numbered.{NumbersRise, of_numbers}, proofs.NumbersAmong.{among, among_more, none_among, or_none, smaller}}
+use Rattle.plant_books.{specs.Numbered.{NumbersRise}, proofs.NumbersAmong.{among, among_more, none_among, or_none, smaller}}
 use Rattle.plant_import.proofs.public.Placed.{AllBelow, other, other_above}
 use Rattle.plant_model.specs.{Matrices.{band_cmp, cell_cmp}, declared.rows.BandRow.{BandRow}}
 use Rattle.plant_model.specs.steps.RowFacts.{band_key, cell_key, change_number}
@@ -174,39 +174,3 @@ module _ {X : Type 0} (number : X → ℕ) where
   goes_on xs keys before t n these so_far rising cut rise is here =
       let low = smaller before n t (subst (IsStrictlySortedBy nat_cmp) (sym cut) rising) in
       (λ i. is i ++ here i) ∙ sym (one_more before n xs low (climb xs rise))
-
--- ---- rows in the order of their keys: their numbers do not fall
-
-leads : (a b : ℕ) (rest : Ordering) → ordering_then (nat_cmp a b) rest ≡ Less → a ≤ b
-leads a b rest e = elim (nat_cmp a b) as (λ o. nat_cmp a b ≡ o → ordering_then o rest ≡ Less → a ≤ b) [
-  | Less ↦ λ p _. let lt = ranked a b Less (sym p) in omega (arith, lt)
-  | Equal ↦ λ p _. let same = same_numbers a b p in omega (arith, same)
-  | Greater ↦ λ _ q. cc
-] refl e
-
-module _ {K X : Type 0} (R : K → K → Ordering) (key : X → K) (lead : K → ℕ) (le : (a b : K) → R a b ≡ Less → lead a ≤ lead b) where
-  above : (a : K) (xs : List X) → T (below_all R a (map (λ r. (key r, r)) xs)) → (k : ℕ) (d : X) → k < length xs → lead a ≤ lead (key (get_or xs k d))
-  above a [] h k d lt = absurd (omega (arith, lt))
-  above a (x ∷ xs) h zero d lt = le a (key x) (less (R a (key x)) (first _ _ h))
-  above a (x ∷ xs) h (suc k) d lt = above a xs (second _ _ h) k d (omega (arith, lt))
-
-  rise : (xs : List X) → IsInOrder R key xs → IsNonDecreasingBy (λ r. lead (key r)) xs
-  rise [] h i j d le' lt = absurd (omega (arith, lt))
-  rise (x ∷ xs) h zero zero d le' lt = omega arith
-  rise (x ∷ xs) h zero (suc j) d le' lt = above (key x) xs (first _ _ h) j d (omega (arith, lt))
-  rise (x ∷ xs) h (suc i) zero d le' lt = absurd (omega (arith, le'))
-  rise (x ∷ xs) h (suc i) (suc j) d le' lt = rise xs (second _ _ h) i j d (omega (arith, le')) (omega (arith, lt))
-
--- the rows of some numbers, of all rows as they are handed on
-pub taken : {X : Type 0} (number : X → ℕ) (numbers : BTreeSet ℕ) (all rows these : List X) → all ≡ rows → NumbersRise number rows
-    → (NumbersRise number all → these ≡ of_numbers number numbers all) → these ≡ of_numbers number numbers rows
-taken number numbers all rows these same rises value = value (subst (NumbersRise number) (sym same) rises) ∙ ap (of_numbers number numbers) same
-
-pub bands_rise : (rows : List BandRow) → IsInOrder band_cmp band_key rows → NumbersRise (λ r. r.matrix_no) rows
-bands_rise rows order = rise band_cmp band_key (λ k. k.0) (λ a b. leads a.0 b.0 (nat_cmp a.1 b.1)) rows order
-
-pub cells_rise : (rows : List CellRow) → IsInOrder cell_cmp cell_key rows → NumbersRise (λ r. r.matrix_no) rows
-cells_rise rows order = rise cell_cmp cell_key (λ k. k.0) (λ a b. leads a.0 b.0 (ordering_then (nat_cmp a.1 b.1) (nat_cmp a.2 b.2))) rows order
-
-pub changes_rise : (rows : List ChangeEntry) → IsInOrder nat_cmp change_number rows → NumbersRise change_number rows
-changes_rise rows order = rise nat_cmp change_number (λ k. k) (λ a b e. let lt = ranked a b Less (sym e) in omega (arith, lt)) rows order

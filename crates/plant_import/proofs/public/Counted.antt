@@ -5,7 +5,7 @@ use Rattle.std.proofs.Common.{arith, length, ap, cond, refl, subst, sym, ◌∙�
 use Rattle.plant_alarm.specs.declared.event.Event.{Event}
 use Rattle.plant_import.specs.declared.bad_file.BadFile.{BadFile}
 use Rattle.plant_import.specs.{declared.bad_file.Cause.{Cause}, Merging.{clashes, first_fault, fresh, merge_fault, out_of_order, same_event}}
-use Rattle.plant_import.specs.Numbers.{event_number, has_number, new_numbers, numbers_of, with_events}
+use Rattle.plant_import.specs.Numbers.{event_number, has_number, is_other, new_numbers, numbers_of, with_events}
 use Rattle.plant_import.{specs.Reading.{bad}, proofs.public.{EachLaws.{any_none, each_not}, FreshLaws.{any_first, distinct_firsts, firsts}}}
 use Rattle.plant_import.proofs.public.Placed.{AllAbove, Rises, keys_rise, other_above, rises_of, rising_distinct, same_it}
 use Rattle.plant_types.specs.{KeyedRows.{IsInOrder, put_row, row_at}, Names.{Name}, Options.{or_else, when}}
@@ -19,10 +19,6 @@ numbers_tie = eq_by_cmp_equiv nat_cmp_total
 
 pub turned : (m n : ℕ) → ties m n ≡ ties n m
 turned m n = numbers_tie.symm m n
-
--- the rows whose number no kept event has
-abbrev pub is_other : List Event → Event → Bool
-is_other kept e = not (list_any (has_number e.seq) kept)
 
 -- a row without clash is one of the others where one of them has its number
 whole_or_none : (a m t k : Bool) → (a && not (((a && m) && t) && k)) ≡ false → (((a && m) && t) && k) ≡ a

@@ -2,8 +2,8 @@
 use Rattle.std.specs.List.{AllByRecursion, AllPairs, list_all, list_any}
 use Rattle.std.{specs.List.Sorted.{IsPartitionPoint}, proofs.lemmas.Bool.{and_parts, false_from_ne_true, or_parts}}
 use Rattle.std.proofs.lemmas.List.{get_or-drop, get_or-take, length-drop, length-take-le, take-append-drop}
-use Rattle.std.proofs.lemmas.List.{Elements.{filter-append, filter_passes, recursion_from_All}, Folds.{list_all-append, list_any-append}}
-use Rattle.std.proofs.{lemmas.List.Kept.{AllPairs-cons}, Math.{Bool.{and-true, or-false, or-true}, Seq.{take-append_seam}}}
+use Rattle.std.proofs.lemmas.List.{Elements.{filter-append, filter_passes, recursion_from_All}, Folds.{list_any-append}}
+use Rattle.std.proofs.{lemmas.List.Kept.{AllPairs-cons}, Math.{Bool.{or-false, or-true}, Seq.{take-append_seam}}}
 use Rattle.std.proofs.Common.{append-nil, filter, if◌then◌else◌, map, ◌≡◌, ℕ, zero, suc, ◌+◌, ◌<◌, ◌≤◌, refl, sym, ap, subst, ◌∙◌, arith, List, [], ◌∷◌, ◌++◌, length, get_or, take, drop, Bool, true, false, not, ◌||◌}
 
 -- P holds of each
@@ -103,13 +103,6 @@ any_there p [] ys y e = ap (λ b. b || list_any p ys) e
 any_there p (x ∷ xs) ys y e = ap (λ b. p x || b) (any_there p xs ys y e) ∙ or-true (p x)
 
 -- tests that the first or the last element decides
-pub all_by_first : {X : Type 0} (p : X → Bool) (x : X) (xs : List X) → Each (λ y. p x ≡ true → p y ≡ true) xs → list_all p (x ∷ xs) ≡ p x
-all_by_first p x [] h = and-true (p x)
-all_by_first p x (y ∷ ys) h = grind (arith, h.0, all_by_first p x ys h.1)
-
-pub all_by_last : {X : Type 0} (p : X → Bool) (xs : List X) (x : X) → Each (λ y. p x ≡ true → p y ≡ true) xs → list_all p (xs ++ x ∷ []) ≡ p x
-all_by_last p xs x h = grind (arith, list_all-append p xs (x ∷ []), all_by_first p x xs h)
-
 pub any_by_first : {X : Type 0} (p : X → Bool) (x : X) (xs : List X) → Each (λ y. p y ≡ true → p x ≡ true) xs → list_any p (x ∷ xs) ≡ p x
 any_by_first p x [] h = or-false (p x)
 any_by_first p x (y ∷ ys) h = grind (arith, h.0, any_by_first p x ys h.1)

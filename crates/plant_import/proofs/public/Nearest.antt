@@ -1,13 +1,12 @@
 -- An event next to those of smaller and those of greater numbers.
-use Rattle.std.{specs.List.{list_any, Sorted.{IsPartitionPoint}}, proofs.lemmas.Bool.{le-ltb, lt-ltb, ne_eqb, eqb-true, eq-eqb, false≢true}}
-use Rattle.std.proofs.{lemmas.{Bool.Decides.{nat_tests}, List.{take-append-drop, Folds.{list_any-append}}}, Math.Bool.{or-false, and-false}}
-use Rattle.std.proofs.Common.{◌≡◌, ℕ, ◌<◌, ◌≤◌, refl, sym, ap, ◌∙◌, subst, arith, List, [], ◌∷◌, ◌++◌, length, take, drop, Bool, true, false, ◌&&◌, ◌||◌, not, Option, Some, nat_lt, ◌==◌, slice_get, option_map, unwrap_or}
+use Rattle.std.{specs.List.{list_any}, proofs.lemmas.Bool.{le-ltb, lt-ltb, ne_eqb, eqb-true, eq-eqb, false≢true}}
+use Rattle.std.proofs.{lemmas.{Bool.Decides.{nat_tests}, List.{Folds.{list_any-append}}}, Math.Bool.{or-false, and-false}}
+use Rattle.std.proofs.Common.{◌≡◌, ℕ, ◌<◌, ◌≤◌, refl, sym, ap, ◌∙◌, subst, arith, List, [], ◌∷◌, ◌++◌, drop, Bool, true, false, ◌&&◌, ◌||◌, not, Option, Some, nat_lt, ◌==◌, slice_get, option_map, unwrap_or}
 use Rattle.plant_types.{specs.Names.{name_cmp}, proofs.public.{Halves.{left, right}, KeyedRowLaws.{tied}, Orders.{same_names}}}
 use Rattle.plant_alarm.specs.declared.event.{Event.{Event}, EventKind.{EventKind}}
 use Rattle.plant_import.specs.Merging.{IsRising, same_event, clashes, out_of_order, kind_no}
-use Rattle.plant_import.{specs.Relation.{RelatesSo}, proofs.public.Risings.{Before, Rising, first_cut, is_rising, rising_of}}
+use Rattle.plant_import.{specs.Relation.{RelatesSo}, proofs.public.Risings.{Before, Rising, first_cut, is_rising}}
 use Rattle.plant_import.proofs.public.EachLaws.{Each, each_weaker, each_append, any_none, any_same, any_there, pairs_back, pairs_before, pairs_front}
-use Rattle.plant_import.proofs.public.EachLaws.{parted_each}
 
 -- events that are the same
 same_kinds : (k l : EventKind) → kind_no k ≡ kind_no l → k ≡ l
@@ -112,14 +111,6 @@ pub record AreParts (events : List Event) (seq : ℕ) (below above : List Event)
   pub rising : Rising (below ++ above)
   pub low : Each (λ x. x.seq < seq) below
   pub high : Each (λ x. seq ≤ x.seq) above
-
-pub parts : (events below above : List Event) (seq place : ℕ) → IsRising events → IsPartitionPoint (λ x. x.seq < seq) (λ x. seq ≤ x.seq) events place
-    → place ≤ length events → below ≡ take place events → above ≡ drop place events → AreParts events seq below above
-parts events below above seq place rising cut le eb ea =
-    let whole : events ≡ below ++ above = sym (take-append-drop place events) ∙ ap (λ l. l ++ drop place events) (sym eb)
-    ∙ ap (λ l. below ++ l) (sym ea) in
-    let sides = parted_each (λ x. x.seq < seq) (λ x. seq ≤ x.seq) events place cut le in
-    record { whole = whole; rising = subst (λ (l : List Event). Rising l) whole (rising_of events rising); low = rw eb sides.0; high = rw ea sides.1 }
 
 -- no event has the number where the first of the others hasn't
 higher : (seq : ℕ) (above : List Event) (first : Option Event) → Each (λ x. seq ≤ x.seq) above → Rising above → first ≡ slice_get above 0

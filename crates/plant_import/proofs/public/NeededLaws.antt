@@ -9,9 +9,9 @@ use Rattle.plant_alarm.specs.declared.event.Event.{Event}
 use Rattle.plant_import.specs.declared.{bad_file.BadFile.{BadFile}, merging.Merged.{Merged}}
 use Rattle.plant_import.specs.Merging.{IsRising, clashes, first_fault, fresh, merge, merged_or, out_of_order, same_event}
 use Rattle.plant_import.specs.Needed.{from_last_before, has_late, is_before_all, is_late, is_overtaken, needed}
-use Rattle.plant_import.specs.Numbers.{event_number, has_number, new_numbers, numbers_of}
-use Rattle.plant_import.{specs.{Reached.{AreReached}, Reading.{bad}}, proofs.public.Counted.{is_other, same_fault}}
-use Rattle.plant_import.proofs.public.{Nearest.{order_below, other_number}, Placed.{Rises, rises_drop, in_order_of, other, rises_of}}
+use Rattle.plant_import.specs.Numbers.{event_number, has_number, is_other, new_numbers, numbers_of}
+use Rattle.plant_import.{specs.{Reached.{AreReached}, Reading.{bad}}, proofs.public.Counted.{same_fault}}
+use Rattle.plant_import.proofs.public.{Nearest.{order_below, other_number}, Placed.{Rises, other, rises_of}}
 use Rattle.plant_import.proofs.public.Risings.{Before, Rising, in_number_order, is_rising, rising_of}
 use Rattle.plant_import.proofs.public.EachLaws.{Each, any_led, any_none, any_same, each_back, each_both, each_filter, each_from_all, each_front}
 use Rattle.plant_import.proofs.public.EachLaws.{each_of, each_weaker, filter_front, filter_parts, pairs_before, pairs_drop, pairs_weaker, parted_each}
@@ -204,8 +204,15 @@ needed_numbers kept rows h =
 pub needed_late : (kept rows : List Event) → IsRising kept → has_late (needed kept rows) rows ≡ has_late kept rows
 needed_late kept rows h = late_same rows kept (needed kept rows) (needed_cut kept rows (in_number_order kept h))
 
-pub near_late : (kept rows : List Event) → IsInOrder nat_cmp event_number kept → has_late (from_last_before kept rows) rows ≡ has_late kept rows
-near_late kept rows h = late_same rows kept (from_last_before kept rows) (cut rows kept h)
+-- a row is late if it is overtaken among the near events, and new among all
+abbrev pub late_near : List Event → List Event → Event → Bool
+late_near kept rows e = is_overtaken (from_last_before kept rows) e && is_other kept e
+
+pub near_late : (kept rows : List Event) → IsInOrder nat_cmp event_number kept → list_any (late_near kept rows) rows ≡ has_late kept rows
+near_late kept rows h =
+    any_same (late_near kept rows)
+    (is_late kept) rows (each_weaker (SameNumbers kept (from_last_before kept rows)) (λ e. late_near kept rows e ≡ is_late kept e) (λ e s i. s.overtaken i
+    && is_other kept e) rows (same_numbers rows kept (from_last_before kept rows) (cut rows kept h)))
 
 -- they rise as the kept ones do, and are no more
 pub needed_rises : (kept rows : List Event) → IsRising kept → IsRising (needed kept rows)
@@ -221,11 +228,6 @@ needed_few kept rows h =
       | true ↦ omega arith
       | false ↦ omega (arith, length-drop (length (filter (is_before_all rows) kept) - 1) kept)
     ]
-
-pub near_ordered : (kept rows : List Event) → IsInOrder nat_cmp event_number kept → IsInOrder nat_cmp event_number (from_last_before kept rows)
-near_ordered kept rows h =
-    in_order_of event_number (from_last_before kept rows)
-    (rises_drop event_number (length (filter (is_before_all rows) kept) - 1) kept (rises_of event_number kept h))
 
 -- the last number of each alarm, one event after another
 overtaken_more : (a : Name) (n : ℕ) (es : List Event) (e : Event)

@@ -1,11 +1,11 @@
 -- Rows in the order of their numbers: the place of a number among them, and rows put among them.
 use Rattle.std.proofs.lemmas.List.Elements.{All-filter, All-from_recursion, All-map, recursion_from_All}
 use Rattle.std.specs.{FinMap.Entries.{below_all}}
-use Rattle.std.specs.List.{AllAdjacentBelow, IsAllAdjacentAnswer, IsDistinct, list_any, Sorted.{IsNonDecreasingBy, IsPartitionPoint, IsPartitionedBy}}
+use Rattle.std.specs.List.{AllAdjacentBelow, IsAllAdjacentAnswer, IsDistinct, Sorted.{IsNonDecreasingBy, IsPartitionPoint, IsPartitionedBy}}
 use Rattle.std.{specs.Ordering.{eq_by_cmp}, proofs.lemmas.Bool.{ltb-false, ltb-true, Decides.{nat_tests}}}
 use Rattle.std.proofs.lemmas.List.{drop_more, take-append-drop, Sorted.{IsNonDecreasingBy-from_all_adjacent, IsPartitionedBy-ltb}}
-use Rattle.std.proofs.Common.{ap, append_assoc, arith, drop, get_or, nat_lt, refl, subst, sym, take, ◌∙◌, is_lt, nat_cmp, Bool, IsTrue, List, T, [], false, filter, fold, if◌then◌else◌, length, map, option_map, slice_get, suc, true, unwrap_or, zero, ℕ, ◌++◌, ◌+◌, ◌<◌, ◌∷◌, ◌≡◌, ◌≤◌, ◌||◌, ◌↔◌}
-use Rattle.plant_import.proofs.public.EachLaws.{Each, Pairs, all_pairs, any_by_first, each_append, each_weaker, pairs_drop, pairs_of, parted_each}
+use Rattle.std.proofs.Common.{ap, append_assoc, arith, drop, get_or, nat_lt, refl, subst, sym, take, ◌∙◌, is_lt, nat_cmp, Bool, IsTrue, List, T, [], false, filter, fold, if◌then◌else◌, length, map, option_map, slice_get, true, unwrap_or, ℕ, ◌++◌, ◌+◌, ◌<◌, ◌∷◌, ◌≡◌, ◌≤◌, ◌↔◌}
+use Rattle.plant_import.proofs.public.EachLaws.{Each, Pairs, all_pairs, each_append, each_weaker, pairs_drop, pairs_of, parted_each}
 use Rattle.plant_types.{specs.KeyedRows.{IsInOrder, put_row}, proofs.public.Halves.{both, first, second}}
 
 less_of : (m n : ℕ) → T (is_lt (nat_cmp m n)) → m < n
@@ -63,9 +63,6 @@ module _ {X : Type 0} (key : X → ℕ) where
   abbrev pub Parts : ℕ → List X → ℕ → Type 0
   Parts n xs p = IsPartitionPoint (λ x. key x < n) (λ x. n ≤ key x) xs p
 
-  later : (n : ℕ) (x : X) (xs : List X) (p : ℕ) → Parts n (x ∷ xs) (suc p) → Parts n xs p
-  later n x xs p h = (λ k d low high. h.0 (suc k) d (omega arith) (omega arith), λ k d low high. h.1 (suc k) d (omega arith) (omega arith))
-
   abbrev pub put : X → List X → List X
   put = put_row nat_cmp key
 
@@ -75,17 +72,6 @@ module _ {X : Type 0} (key : X → ℕ) where
   -- whether the row at a place, if there is one, has a number
   abbrev pub is_at : List X → ℕ → ℕ → Bool
   is_at xs p n = unwrap_or (option_map (λ x. eq_by_cmp nat_cmp n (key x)) (slice_get xs p)) false
-
-  pub there : (n : ℕ) (xs : List X) (p : ℕ) → Rises xs → Parts n xs p → p ≤ length xs → list_any (λ x. eq_by_cmp nat_cmp n (key x)) xs ≡ is_at xs p n
-  there n [] zero rises h le = refl
-  there n [] (suc p) rises h le = absurd (omega arith)
-  there n (x ∷ xs) zero rises h le =
-      let from : n ≤ key x = h.1 0 x (omega arith) (omega arith) in
-      any_by_first (λ y. eq_by_cmp nat_cmp n (key y)) x xs (each_weaker (λ y. key x < key y) (λ y. eq_by_cmp nat_cmp n (key y) ≡ true
-      → eq_by_cmp nat_cmp n (key x) ≡ true) (λ y lt t. let same = same_it n (key y) t in absurd (omega (arith, from, lt, same))) xs rises.0)
-  there n (x ∷ xs) (suc p) rises h le =
-      ap (λ b. b || list_any (λ y. eq_by_cmp nat_cmp n (key y)) xs) (other n (key x) (h.0 0 x (omega arith) (omega arith)))
-      ∙ there n xs p rises.1 (later n x xs p h) (omega arith)
 
   -- rows put behind others
   pub put_after : (r : X) (xs ys : List X) → AllBelow (key r) xs → put r (xs ++ ys) ≡ xs ++ put r ys
@@ -110,6 +96,12 @@ module _ {X : Type 0} (key : X → ℕ) where
         ∷ []) (each_weaker (λ y. key y < key r) (λ y. key y < key s) (λ y lt. omega (arith, lt, k.0)) xs h) (k.0, tt),
     behind_end r xs rs h k.1,
   )
+
+  -- one more of rows that are put one after another
+  pub put_next : (old new more whole : List X) (i : ℕ) (r : X) → puts old (drop i more) ≡ whole → i < length more → r ≡ get_or more i r
+      → new ≡ put r old → puts new (drop (i + 1) more) ≡ whole
+  put_next old new more whole i r so lt is done =
+      ap (λ l. puts l (drop (i + 1) more)) done ∙ sym (ap (puts old) (drop_more more i r lt ∙ ap (λ x. x ∷ drop (i + 1) more) (sym is))) ∙ so
 
   -- rising rows that are put one by one are those rows
   pub puts_none : (rs : List X) → Rises rs → puts [] rs ≡ rs

@@ -19,26 +19,10 @@ use Rattle.plant_ration.specs.{Grid.{Grid}, Matrix.{is_matrix}, declared.{cell.C
 use Rattle.plant_ration.specs.declared.change.ChangeKind.TheVariants.{Limit, Matrix, Rationale}
 use Rattle.plant_types.{specs.{KeyedRows.{put_row, IsInOrder, in_order, row_at}, Names.{Name}, Options.{or_else, when}}, proofs.public.Halves.{both}}
 use Rattle.plant_types.proofs.public.KeyedRowLaws.{put-rows, IsInOrder-rows, IsInOrder-told, Tells, row_at-rows, row_at-told, same_rows, settled, tied}
-use Rattle.plant_types.proofs.public.Halves.{first, second}
+use Rattle.plant_types.proofs.public.{Halves.{first, second}, SortedLaws.{in_order_some}}
 
 -- The rows of a table whose keys pass a test
 module _ {K X : Type 0} (R : K → K → Ordering) (key : X → K) where
-  below_left : (p : X → Bool) (k : K) (rows : List X) → T (below_all R k (map (λ r. (key r, r)) rows))
-      → T (below_all R k (map (λ r. (key r, r)) (filter p rows)))
-  below_left p k [] h = tt
-  below_left p k (r ∷ rows) h =
-      let rest = below_left p k rows (second _ _ h) in
-      elim (p r) as (λ b. T (below_all R k (map (λ r. (key r, r)) (cond b (r ∷ filter p rows) (filter p rows)))))
-      [ true ↦ both _ _ (first _ _ h) rest | false ↦ rest ]
-
-  -- rows in order stay in order where some are left out
-  pub left_in_order : (p : X → Bool) (rows : List X) → IsInOrder R key rows → IsInOrder R key (filter p rows)
-  left_in_order p [] h = tt
-  left_in_order p (r ∷ rows) h =
-      let rest = left_in_order p rows (second _ _ h) in
-      elim (p r) as (λ b. IsInOrder R key (cond b (r
-      ∷ filter p rows) (filter p rows))) [ true ↦ both _ _ (below_left p (key r) rows (first _ _ h)) rest | false ↦ rest ]
-
   module _ (o : IsTotalOrder R) (same : (x y : K) → R x y ≡ Equal → x ≡ y) (test : K → Bool) where
     pub row_at-left : (q : K) (rows : List X) → row_at R key q (filter (λ r. test (key r)) rows) ≡ cond (test q) (row_at R key q rows) None
     row_at-left q [] = elim (test q) as (λ b. ◌≡◌ {A = Option X} None (cond b None None)) [ true ↦ refl | false ↦ refl ]
@@ -67,7 +51,7 @@ module _ {K X : Type 0} (R : K → K → Ordering) (key : X → K) where
         → ((q : K) → (row q ≡ None) ⊎ (list_any (eq_by_cmp R q) places ≡ true)) → ((q : K) → cond (test q) (told q) None ≡ row q)
         → filter (λ r. test (key r)) (filter_map told (in_order R ks)) ≡ filter_map row places
     left_rows told ks t row places at_key rise among is =
-        same_rows R key o same _ _ (left_in_order (λ r. test (key r)) _ (IsInOrder-rows told ks t))
+        same_rows R key o same _ _ (in_order_some R key (λ r. test (key r)) _ (IsInOrder-rows told ks t))
         (IsInOrder-told R key o same row at_key places rise)
         (λ q. row_at-left q _ ∙ ap (λ x. cond (test q) x None) (row_at-rows told ks t q) ∙ is q
         ∙ sym (row_at-told R key o same row at_key q places ∙ ap (λ b. cond b (row q) None) (is_some-find (eq_by_cmp R q) places)

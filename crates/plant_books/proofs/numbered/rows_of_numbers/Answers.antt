@@ -1,5 +1,7 @@
-use Rattle.std.proofs.Common.{[], ap, append_assoc, sym, ◌++◌, ◌∙◌, ◌∷◌, ◌≡◌}
-use Rattle.plant_books.proofs.public.NumberRanges.{goes_on}
+use Rattle.std.proofs.{Common.{[], ap, append_assoc, subst, sym, ◌++◌, ◌∙◌, ◌∷◌, ◌≡◌}, lemmas.List.{append-nil}}
+use Rattle.plant_books.{specs.Numbered.{of_numbers}, proofs.public.NumberRanges.{goes_on, those_among}}
+use Rattle.plant_types.{specs.KeyedRows.{IsInOrder}, proofs.public.SortedLaws.{in_order_some}}
+use Rattle.plant_books.proofs.NumbersAmong.{among}
 use Rattle.plant_books.proofs.numbered.rows_of_numbers.Goals as goal
 
 pub loop-number-preserved : goal.loop-number-preserved
@@ -12,8 +14,15 @@ loop-number-preserved g c =
     let cut : before ++ n ∷ c.next.new.self ≡ c.into_iter-number-iterator.result = ap (λ l. before ++ l) (sym c.in-Some.ensures.steps) ∙ so.1 in (
       before ++ n ∷ [],
       append_assoc before (n ∷ []) c.next.new.self ∙ cut,
-      λ rise.
-          c.in_ok-push_all.ensures.ok
+      c.in_ok-push_all.ensures.ok
           ∙ goes_on g.T.Numbered.number xs c.args.numbers.now.keys before c.next.new.self n c.rows_of_number.result.now c.loop-number.found all.4 (cut
-          ∙ all.0) rise (so.2 rise) (c.rows_of_number.ensures rise),
+          ∙ all.0) (g.met.T.Numbered.rises xs c.as_slice-rows.ensures.order) so.2 c.rows_of_number.ensures,
     )
+
+pub of-requires : goal.of-requires
+of-requires g c =
+    let R = g.T.Keyed.order in
+    let key = g.T.Keyed.key in
+    let so = c.loop-number.invariant in
+    subst (IsInOrder R key) (sym so.2)
+    (in_order_some R key (λ x. among so.0 (g.T.Numbered.number x)) c.args.rows.now c.as_slice-rows.ensures.order)

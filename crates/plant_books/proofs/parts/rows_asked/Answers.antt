@@ -1,10 +1,10 @@
 use Rattle.plant_books.proofs.parts.rows_asked.Goals as goal
 
 pub returns-clause-value : goal.returns-clause-value
-returns-clause-value c order =
-    let first = c.in_ok-units.ensures.value order in
-    let second = c.in_ok-shelves.ensures.value c.args.person.now order in
-    let third = c.in_ok-bands.ensures.value c.args.person.now order in
+returns-clause-value c =
+    let first = c.in_ok-units.ensures.value in
+    let second = c.in_ok-shelves.ensures.value c.args.person.now in
+    let third = c.in_ok-bands.ensures.value c.args.person.now in
     λ i. record {
       units = first.0 i;
       grants = first.1 i;
@@ -14,5 +14,5 @@ returns-clause-value c order =
       records = second.2 i;
       bands = third.0 i;
       cells = third.1 i;
-      changes = c.in_ok-changes.ensures.value order.changes i;
+      changes = c.in_ok-changes.ensures.value i;
     }

@@ -8,4 +8,4 @@ returns c tags are kept seen rises near =
     subst (λ (r : Result Bool Cause). JudgesRow tags c.args.now c.args.kept.now seen c.args.event.now r) (sym c.joined.ensures)
     (judged_so tags c.args.now c.args.kept.now seen c.args.event.now (sym (are c.args.event.now.tag) ∙ sym c.contains.ensures
     ∙ search rules) (ltb-false _ _ (sym less ∙ c.if-lt.false)) c.relation_of.result c.relation_of-2.result
-    (c.relation_of.ensures c.args.kept.now kept (c.nearest_among.ensures kept)) (c.relation_of-2.ensures seen rises near))
+    (c.relation_of.ensures c.args.kept.now kept c.nearest_among.ensures) (c.relation_of-2.ensures seen rises near))

@@ -1,7 +1,7 @@
-use Rattle.std.proofs.Common.{take, ◌≡◌, false, nat_cmp}
-use Rattle.plant_import.specs.{Needed.{has_late}, Numbers.{event_number}}
-use Rattle.plant_types.specs.KeyedRows.{IsInOrder}
+use Rattle.std.specs.List.{list_any}
+use Rattle.std.proofs.Common.{take, ◌≡◌, false}
+use Rattle.plant_import.proofs.public.NeededLaws.{late_near}
 use Rattle.plant_import.proofs.needs.has_late.Given as goal
 
 abbrev pub invariant-loop-row : goal.invariant-loop-row
-invariant-loop-row l = IsInOrder nat_cmp event_number l.kept → has_late l.near (take l.row-index l.rows) ≡ false
+invariant-loop-row l = list_any (late_near l.kept l.rows) (take l.row-index l.rows) ≡ false

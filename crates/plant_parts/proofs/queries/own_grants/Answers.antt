@@ -1,11 +1,7 @@
-use Rattle.plant_statements.proofs.public.{Queries.{own_grants_read}, Reading.{loads}}
-use Rattle.plant_statements.proofs.public.ReadsOnly.{reads_plain}
-use Rattle.plant_statements.proofs.public.Meanings.{lists_own_grants}
+use Rattle.std.proofs.Common.{◌∙◌}
+use Rattle.plant_statements.proofs.public.Queries.{if_ok}
 use Rattle.plant_parts.proofs.queries.own_grants.Goals as goal
 
 pub returns-clause-rows : goal.returns-clause-rows
 returns-clause-rows g c clean books =
-    loads (own_grants_read c.args.unit.now c.args.person.now) _ _ _ _ c.pair.ensures (c.read_rows.ensures.rows clean) books.same_schema books
-
-pub returns-clause-reads : goal.returns-clause-reads
-returns-clause-reads g c = reads_plain _ lists_own_grants.plain c.read_rows.ensures.same c.read_rows.ensures.honest _ c.read_rows.ensures.shows
+    if_ok c.in_order.result (λ sorted h. h ∙ c.in_ok-rows.ensures.rows clean books) c.in_order.ensures

@@ -14,7 +14,7 @@ returns-clause-rows g c honest books rows same =
     let u = c.args.unit.now in
     let db = (state g.S.Store c.args.conn.now).now in
     let taken = λ (r : RecordEntry). (selection_by rows c.args.scope).rationale r.tag in
-    let all = sym (filter-filter taken taken (λ x h. h) rows.records) ∙ ap (filter taken) (sym same ∙ sym c.as_slice.ensures) in
+    let all = sym (filter-filter taken taken (λ x h. h) rows.records) ∙ ap (filter taken) (sym same ∙ sym c.as_slice.ensures.value) in
     let are : HasNumbers c.in-Ok.numbers (selection_by rows c.args.scope).change =
     subst (λ said. IfOk said (λ numbers. HasNumbers numbers (selection_by rows c.args.scope).change)) c.in-Ok.is
     (c.change_numbers.ensures.value rows all) in

@@ -5,4 +5,4 @@ use Rattle.plant_parts.proofs.unit.events.Goals as goal
 
 pub returns-clause-found : goal.returns-clause-found
 returns-clause-found g c honest m k =
-    if_ok c.all_rows.result (λ events h. h ∙ k.seen c.args.unit.now Events) (c.all_rows.ensures.rows honest.0 k.books)
+    if_ok c.sorted_rows.result (λ events h. h ∙ k.seen c.args.unit.now Events) (c.sorted_rows.ensures.rows honest.0 k.books)

@@ -18,14 +18,14 @@ pub returns-clause-found : goal.returns-clause-found
 returns-clause-found g c honest m k =
     let u = c.args.unit.now in
     let old = state g.S.Store c.args.conn.now in
-    let t4 = c.all_rows-5.ensures.reads.honest honest in
-    let t3 = c.all_rows-4.ensures.reads.honest t4 in
-    let t2 = c.all_rows-3.ensures.reads.honest t3 in
-    let t1 = c.all_rows-2.ensures.reads.honest t2 in
+    let t4 = c.sorted_rows-4.ensures.reads.honest honest in
+    let t3 = c.sorted_rows-3.ensures.reads.honest t4 in
+    let t2 = c.sorted_rows-2.ensures.reads.honest t3 in
+    let t1 = c.sorted_rows.ensures.reads.honest t2 in
     let r1 = goes_on c.all_rows.ensures.reads t1 (begins k.books) in
-    let r2 = goes_on c.all_rows-2.ensures.reads t2 r1 in
-    let r3 = goes_on c.all_rows-3.ensures.reads t3 r2 in
-    let r4 = goes_on c.all_rows-4.ensures.reads t4 r3 in
+    let r2 = goes_on c.sorted_rows.ensures.reads t2 r1 in
+    let r3 = goes_on c.sorted_rows-2.ensures.reads t3 r2 in
+    let r4 = goes_on c.sorted_rows-3.ensures.reads t4 r3 in
     let rows : UnitRows =
     record {
       units = c.in_ok-units.units;
@@ -62,5 +62,5 @@ returns-clause-found g c honest m k =
 pub returns-clause-reads : goal.returns-clause-reads
 returns-clause-reads g c =
     reads_then
-    (reads_then (reads_then (reads_then c.all_rows.ensures.reads c.all_rows-2.ensures.reads) c.all_rows-3.ensures.reads) c.all_rows-4.ensures.reads)
-    c.all_rows-5.ensures.reads
+    (reads_then (reads_then (reads_then c.all_rows.ensures.reads c.sorted_rows.ensures.reads) c.sorted_rows-2.ensures.reads) c.sorted_rows-3.ensures.reads)
+    c.sorted_rows-4.ensures.reads

@@ -8,12 +8,12 @@ use Rattle.plant_parts.proofs.unit.with_history.Goals as goal
 pub returns-clause-found : goal.returns-clause-found
 returns-clause-found g c honest m k =
     let u = c.args.unit.now in
-    let t3 = c.all_rows-4.ensures.reads.honest honest in
-    let t2 = c.all_rows-3.ensures.reads.honest t3 in
-    let t1 = c.all_rows-2.ensures.reads.honest t2 in
-    let r1 = goes_on c.all_rows.ensures.reads t1 (begins k.books) in
-    let r2 = goes_on c.all_rows-2.ensures.reads t2 r1 in
-    let r3 = goes_on c.all_rows-3.ensures.reads t3 r2 in
+    let t3 = c.sorted_rows-4.ensures.reads.honest honest in
+    let t2 = c.sorted_rows-3.ensures.reads.honest t3 in
+    let t1 = c.sorted_rows-2.ensures.reads.honest t2 in
+    let r1 = goes_on c.sorted_rows.ensures.reads t1 (begins k.books) in
+    let r2 = goes_on c.sorted_rows-2.ensures.reads t2 r1 in
+    let r3 = goes_on c.sorted_rows-3.ensures.reads t3 r2 in
     λ i. record c.args.rows {
       bands = (c.in_ok-bands.ensures.rows t1.0 k.books ∙ k.seen u Bands) i;
       cells = (c.in_ok-cells.ensures.rows t2.0 r1.books ∙ ap (λ (d : Database). rows_seen u d.trees Cells) r1.now ∙ k.seen u Cells) i;

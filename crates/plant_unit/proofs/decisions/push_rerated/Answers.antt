@@ -13,7 +13,7 @@ loop-row-preserved c kept =
     let put : RecordEntry → RowEdit = λ e. Put (RecordPut e) in
     let rated : RecordRow → RecordEntry = rerated c.args.matrix.now in
     let all : list_all (has_its_sheet c.args.part.now.rows) items ≡ true =
-    ap (list_all (has_its_sheet c.args.part.now.rows)) c.as_slice-row-items.ensures ∙ kept.records_whole in
+    ap (list_all (has_its_sheet c.args.part.now.rows)) c.as_slice-row-items.ensures.value ∙ kept.records_whole in
     let whole =
     each_passes (has_its_sheet c.args.part.now.rows) items c.loop-row.row-index c.row-item.result all c.loop-row-test.true c.row-item.is in
     let next =

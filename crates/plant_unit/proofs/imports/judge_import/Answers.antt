@@ -17,7 +17,7 @@ returns-in_ok-changes-in-Ok-2-clause-value c kept u es e seen =
     let new : AreAdded es rows c.in-Ok-2.merged.fresh = import_added f t rows c.in-Ok-2.merged of.rise is in
     import_judged f c.args.call.now u rows c.in-Ok-2.merged c.import_reply.result c.in_ok-changes-in-Ok-2.changes request is
     (rw c.len-count.ensures at c.import_reply.ensures)
-    (c.in_ok-changes-in-Ok-2.ensures.value kept.alarms_in_order u es of new)
+    (c.in_ok-changes-in-Ok-2.ensures.value u es of new)
 
 pub returns-in-Err-2-clause-value : goal.returns-in-Err-2-clause-value
 returns-in-Err-2-clause-value c kept u es e seen =

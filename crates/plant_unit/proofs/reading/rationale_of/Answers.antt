@@ -7,5 +7,5 @@ use Rattle.plant_unit.proofs.reading.rationale_of.Goals as goal
 pub returns-clause-value : goal.returns-clause-value
 returns-clause-value c kept =
     rationale_read c.args.part.now c.args.tag.now c.in-Some.row.now c.in-Some-source_of.entry.now c.rationale_from.result kept
-    (c.in-Some.ensures ∙ ap (row_at name_cmp record_tag c.args.tag.now) c.as_slice.ensures)
-    (c.in-Some-source_of.ensures kept) c.rationale_from.ensures.value
+    (c.in-Some.ensures ∙ ap (row_at name_cmp record_tag c.args.tag.now) c.as_slice.ensures.value)
+    c.in-Some-source_of.ensures c.rationale_from.ensures.value

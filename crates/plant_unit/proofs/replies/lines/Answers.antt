@@ -23,4 +23,4 @@ loop-place-preserved c kept =
 pub returns-clause-value : goal.returns-clause-value
 returns-clause-value c kept =
     let is = c.loop-place.invariant kept in
-    grind (arith, common_steps, is, c.loop-place-test.false, c.as_slice-shelves.ensures)
+    grind (arith, common_steps, is, c.loop-place-test.false, c.as_slice-shelves.ensures.value)

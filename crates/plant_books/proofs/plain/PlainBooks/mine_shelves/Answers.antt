@@ -4,4 +4,4 @@ use Rattle.plant_books.proofs.plain.PlainBooks.mine_shelves.Goals as goal
 pub returns-clause-found : goal.returns-clause-found
 returns-clause-found c =
     λ m h _. rw (← all_listed (shelves_mine c.args.now c.args.person.now) c.args.self.now.administrator c.args.self.now.units m h)
-    (c.shelves_held.ensures.value h.ordered)
+    c.shelves_held.ensures.value

@@ -1,8 +1,8 @@
-use Rattle.plant_books.proofs.{ListedLaws.{part_listed}, public.OrderLaws.{rows_in_order}}
+use Rattle.plant_books.proofs.ListedLaws.{part_listed}
 use Rattle.plant_books.proofs.plain.PlainBooks.part.Goals as goal
 
 pub returns-clause-found : goal.returns-clause-found
 returns-clause-found c = λ m h _ u named.
     rw c.counted.ensures.same
     (rw (← part_listed c.args.self.now.administrator u c.in-Some.unit.now c.args.self.now.units m c.args.call.now h c.in-Some.ensures named)
-    (c.part_at-said.ensures.value (rows_in_order c.in-Some.unit.now c.args.self.now.units h.ordered)))
+    c.part_at-said.ensures.value)

@@ -9,4 +9,4 @@ returns-in-Ok c = λ m u h.
     changed_there m u c.args.changes.now c.args.self (record {
       rows = c.without_reviews.result;
       has_events = c.args.self.has_events;
-    }) h refl (c.without_reviews.ensures ∙ ap without_reviews (c.in-Ok.ensures.value h.ordered)) (sym c.misses.ensures ∙ none)
+    }) h refl (c.without_reviews.ensures ∙ ap without_reviews (c.in-Ok.ensures.value)) (sym c.misses.ensures ∙ none)

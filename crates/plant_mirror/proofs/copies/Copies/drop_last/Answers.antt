@@ -1,8 +1,20 @@
-use Rattle.std.proofs.Common.{arith}
-use Rattle.plant_mirror.proofs.CopyLaws.{count_last}
+use Rattle.std.proofs.Common.{ap, arith}
+use Rattle.lru.specs.LruCache.{LruCache}
+use Rattle.plant_mirror.{specs.{Copies.{rows_of_all}, declared.at_hand.AtHand.{AtHand}}, proofs.CopyLaws.{count_last}}
+use Rattle.plant_types.specs.Names.{Name}
 use Rattle.plant_mirror.proofs.copies.Copies.drop_last.Goals as goal
 
 pub overflow_sub-self : goal.overflow_sub-self
 overflow_sub-self c =
     let last = count_last c.args.self.now.units.entries (c.in-Some.field-0-0, c.in-Some.copy) c.in-Some.ensures.value in
     omega (arith, last, c.row_count.ensures, c.args.self.now.counted)
+
+pub invariant_of-self : goal.invariant_of-self
+invariant_of-self c =
+    let last = count_last c.args.self.now.units.entries (c.in-Some.field-0-0, c.in-Some.copy) c.in-Some.ensures.value in
+    let same = ap (λ (x : LruCache Name AtHand). rows_of_all x.entries) c.in-Some.ensures.entries in
+    record {
+      counted = omega (arith, last, same, c.row_count.ensures, c.args.self.now.counted);
+      within = omega (arith, c.args.self.now.within);
+      limited = c.args.self.now.limited;
+    }

@@ -7,4 +7,4 @@ returns-in-Some c = λ there h.
     let copy = c.in-Some.copy.now in
     let whole : copy.has_events ≡ true = search rules in
     let found = found_there c.args.unit.now there c.args.self.now.units.entries copy h (sym c.in-Some.ensures) in
-    events_there copy.has_events (there c.args.unit.now) copy.rows whole found.same
+    events_there copy.has_events (there c.args.unit.now) copy.rows whole found

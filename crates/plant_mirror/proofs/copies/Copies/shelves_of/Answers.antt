@@ -12,7 +12,7 @@ loop-unit-preserved g there copies =
     let rows = copy.rows in
     let f = flat_map (λ u. shelves_there u (there u)) in
     let found = found_there u there g.args.self.now.units.entries copy copies (sym g.in-Some.ensures) in
-    let pushed = g.in_ok-push_shelves.ensures.pushed found.ordered in
-    let seen = ap (λ xs. xs ++ f (drop (i + 1) us)) (shelves_seen u copy.has_events (there u) rows found.same) in
+    let pushed = g.in_ok-push_shelves.ensures.pushed in
+    let seen = ap (λ xs. xs ++ f (drop (i + 1) us)) (shelves_seen u copy.has_events (there u) rows found) in
     more_listed f g.loop-unit.mine _ us i (map (mine_row u rows) rows.shelves) _ u g.loop-unit-test.true g.unit-item.is seen pushed
     (g.loop-unit.invariant there copies)

@@ -17,7 +17,7 @@ returns-in-Some g c = record {
         let copy =
         taken_there u (get m.units) c.args.self.now.copies.units.entries (c.in-Some.field-0-0, c.in-Some.copy)
         (h.copied (c.events.ensures.honest honest)) c.in-Some.ensures.taken in
-        seen_with_events c.in-Some.copy.has_events (get m.units u) rows copy.1.same
+        seen_with_events c.in-Some.copy.has_events (get m.units u) rows copy.1
         ∙ ap (λ es. Some (record rows { events = es })) (sym (c.in_ok-events.ensures.found m h.held honest)));
     honest = search rules;
     count = search rules;

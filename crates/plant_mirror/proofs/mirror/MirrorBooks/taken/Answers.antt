@@ -6,4 +6,4 @@ pub returns-in-Some-clause-found : goal.returns-in-Some-clause-found
 returns-in-Some-clause-found g c = λ m h honest.
     let copy = c.in-Some.field-0.now in
     is_there copy.has_events (get m.units c.args.unit.now) copy.rows
-    (found_there c.args.unit.now (get m.units) c.args.self.now.copies.units.entries copy (h.copied honest) (sym c.in-Some.ensures)).same
+    (found_there c.args.unit.now (get m.units) c.args.self.now.copies.units.entries copy (h.copied honest) (sym c.in-Some.ensures))

@@ -1,0 +1,28 @@
+ghost use Rattle.std.specs.Prelude.{◌≡◌};
+
+use std::cmp::Ordering;
+
+/// A row with a key. Keys have a total order, and only equal keys tie.
+pub trait Keyed: Drop {
+    ghost use Rattle.std.specs.declared.cmp.Ordering.{Ordering, TheVariants.{Equal}};
+    ghost use Rattle.std.specs.Cmp.{IsTotalOrder};
+
+    /// What a row is found by.
+    type Key;
+
+    ghost order: { Self.Key → Self.Key → Ordering };
+
+    ghost key: { Self → Self.Key };
+
+    /// How its key compares with this one.
+    fn key_cmp(&self, other: &Self::Key) -> Ordering
+        ensures { result ≡ order (key self.now) other.now };
+
+    /// How its key compares with another row's.
+    fn row_cmp(&self, other: &Self) -> Ordering
+        ensures { result ≡ order (key self.now) (key other.now) };
+
+    ghost total: { IsTotalOrder order };
+
+    ghost only: { (x y : Self.Key) → order x y ≡ Equal → x ≡ y };
+}

@@ -1,0 +1,192 @@
+ghost use Rattle.std.specs.Prelude.{◌≡◌, ◌↔◌, ◌-◌, ◌≤◌, [], length, is_some, option_copied, slice_get, IsOk, IsTrue, OnOk, OnErr, IfOk, IfErr};
+ghost use Rattle.plant_types.specs.KeyedRows.{IsInOrder, IsPlace, IsPlaceFor, IsPlaceOf, put_row, remove_row, row_at, rows_below, rows_from};
+ghost use Rattle.plant_types.specs.Results.{OnlyMemory};
+
+use crate::{Fault, Keyed, List, TryCopy, copy_all};
+use std::alloc::Global;
+use std::marker::Model;
+
+/// Rows in the order of their keys, each key once. Contracts see them as the list of the rows.
+#[derive(Drop)]
+pub struct Sorted<T: Keyed> {
+    rows: List<T>,
+}
+
+impl<T: Keyed> Model for Sorted<T> {
+    ghost use Rattle.std.specs.Prelude.{List};
+    ghost use Rattle.plant_types.specs.KeyedRows.{IsInOrder};
+
+    ghost Value = { List T };
+
+    ghost view = { λ s. s.rows };
+
+    ghost invariant = { λ s. IsInOrder T.order T.key s.rows };
+}
+
+/// Whether the rows stand in the order of their keys.
+fn rise<T: Keyed>(rows: &[T]) -> bool
+    ensures { IsTrue result ↔ IsInOrder T.order T.key rows.now }
+{
+    rows.is_sorted_by(|row, next| row.row_cmp(next).is_lt())
+}
+
+impl<T: Keyed> Sorted<T> {
+    /// No rows. It takes no memory.
+    pub fn new(alloc: Global) -> Self
+        ensures { result ≡ [] }
+    {
+        Sorted {
+            rows: List::new(alloc),
+        }
+    }
+
+    /// The rows, if they stand in the order of their keys, else the list again.
+    pub fn from_list(list: List<T>) -> Result<Self, List<T>>
+        ensures ok { IfOk result (λ s. s ≡ list) }
+        ensures err { IfErr result (λ l. l ≡ list) }
+        ensures when { IsOk result ↔ IsInOrder T.order T.key list }
+    {
+        if rise(list.as_slice()) {
+            Ok(Sorted { rows: list })
+        } else {
+            Err(list)
+        }
+    }
+
+    /// Rows that are known to stand in order. Nothing is tested.
+    pub fn of(list: List<T>) -> Self
+        requires { IsInOrder T.order T.key list }
+        ensures { result ≡ list }
+    {
+        Sorted { rows: list }
+    }
+
+    /// The rows.
+    pub fn as_slice(&self) -> &[T]
+        ensures value { result.now ≡ self.now }
+        ensures order { IsInOrder T.order T.key self.now }
+    {
+        self.rows.as_slice()
+    }
+
+    /// The rows, as a list.
+    pub fn into_list(self) -> List<T>
+        ensures value { result ≡ self }
+        ensures order { IsInOrder T.order T.key self }
+    {
+        self.rows
+    }
+
+    /// How many rows there are.
+    pub fn len(&self) -> usize
+        ensures { result ≡ length self.now }
+    {
+        self.rows.len()
+    }
+
+    /// How many rows have a smaller key, found by halving.
+    pub fn place(&self, key: &T::Key) -> usize
+        ensures bound { result ≤ length self.now }
+        ensures place { IsPlace T.order T.key key.now self.now result }
+    {
+        let rows = self.as_slice();
+        rows.partition_point(|row| row.key_cmp(key).is_lt())
+    }
+
+    /// The place of the row of the key.
+    fn place_of(&self, key: &T::Key) -> Option<usize>
+        ensures { IsPlaceOf T.order T.key key.now self.now result }
+    {
+        let place = self.place(key);
+        match self.as_slice().get(place) {
+            Some(row) if row.key_cmp(key).is_eq() => Some(place),
+            _ => None,
+        }
+    }
+
+    /// The place of the row of the same key, or else the place where the row belongs, found by halving.
+    fn place_for(&self, row: &T) -> Result<usize, usize>
+        ensures { IsPlaceFor T.order T.key row.now self.now result }
+    {
+        let rows = self.as_slice();
+        let place = rows.partition_point(|other| other.row_cmp(row).is_lt());
+        match rows.get(place) {
+            Some(other) if row.row_cmp(other).is_eq() => Ok(place),
+            _ => Err(place),
+        }
+    }
+
+    /// The row of the key.
+    pub fn get(&self, key: &T::Key) -> Option<&T>
+        ensures { option_copied result ≡ row_at T.order T.key key.now self.now }
+    {
+        match self.place_of(key) {
+            Some(place) => self.as_slice().get(place),
+            None => None,
+        }
+    }
+
+    /// The row of the key, looked for at a place first.
+    pub fn get_near(&self, place: usize, key: &T::Key) -> Option<&T>
+        ensures { option_copied result ≡ row_at T.order T.key key.now self.now }
+    {
+        match self.as_slice().get(place) {
+            Some(row) if row.key_cmp(key).is_eq() => Some(row),
+            _ => self.get(key),
+        }
+    }
+
+    /// Whether there is a row of the key.
+    pub fn has(&self, key: &T::Key) -> bool
+        ensures { result ≡ is_some (row_at T.order T.key key.now self.now) }
+    {
+        self.get(key).is_some()
+    }
+
+    /// The last row.
+    pub fn last(&self) -> Option<&T>
+        ensures { option_copied result ≡ slice_get self.now (length self.now - 1) }
+    {
+        self.as_slice().last()
+    }
+
+    /// The rows of smaller keys, and the others.
+    pub fn split(&self, key: &T::Key) -> (&[T], &[T])
+        ensures below { result.0.now ≡ rows_below T.order T.key key.now self.now }
+        ensures from { result.1.now ≡ rows_from T.order T.key key.now self.now }
+    {
+        self.as_slice().split_at(self.place(key))
+    }
+
+    /// Puts a row over that of its key, else where it belongs. If memory runs out, the rows are unchanged.
+    pub fn put(&mut self, row: T) -> Result<(), Fault>
+        ensures ok { OnOk result (self.new ≡ put_row T.order T.key row self.old) }
+        ensures err { OnErr result (self.new ≡ self.old) }
+        ensures memory { OnlyMemory result }
+    {
+        match self.place_for(&row) {
+            Ok(place) => {
+                self.rows.replace_at(place, row);
+                Ok(())
+            }
+            Err(place) => self.rows.insert_at(place, row),
+        }
+    }
+
+    /// Takes out the row of the key.
+    pub fn remove(&mut self, key: &T::Key) -> Option<T>
+        ensures taken { result ≡ row_at T.order T.key key.now self.old }
+        ensures rest { self.new ≡ remove_row T.order T.key key.now self.old }
+    {
+        match self.place_of(key) {
+            Some(place) => self.rows.remove_at(place),
+            None => None,
+        }
+    }
+}
+
+impl<T: Keyed + TryCopy> TryCopy for Sorted<T> {
+    fn copy(&self, alloc: Global) -> Result<Sorted<T>, Fault> {
+        Ok(Sorted::of(copy_all(alloc, self.as_slice())?))
+    }
+}
