@@ -3,11 +3,11 @@ use Rattle.std.specs.{FinMap.{FinMap, contains_key, empty, get, insert, keys}, L
 use Rattle.std.specs.Prelude.{flat_map, Bool, List, None, OnOk, Option, Result, Some, [], false, filter, filter_map, if◌then◌else◌, map, option_map, true, unwrap_or, ℕ, ◌++◌, ◌≡◌, ◌⊎◌}
 use Rattle.plant_alarm.specs.declared.event.Event.{Event}
 use Rattle.plant_books.specs.declared.books.{MineRow.{MineRow}, MineUnit.{MineUnit}}
-use Rattle.plant_model.specs.Grants.{is_before}
 use Rattle.plant_model.specs.steps.{Parts.{part_of}, RowChanges.{changed_by, no_rows, puts_unit}, RowFacts.{last_return_in, unit_read}}
-use Rattle.plant_model.specs.declared.{call.Call.{Call}, rows.{GrantRow.{GrantRow}, RowEdit.{RowEdit}, ShelfRow.{ShelfRow}, UnitPart.{UnitPart}}}
+use Rattle.plant_model.specs.declared.{call.Call.{Call}, rows.{RowEdit.{RowEdit}, ShelfRow.{ShelfRow}, UnitPart.{UnitPart}}}
 use Rattle.plant_model.specs.declared.rows.UnitRows.{UnitRows}
-use Rattle.plant_types.specs.{Names.{Name, name_cmp, same_name}, Options.{when}, declared.role.Role.{Role}}
+use Rattle.plant_types.specs.{Names.{Name, name_cmp}, Options.{when}, declared.role.Role.{Role}}
+pub use Rattle.plant_model.specs.steps.RowFacts.{is_held_row}
 
 -- what books contain
 pub record Content : Type 0 where
@@ -59,14 +59,10 @@ after_changes m u cs = with_rows m u (changed_by cs (rows_in m u))
 abbrev pub IsKnownTo : Content → Name → List RowEdit → Type 0
 IsKnownTo m u cs = (contains_key m.units u ≡ true) ⊎ (puts_unit cs ≡ true)
 
--- a grant of the person whose end is not yet there
-abbrev pub is_held_by : ℕ → Name → GrantRow → Bool
-is_held_by t p g = if same_name p g.person then is_before t g.end_s else false
-
 -- the person holds a role at the moment in the unit of these rows, if there are any
 abbrev pub is_held_in : ℕ → Name → Option UnitRows → Bool
 is_held_in t p None = false
-is_held_in t p (Some rows) = list_any (is_held_by t p) rows.grants
+is_held_in t p (Some rows) = list_any (is_held_row t p) rows.grants
 
 -- the codes of the units in which the person holds a role at the moment, rising
 abbrev pub codes_held : Content → ℕ → Name → List Name
@@ -74,7 +70,7 @@ codes_held m t p = filter_map (λ u. when (is_held_in t p (get m.units u)) u) (k
 
 -- the roles that the person holds in a unit at the moment, in the order of its grants
 abbrev pub roles_in : ℕ → Name → UnitRows → List Role
-roles_in t p rows = map (λ g. g.role_no) (filter (is_held_by t p) rows.grants)
+roles_in t p rows = map (λ g. g.role_no) (filter (is_held_row t p) rows.grants)
 
 -- a unit with the roles that the person holds there and its last moment
 abbrev pub mine_as : ℕ → Name → Name → UnitRows → MineUnit

@@ -176,7 +176,8 @@ fn matrices_asked(
     ))
 }
 
-/// The rows that the scope takes in.
+/// The rows that the scope takes in, copied a few lists at a time: a function that holds nine where a copy can fail is
+/// proved once for each of them at each failure.
 fn rows_asked(
     alloc: Global,
     rows: &UnitRows,
@@ -313,7 +314,7 @@ pub fn part_of(alloc: Global, rows: &UnitRows, call: &Call) -> Result<UnitPart, 
     ensures value { Gives result (the_part call.now rows.now) }
     ensures memory { counted_for rows.now call.now.request < 2 ^ 32 → OnlyMemory result }
 {
-    if holds_some_by(rows.grants.as_slice(), &call.person, call.moment) {
+    if holds_some_by(&rows.grants, &call.person, call.moment) {
         return part_of_holder(alloc, rows, call);
     }
     let units = rows.units.copy(alloc)?;

@@ -59,28 +59,6 @@ fn script_of(rt: &impl Abort, alloc: Global, requests: &[&str], clients: u64) ->
     }
 }
 
-/// Serves a script over books that shut after so many lists of units. What it reports of faults, and how it ends.
-fn serve(
-    rt: &impl Abort,
-    alloc: Global,
-    script: &mut Script,
-    lists: u64,
-    while_open: bool,
-) -> (Vec<u8>, Result<(), Halted>) {
-    let root = Person::read(alloc, b"root")
-        .expect(rt, "memory")
-        .expect(rt, "a person");
-    let mut office = Office::new(alloc, Failing::new(alloc, root, lists));
-    let mut reports = Reports {
-        log: Vec::new(alloc),
-        errors: Vec::new(alloc),
-    };
-    let n = script.served.len() as u64;
-    let over = serve_lines(alloc, script, n, while_open, &mut office, &mut reports);
-    drop(office.into_books());
-    (reports.errors, over)
-}
-
 /// How often this stands in the bytes.
 fn count_of(bytes: &[u8], part: &[u8]) -> u32 {
     let mut count = 0u32;
@@ -103,32 +81,75 @@ fn answers_of(script: &Script) -> (u32, u32) {
     }
 }
 
+/// How a service over failing books ended, what its first client was answered, and what it reported of faults.
+#[derive(Drop)]
+struct Told {
+    over: Result<(), Halted>,
+    answers: (u32, u32),
+    memory: u32,
+    store: u32,
+    /// How many bytes it reported in all.
+    reported: usize,
+}
+
+/// Serves so many clients, each with these requests, over books that shut after so many lists of units.
+fn serve_failing(
+    rt: &impl Abort,
+    alloc: Global,
+    requests: &[&str],
+    clients: u64,
+    lists: u64,
+    while_open: bool,
+) -> Told {
+    let root = Person::read(alloc, b"root")
+        .expect(rt, "memory")
+        .expect(rt, "a person");
+    let mut script = script_of(rt, alloc, requests, clients);
+    let mut office = Office::new(alloc, Failing::new(alloc, root, lists));
+    let mut reports = Reports {
+        log: Vec::new(alloc),
+        errors: Vec::new(alloc),
+    };
+    let over = serve_lines(
+        alloc,
+        &mut script,
+        clients,
+        while_open,
+        &mut office,
+        &mut reports,
+    );
+    drop(office.into_books());
+    Told {
+        over,
+        answers: answers_of(&script),
+        memory: count_of(&reports.errors, b"fault: Memory\n"),
+        store: count_of(&reports.errors, b"fault: Store\n"),
+        reported: reports.errors.len(),
+    }
+}
+
 #[test]
 fn ends_once_its_store_has_shut(rt: HostRuntime) {
-    let mut script = script_of(&rt, rt.alloc(), &[UNITS, UNITS, UNITS, UNITS], 1);
-    let (errors, over) = serve(&rt, rt.alloc(), &mut script, 2, true);
-    assert_eq!(rt; over, Err(Halted::Shut));
-    assert_eq!(rt; answers_of(&script), (2, 1));
-    assert!(rt; errors.as_slice() == b"fault: Store\n".as_slice());
+    let told = serve_failing(&rt, rt.alloc(), &[UNITS, UNITS, UNITS, UNITS], 1, 2, true);
+    assert_eq!(rt; told.over, Err(Halted::Shut));
+    assert_eq!(rt; told.answers, (2, 1));
+    assert_eq!(rt; (told.memory, told.store, told.reported), (0, 1, 13));
 }
 
 #[test]
 fn goes_on_if_it_is_not_to_end(rt: HostRuntime) {
-    let mut script = script_of(&rt, rt.alloc(), &[UNITS, UNITS, UNITS, UNITS], 1);
-    let (errors, over) = serve(&rt, rt.alloc(), &mut script, 2, false);
-    assert_eq!(rt; over, Ok(()));
-    assert_eq!(rt; answers_of(&script), (2, 2));
-    assert!(rt; errors.is_empty());
+    let told = serve_failing(&rt, rt.alloc(), &[UNITS, UNITS, UNITS, UNITS], 1, 2, false);
+    assert_eq!(rt; told.over, Ok(()));
+    assert_eq!(rt; told.answers, (2, 2));
+    assert_eq!(rt; told.reported, 0);
 }
 
 /// Faults of memory, and of a store that stays open, end nothing.
 #[test]
 fn reports_each_kind_of_fault_once_for_each_connection(rt: HostRuntime) {
     let requests = [SHELVES, ALARMS, SHELVES, ALARMS];
-    let mut script = script_of(&rt, rt.alloc(), &requests, 3);
-    let (errors, over) = serve(&rt, rt.alloc(), &mut script, 100, true);
-    assert_eq!(rt; over, Ok(()));
-    assert_eq!(rt; answers_of(&script), (0, 2));
-    assert_eq!(rt; count_of(&errors, b"fault: Memory\n"), 3);
-    assert_eq!(rt; count_of(&errors, b"fault: Store\n"), 3);
+    let told = serve_failing(&rt, rt.alloc(), &requests, 3, 100, true);
+    assert_eq!(rt; told.over, Ok(()));
+    assert_eq!(rt; told.answers, (0, 2));
+    assert_eq!(rt; (told.memory, told.store), (3, 3));
 }

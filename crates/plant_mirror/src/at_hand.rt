@@ -63,7 +63,7 @@ impl AtHand {
         if !looks_at_events(&call.request) {
             return true;
         }
-        !holds_some_by(self.rows.grants.as_slice(), &call.person, call.moment)
+        !holds_some_by(&self.rows.grants, &call.person, call.moment)
     }
 
     /// Whether an event is put among events that are not at hand.

@@ -239,7 +239,7 @@ impl<B: Books> Mirror<B> {
         ensures kept { (m : Content) → Mirrors B.Books self.old m → Mirrors B.Books self.new m }
         ensures below { self.new.books ≡ self.old.books }
     {
-        if holds_some_by(part.rows.grants.as_slice(), &call.person, call.moment) {
+        if holds_some_by(&part.rows.grants, &call.person, call.moment) {
             self.copies.touch(unit);
         }
     }

@@ -27,7 +27,7 @@ use Rattle.plant_model.proofs.public.{PlaceOrders.{band_total, cell_total, same_
 use Rattle.plant_model.proofs.public.{ReadLaws.{facts-rows, level}, RowsFound.{After, Ordered, turned}}
 use Rattle.plant_ration.specs.{Grid.{Grid}, declared.{cell.Cell.{Cell}, change.ChangeKind.{ChangeKind, TheVariants.{Limit, Matrix, Rationale}}}}
 use Rattle.plant_ration.specs.declared.change.ChangeState.{ChangeState, TheVariants.{Approved, Rejected, Withdrawn}}
-use Rattle.plant_types.specs.{KeyedRows.{put_row, row_at}, Names.{Name, name_cmp, same_name}, Roles.{pair_cmp}, declared.role.Role.{Role}}
+use Rattle.plant_types.specs.{KeyedRows.{put_row, row_at}, Names.{Name, name_cmp, same_name}, Roles.{pair_cmp}}
 use Rattle.plant_types.proofs.public.KeyedRowLaws.{row_at-put_row, row_at-rows}
 
 -- ---- lists

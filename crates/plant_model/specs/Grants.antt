@@ -3,6 +3,10 @@ use Rattle.std.specs.{List.{list_any}, Prelude.{Bool, List, None, Option, Some, 
 use Rattle.plant_model.specs.{Histories.{Said, latest, of_key, still}, Kinds.{says}, declared.call.{Call.{Call}, Request.{Request}}}
 use Rattle.plant_types.specs.{Names.{Name}, Roles.{Pair, all_roles, same_pair}, declared.role.Role.{Role}}
 
+-- some role passes
+abbrev pub some_role : (Role → Bool) → Bool
+some_role test = list_any test all_roles
+
 -- what a request says of a pair: that it stands until an end (None: for good), or that it is over
 abbrev pub said_of_pair : Pair → Request → Option (Said (Option ℕ))
 said_of_pair k r = of_key same_pair k (says r).pair
@@ -29,4 +33,4 @@ abbrev pub roles_held : List Call → ℕ → Name → List Role
 roles_held h t p = filter (λ r. held h t (p, r)) all_roles
 
 abbrev pub holds_any : List Call → ℕ → Name → Bool
-holds_any h t p = list_any (λ r. held h t (p, r)) all_roles
+holds_any h t p = some_role (λ r. held h t (p, r))

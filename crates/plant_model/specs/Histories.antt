@@ -1,5 +1,5 @@
 -- A unit's history: the list of its accepted changing calls, the newest first.
-use Rattle.std.specs.{Ordering.{eq_by_cmp, nat_cmp}, Prelude.{if◌then◌else◌, ◌+◌, Bool, List, None, Option, Some, [], true, ℕ, ◌++◌, ◌∷◌}}
+use Rattle.std.specs.{Ordering.{eq_by_cmp, nat_cmp}, Prelude.{if◌then◌else◌, ◌+◌, Bool, List, None, Option, Some, [], false, true, ℕ, ◌++◌, ◌∷◌}}
 use Rattle.plant_model.specs.declared.call.Call.{Call}
 use Rattle.plant_types.specs.Options.{or_else, when}
 
@@ -16,6 +16,12 @@ pub data Said (A : Type 0) : Type 0 where
 abbrev pub what_stands : {A : Type 0} → Said A → Option A
 what_stands (Begins x) = Some x
 what_stands Over = None
+
+-- it is said of a thing, whose key passes, that it stands from now on
+abbrev pub begins : {K A : Type 0} → (K → Bool) → Option (K × Said A) → Bool
+begins test None = false
+begins test (Some (k, Begins x)) = test k
+begins test (Some (k, Over)) = false
 
 -- the same of what is made of the thing
 abbrev pub said_as : {A B : Type 0} → (A → B) → Said A → Said B

@@ -2,14 +2,14 @@
 -- condition holds. Results of shelving are named as in OPC 10000-9.
 use Rattle.std.specs.List.{list_any}
 use Rattle.std.specs.Prelude.{Bool, Err, List, None, Ok, Option, Result, Some, [], false, if◌then◌else◌, is_none, is_some, length, map, nat_le, nat_lt, not, true, ℕ, ◌+◌, ◌∷◌}
-use Rattle.plant_model.specs.{Facts.{Facts, limit_revision_of, matrix_revision_of, others_shelved, quota_of}, Histories.{same_number}}
+use Rattle.plant_model.specs.{Facts.{Facts, limit_revision_of, matrix_revision_of, others_shelved, quota_of}, Grants.{some_role}, Histories.{same_number}}
 use Rattle.plant_model.specs.declared.reply.{ChangeRow.{ChangeRow}, Full.TheVariants.{Events as TooManyEvents}}
 use Rattle.plant_model.specs.declared.reply.Refused.{Refused}
 use Rattle.plant_model.specs.declared.reply.Refused.TheVariants.{BaseChanged, ChangeUnknown, NotAnAlarm, NotProposed, OutsideMatrix, AlarmUnknown, BadFile as FileRefused, RoleLacking, ShelfQuota, UnitFull}
 use Rattle.plant_ration.specs.{Grid.{Grid}, Matrix.{priority_of, row_of}, declared.cell.Cell.{Cell, TheVariants.{N, P1, P2, P3, P4}}}
 use Rattle.plant_ration.specs.declared.change.{ChangeKind.{ChangeKind, TheVariants.{Limit, Matrix, Rationale}}, ChangeState.{ChangeState}}
 use Rattle.plant_ration.specs.declared.change.ChangeState.TheVariants.{Approved, Proposed, Rejected, Withdrawn}
-use Rattle.plant_types.specs.{Limits.{max_events}, Names.{Name}, Roles.{all_roles}, declared.role.Role.{Role}}
+use Rattle.plant_types.specs.{Limits.{max_events}, Names.{Name}, declared.role.Role.{Role}}
 use Rattle.plant_alarm.specs.declared.event.Event.{Event}
 use Rattle.plant_import.specs.{Merging.{first_fault}, Numbers.{new_numbers}, declared.bad_file.BadFile.{BadFile}}
 
@@ -84,7 +84,7 @@ lacks_role f t p (Some r) = (not (f.held t (p, r)), RoleLacking r) ∷ []
 
 -- the person holds some role at the moment
 unfoldable pub holds_some : Facts → ℕ → Name → Bool
-holds_some f t p = list_any (λ r. f.held t (p, r)) all_roles
+holds_some f t p = some_role (λ r. f.held t (p, r))
 
 -- the first refusal whose condition holds
 abbrev pub first_refusal : List (Bool × Refused) → Option Refused

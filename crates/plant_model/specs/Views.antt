@@ -1,9 +1,9 @@
 -- What a person sees of an office, and the calls that stay when others' calls go.
-use Rattle.std.specs.{FinMap.{keys}, List.{list_any}}
+use Rattle.std.specs.FinMap.{keys}
 use Rattle.std.specs.Prelude.{Bool, List, None, Option, Result, Some, [], false, filter, if◌then◌else◌, ℕ, ◌||◌, ◌∷◌, ◌≡◌}
-use Rattle.plant_model.specs.{Grants.{stands}, Histories.{Begins, Over, Said}, Kinds.{says}, declared.reply.{Refused.{Refused}, Reply.{Reply}}}
+use Rattle.plant_model.specs.{Grants.{some_role, stands}, Histories.{begins}, Kinds.{says}, declared.reply.{Refused.{Refused}, Reply.{Reply}}}
 use Rattle.plant_model.specs.{Worlds.{World, answer, history, next, unit_named, units_held}, declared.call.{Call.{Call}, Request.{Request}}}
-use Rattle.plant_types.specs.{Names.{Name, same_name}, Roles.{Pair, all_roles}}
+use Rattle.plant_types.specs.{Names.{Name, same_name}}
 
 -- the codes, for the administrator; else nothing
 abbrev pub codes_seen : World → Name → List Name
@@ -14,19 +14,13 @@ codes_seen w p = if same_name p w.admin then keys w.units else []
 abbrev pub view : ℕ → Name → World → List (Name × List Call) × List Name
 view t p w = (units_held w t p, codes_seen w p)
 
--- what is said of a pair is a grant to the person
-abbrev pub is_grant_to : Name → Option (Pair × Said (Option ℕ)) → Bool
-is_grant_to p None = false
-is_grant_to p (Some (k, Begins until)) = same_name p k.0
-is_grant_to p (Some (k, Over)) = false
-
 -- the request grants the person something
 abbrev pub grants_to : Name → Request → Bool
-grants_to p r = is_grant_to p (says r).pair
+grants_to p r = begins (λ k. same_name p k.0) (says r).pair
 
 -- some pair of the person stands
 abbrev pub has_pair : List Call → Name → Bool
-has_pair h p = list_any (λ r. stands h (p, r)) all_roles
+has_pair h p = some_role (λ r. stands h (p, r))
 
 -- a call that names one of these units
 abbrev pub names_in : (Name → Bool) → Option Name → Bool

@@ -28,7 +28,8 @@ impl UnitRows {
     }
 }
 
-/// The same three values again.
+/// The same three values again. Lists are copied three at a time, since a function that holds nine where a copy can fail
+/// is proved once for each of them at each failure.
 fn copy_three<A: TryCopy, B: TryCopy, C: TryCopy>(
     alloc: Global,
     first: &A,

@@ -4,9 +4,10 @@ ghost use Rattle.std.specs.{List.{list_any}, Prelude.{◌≡◌, option_copied}}
 ghost use Rattle.plant_model.specs.steps.RowFacts.{held_by, holds_by, pair_of};
 ghost use Rattle.plant_types.specs.{KeyedRows.{row_at}, Roles.{pair_cmp, same_pair}};
 ghost use Rattle.plant_model.specs.Grants as grants;
+ghost use Rattle.plant_model.specs.steps.RowFacts as facts;
 
 use crate::GrantRow;
-use plant_types::{Moment, Person, Role};
+use plant_types::{Moment, Person, Role, Sorted};
 
 /// Whether the moment lies before the end. Without an end it does.
 pub fn is_before(now: Moment, end: Option<Moment>) -> bool
@@ -42,20 +43,23 @@ pub fn is_held_by(grants: &[GrantRow], person: &Person, role: Role, now: Moment)
     grant_of(grants, person, role).is_some_and(|row| is_before(now, row.end_s))
 }
 
-const ROLES: [Role; 6] = [
-    Role::Viewer,
-    Role::Operator,
-    Role::Maintainer,
-    Role::Engineer,
-    Role::Approver,
-    Role::Steward,
-];
+/// Whether the row is a grant of the person whose end is not yet there.
+pub fn is_held_row(row: &GrantRow, person: &Person, now: Moment) -> bool
+    ensures { result ≡ facts.is_held_row now person.now row.now }
+{
+    *person == row.person && is_before(now, row.end_s)
+}
+
+/// Whether the grants have one of the person whose end is not yet there.
+pub fn has_held_row(grants: &[GrantRow], person: &Person, now: Moment) -> bool
+    ensures { result ≡ list_any (facts.is_held_row now person.now) grants.now }
+{
+    grants.iter().any(|row| is_held_row(row, person, now))
+}
 
 /// Whether the person holds some role at the moment by these grants.
-pub fn holds_some_by(grants: &[GrantRow], person: &Person, now: Moment) -> bool
+pub fn holds_some_by(grants: &Sorted<GrantRow>, person: &Person, now: Moment) -> bool
     ensures { result ≡ holds_by grants.now now person.now }
 {
-    ROLES
-        .iter()
-        .any(|role| is_held_by(grants, person, *role, now))
+    has_held_row(grants.as_slice(), person, now)
 }

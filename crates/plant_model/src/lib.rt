@@ -15,7 +15,7 @@ mod rows;
 
 pub use call::{Call, Request};
 pub use found::{alarm_of, last_return};
-pub use held::{holds_some_by, is_before, is_held_by, is_pair, stands};
+pub use held::{has_held_row, holds_some_by, is_before, is_held_by, is_held_row, is_pair, stands};
 pub use kinds::{
     CallKind, Counted, Effect, Scope, is_shelving, looks_at_events, looks_at_reviews,
     number_approved, scope_of,

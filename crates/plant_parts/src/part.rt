@@ -377,7 +377,7 @@ fn unit_part<S: Alter>(
         return Ok(None);
     }
     let own = own_grants(alloc, conn, unit, &call.person)?;
-    if !holds_some_by(own.as_slice(), &call.person, call.moment) {
+    if !holds_some_by(&own, &call.person, call.moment) {
         return Ok(Some(part_of_grants(alloc, units, own)));
     }
     let part = holders_part(alloc, conn, unit, call, units, own)?;

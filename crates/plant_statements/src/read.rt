@@ -1,7 +1,8 @@
 //! The statements that read one unit's rows of one table.
 
-ghost use Rattle.std.specs.Prelude.{◌≡◌, IfOk};
+ghost use Rattle.std.specs.Prelude.{◌≡◌, ◌↔◌, IfOk, IsOk};
 ghost use Rattle.plant_books.specs.Books.{WasHonest};
+ghost use Rattle.plant_types.specs.KeyedRows.{IsInOrder};
 ghost use Rattle.plant_statements.specs.Reading.{Asks, CrashesAsShown, Decodes, HasNoTransaction, IsHonestIn, Loads, LoadsNumber, LoadsTag, IsOnlyRead, SameIfPlain};
 
 use crate::stored::{Stored, StoredByNumber, StoredByTag};
@@ -64,7 +65,8 @@ pub fn all_rows<T: Stored, S: Alter>(
 
 /// The rows that were read. If they do not stand in the order of their keys, the file is damaged.
 pub fn in_order<T: Keyed>(rows: List<T>) -> Result<Sorted<T>, Error>
-    ensures { IfOk result (λ sorted. sorted ≡ rows) }
+    ensures value { IfOk result (λ sorted. sorted ≡ rows) }
+    ensures when { IsOk result ↔ IsInOrder T.order T.key rows }
 {
     match Sorted::from_list(rows) {
         Ok(sorted) => Ok(sorted),

@@ -8,7 +8,7 @@ use Rattle.sqlite.specs.State.{State, Shown}
 use Rattle.sqlite_keyed.proofs.ListLemmas.{map-map}
 use Rattle.sqlite_tied.proofs.RuleLemmas.{and_true}
 use Rattle.sqlite_value.specs.{Order.{Row, bytes, column}, declared.value.Value.TheVariants.{Text}}
-use Rattle.plant_books.specs.Contents.{Content, codes_held, is_held_by, is_held_in}
+use Rattle.plant_books.specs.Contents.{Content, codes_held, is_held_row, is_held_in}
 use Rattle.plant_columns.specs.{Codes.{open_number_in}, Kept.{by_columns, is_of, kept}, Shape.{IsRowIn}, Shown.{columns}}
 use Rattle.plant_columns.specs.{Tables.{AreBooks, books_schema, grant_shape}, declared.tables.TableKind.TheVariants.{Grants}}
 use Rattle.plant_columns.proofs.public.{Kept.{all-sort, sort-filter}, Keys.{by_columns_total}, ShapeLaws.{good, open_number_back}}
@@ -89,7 +89,7 @@ module _ (m : Content) (t : ℕ) (p : Name) where
     units_standing rows = map (λ (h : Holding). h.unit) (filter (λ (h : Holding). is_before t h.end_s) (map holding_in rows))
 
     any_alike : (q : Name) (rows : List Row) → AllByRecursion (IsRowIn grant_shape) rows
-        → list_any (same_name q) (units_standing (filter (is_named p) rows)) ≡ list_any (is_held_by t p)
+        → list_any (same_name q) (units_standing (filter (is_named p) rows)) ≡ list_any (is_held_row t p)
         (map grant_shape.read (filter (is_of q) rows))
     any_alike q [] all = refl
     any_alike q (r ∷ rows) all = by (is_named p r) (is_of q r) (is_before t (holding_in r).end_s) refl refl refl (any_alike q rows all.1)
@@ -101,9 +101,9 @@ module _ (m : Content) (t : ℕ) (p : Name) where
         unit = ap (λ x. is_of q x) all.0 ∙ named_same (bytes (column r 1)) q
 
         by : (a b c : Bool) → is_named p r ≡ a → is_of q r ≡ b → is_before t (holding_in r).end_s ≡ c
-            → list_any (same_name q) (units_standing (filter (is_named p) rows)) ≡ list_any (is_held_by t p)
+            → list_any (same_name q) (units_standing (filter (is_named p) rows)) ≡ list_any (is_held_row t p)
             (map grant_shape.read (filter (is_of q) rows))
-            → list_any (same_name q) (units_standing (filter (is_named p) (r ∷ rows))) ≡ list_any (is_held_by t p)
+            → list_any (same_name q) (units_standing (filter (is_named p) (r ∷ rows))) ≡ list_any (is_held_row t p)
             (map grant_shape.read (filter (is_of q) (r ∷ rows)))
         by true true true e f h more = rw (e, f, h, (sym unit ∙ f), (sym person ∙ e)) refl
         by true true false e f h more = rw (e, f, h, (sym person ∙ e)) more
@@ -118,23 +118,23 @@ module _ (m : Content) (t : ℕ) (p : Name) where
         are.0 q
         ∙ ap (λ rows. list_any (same_name q) (units_standing rows)) (sort-filter by_grant total (is_named p) (s.now.trees 3))
         ∙ any_alike q _ (all-sort by_grant total (IsRowIn grant_shape) (s.now.trees 3) (k.books.tidy Grants).each)
-        ∙ ap (λ rows. list_any (is_held_by t p) (map grant_shape.read rows)) (sym (sort-filter by_grant total (is_of q) (s.now.trees 3)))
-        ∙ ap (list_any (is_held_by t p)) (k.seen q Grants)
+        ∙ ap (λ rows. list_any (is_held_row t p) (map grant_shape.read rows)) (sym (sort-filter by_grant total (is_of q) (s.now.trees 3)))
+        ∙ ap (list_any (is_held_row t p)) (k.seen q Grants)
         ∙ held_there (get m.units q))
       where
-        held_there : (o : Option UnitRows) → list_any (is_held_by t p) (unwrap_or o no_rows).grants ≡ is_held_in t p o
+        held_there : (o : Option UnitRows) → list_any (is_held_row t p) (unwrap_or o no_rows).grants ≡ is_held_in t p o
         held_there None = refl
         held_there (Some rows) = refl
 
 -- ---- a person's grants in one unit
 
 pub own_roles : (t : ℕ) (p : Name) (gs : List GrantRow)
-    → filter (λ g. is_before t g.end_s) (filter (λ g. same_name p g.person) gs) ≡ filter (is_held_by t p) gs
+    → filter (λ g. is_before t g.end_s) (filter (λ g. same_name p g.person) gs) ≡ filter (is_held_row t p) gs
 own_roles t p [] = refl
 own_roles t p (g ∷ gs) =
     elim (same_name p g.person) as (λ b. filter (λ g. is_before t g.end_s) (cond b (g
     ∷ filter (λ g. same_name p g.person) gs) (filter (λ g. same_name p g.person) gs))
-    ≡ cond (if b then is_before t g.end_s else false) (g ∷ filter (is_held_by t p) gs) (filter (is_held_by t p) gs)) [
+    ≡ cond (if b then is_before t g.end_s else false) (g ∷ filter (is_held_row t p) gs) (filter (is_held_row t p) gs)) [
       | true ↦ ap (λ l. cond (is_before t g.end_s) (g ∷ l) l) (own_roles t p gs)
       | false ↦ own_roles t p gs
     ]

@@ -6,7 +6,7 @@ use Rattle.std.proofs.lemmas.{Cmp.{nat_cmp_total, tied_itself}, List.Elements.{f
 use Rattle.sqlite.specs.State.{State}
 use Rattle.sqlite_keyed.proofs.ListLemmas.{all_of, all_weaker, ascending-filter, ascending_weaker, flat_map_none, flat_map_same_on}
 use Rattle.sqlite_trees.specs.Tree.{IsAscending}
-use Rattle.plant_books.specs.{Contents.{Content, is_held_by, is_held_in, mine_as, mine_row, mine_shelves, mine_unit, mine_units, rows_in, shelves_mine}, declared.books.{MineRow.{MineRow}, MineUnit.{MineUnit}}}
+use Rattle.plant_books.specs.{Contents.{Content, is_held_row, is_held_in, mine_as, mine_row, mine_shelves, mine_unit, mine_units, rows_in, shelves_mine}, declared.books.{MineRow.{MineRow}, MineUnit.{MineUnit}}}
 use Rattle.plant_columns.specs.{Tables.{grant_shape, own_key, unit_shape}, declared.tables.TableKind.TheVariants.{Grants, Units}}
 use Rattle.plant_columns.proofs.public.{Bridge.{AreRising}, ShapeLaws.{good}, Shapes.{rising as rows_rise}}
 use Rattle.plant_model.specs.{Grants.{is_before}, declared.rows.{GrantRow.{GrantRow}, ShelfRow.{ShelfRow}, UnitRow.{UnitRow}, UnitRows.{UnitRows}}}
@@ -135,18 +135,18 @@ module _ (t : ℕ) (p : Name) where
         by true = refl
         by false = refl
 
-  any_kept : (gs : List GrantRow) → list_any (is_held_by t p) gs ≡ has_any (filter (is_held_by t p) gs)
+  any_kept : (gs : List GrantRow) → list_any (is_held_row t p) gs ≡ has_any (filter (is_held_row t p) gs)
   any_kept [] = refl
   any_kept (g ∷ gs) =
-      elim (is_held_by t p g) as (λ b. (b || list_any (is_held_by t p) gs)
-      ≡ has_any (cond b (g ∷ filter (is_held_by t p) gs) (filter (is_held_by t p) gs))) [ true ↦ refl | false ↦ any_kept gs ]
+      elim (is_held_row t p g) as (λ b. (b || list_any (is_held_row t p) gs)
+      ≡ has_any (cond b (g ∷ filter (is_held_row t p) gs) (filter (is_held_row t p) gs))) [ true ↦ refl | false ↦ any_kept gs ]
 
   module _ (m : Content) where
     held_lines : {X L : Type 0} (line : Name → GrantRow → X → L) (end_of : L → Option ℕ)
         → ((u : Name) (g : GrantRow) (x : X) → end_of (line u g x) ≡ g.end_s) → (these : UnitRows → List X)
         → filter (λ l. is_before t (end_of l))
         (lines_of line these m p)
-        ≡ flat_map (λ u. flat_map (λ g. map (line u g) (these (rows_in m u))) (filter (is_held_by t p) (rows_in m u).grants)) (keys m.units)
+        ≡ flat_map (λ u. flat_map (λ g. map (line u g) (these (rows_in m u))) (filter (is_held_row t p) (rows_in m u).grants)) (keys m.units)
     held_lines line end_of is these =
         filter-flat_map (λ l. is_before t (end_of l))
         (λ u. flat_map (λ g. map (line u g) (these (rows_in m u))) (filter (λ g. same_name p g.person) (rows_in m u).grants)) (keys m.units)
@@ -157,7 +157,7 @@ module _ (t : ℕ) (p : Name) where
     -- ---- the units
 
     abbrev units_at : Name → List UnitLine
-    units_at u = flat_map (λ g. map (unit_line u g) (rows_in m u).units) (filter (is_held_by t p) (rows_in m u).grants)
+    units_at u = flat_map (λ g. map (unit_line u g) (rows_in m u).units) (filter (is_held_row t p) (rows_in m u).grants)
 
     abbrev units_mine : List Name → List MineUnit
     units_mine us = filter_map (λ u. mine_unit t p u (get m.units u)) us
@@ -181,12 +181,12 @@ module _ (t : ℕ) (p : Name) where
       units_merged (u ∷ us) up = by (get m.units u) refl (units_merged us up.1)
         where
           by : (o : Option UnitRows) → get m.units u ≡ o → runs_of (flat_map units_at us) ≡ units_mine us
-              → runs_of (flat_map (λ g. map (unit_line u g) (unwrap_or o no_rows).units) (filter (is_held_by t p) (unwrap_or o no_rows).grants)
+              → runs_of (flat_map (λ g. map (unit_line u g) (unwrap_or o no_rows).units) (filter (is_held_row t p) (unwrap_or o no_rows).grants)
               ++ flat_map units_at us) ≡ cons_option (mine_unit t p u o) (units_mine us)
           by None e more = more
           by (Some rows) e more =
               let it = one u rows e in
-              let gs = filter (is_held_by t p) rows.grants in
+              let gs = filter (is_held_row t p) rows.grants in
               ap (λ xs. runs_of (flat_map (λ g. map (unit_line u g) xs) gs ++ flat_map units_at us)) it.1
               ∙ run u it.0 gs (flat_map units_at us)
               (subst (AllByRecursion (λ (v : MineUnit). same_name u v.unit ≡ false)) (sym more) (others u us up.0))
@@ -198,7 +198,7 @@ module _ (t : ℕ) (p : Name) where
     -- ---- the shelves
 
     abbrev shelves_at : Name → List ShelfLine
-    shelves_at u = flat_map (λ g. map (shelf_line m u g) (rows_in m u).shelves) (filter (is_held_by t p) (rows_in m u).grants)
+    shelves_at u = flat_map (λ g. map (shelf_line m u g) (rows_in m u).shelves) (filter (is_held_row t p) (rows_in m u).grants)
 
     abbrev shelves_left : List Name → List MineRow
     shelves_left us = flat_map (λ u. shelves_mine t p u (get m.units u)) us
@@ -238,7 +238,7 @@ module _ (t : ℕ) (p : Name) where
     takes u g (x ∷ ss) ls z same s = rw (itself u, same_itself g.role_no) (ap (λ l. mine_row u (rows_in m u) x ∷ l) (takes u g ss ls z same x))
 
     module _ (apart : (u : Name) (rows : UnitRows) → get m.units u ≡ Some rows
-        → IsAscending (λ a b. same_role a.role_no b.role_no ≡ false) (filter (is_held_by t p) rows.grants)) where
+        → IsAscending (λ a b. same_role a.role_no b.role_no ≡ false) (filter (is_held_row t p) rows.grants)) where
       -- the lines of one unit come before others, of which the same is listed whichever line came last
       in_unit : (u : Name) (ls : List ShelfLine) (z : List MineRow) (last : Option ShelfLine) → is_new last u ≡ true
           → map as_mine (listed_after last ls) ≡ z
@@ -263,11 +263,11 @@ module _ (t : ℕ) (p : Name) where
           → get m.units u ≡ o
           → map as_mine
           (listed_after last
-          (flat_map (λ g. map (shelf_line m u g) (unwrap_or o no_rows).shelves) (filter (is_held_by t p) (unwrap_or o no_rows).grants) ++ ls))
+          (flat_map (λ g. map (shelf_line m u g) (unwrap_or o no_rows).shelves) (filter (is_held_row t p) (unwrap_or o no_rows).grants) ++ ls))
           ≡ shelves_mine t p u o ++ z
       with_unit u ls z last new now later None e = now
       with_unit u ls z last new now later (Some rows) e =
-          in_unit u ls z last new now later rows.shelves (filter (is_held_by t p) rows.grants) (apart u rows e)
+          in_unit u ls z last new now later rows.shelves (filter (is_held_row t p) rows.grants) (apart u rows e)
           ∙ ap₂ (λ b (o : Option UnitRows). cond b (map (mine_row u (unwrap_or o no_rows)) rows.shelves) [] ++ z) (sym (any_kept rows.grants)) e
 
       shelves_merged : (us : List Name) → IsStrictlySortedBy name_cmp us → (last : Option ShelfLine) → AllByRecursion (λ u. is_new last u ≡ true) us
@@ -294,7 +294,7 @@ module _ (t : ℕ) (p : Name) where
           ∙ units_merged one_row (keys m.units) names_up
 
       differ : (u : Name) (rows : UnitRows) → get m.units u ≡ Some rows
-          → IsAscending (λ a b. same_role a.role_no b.role_no ≡ false) (filter (is_held_by t p) rows.grants)
+          → IsAscending (λ a b. same_role a.role_no b.role_no ≡ false) (filter (is_held_row t p) rows.grants)
       differ u rows e =
           subst (IsAscending (λ (a b : GrantRow). same_role a.role_no b.role_no ≡ false)) (own_roles t p rows.grants)
           (ascending-filter _ (λ g. is_before t g.end_s) _ (ascending_weaker _ _ (λ a b less. ap is_eq less) _

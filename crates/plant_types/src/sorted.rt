@@ -1,5 +1,5 @@
 ghost use Rattle.std.specs.Prelude.{◌≡◌, ◌↔◌, ◌-◌, ◌≤◌, [], length, is_some, option_copied, slice_get, IsOk, IsTrue, OnOk, OnErr, IfOk, IfErr};
-ghost use Rattle.plant_types.specs.KeyedRows.{IsInOrder, IsPlace, IsPlaceFor, IsPlaceOf, put_row, remove_row, row_at, rows_below, rows_from};
+ghost use Rattle.plant_types.specs.KeyedRows.{IsInOrder, IsPlace, IsPlaceFor, IsPlaceOf, is_row_below, put_row, remove_row, row_at, rows_below, rows_from};
 ghost use Rattle.plant_types.specs.Results.{OnlyMemory};
 
 use crate::{Fault, Keyed, List, TryCopy, copy_all};
@@ -116,24 +116,59 @@ impl<T: Keyed> Sorted<T> {
         }
     }
 
-    /// The row of the key.
-    pub fn get(&self, key: &T::Key) -> Option<&T>
-        ensures { option_copied result ≡ row_at T.order T.key key.now self.now }
+    /// Whether the row at the place has a smaller key than this one.
+    fn is_below(&self, place: usize, key: &T::Key) -> bool
+        ensures { result ≡ is_row_below T.order T.key key.now self.now place }
     {
-        match self.place_of(key) {
-            Some(place) => self.as_slice().get(place),
-            None => None,
+        match self.as_slice().get(place) {
+            Some(row) => row.key_cmp(key).is_lt(),
+            None => false,
         }
     }
 
-    /// The row of the key, looked for at a place first.
-    pub fn get_near(&self, place: usize, key: &T::Key) -> Option<&T>
+    /// Whether the place is that of the key: the row before it has a smaller key, and the row at it has not.
+    fn is_place(&self, place: usize, key: &T::Key) -> bool
+        ensures bound { IsTrue result → place ≤ length self.now }
+        ensures place { IsTrue result → IsPlace T.order T.key key.now self.now place }
+    {
+        let rows = self.as_slice();
+        if place > rows.len() || self.is_below(place, key) {
+            return false;
+        }
+        place == 0 || self.is_below(place - 1, key)
+    }
+
+    /// The row of the key, which stands at the key's place if it is there.
+    fn row_at(&self, place: usize, key: &T::Key) -> Option<&T>
+        requires { IsPlace T.order T.key key.now self.now place }
         ensures { option_copied result ≡ row_at T.order T.key key.now self.now }
     {
         match self.as_slice().get(place) {
             Some(row) if row.key_cmp(key).is_eq() => Some(row),
-            _ => self.get(key),
+            _ => None,
         }
+    }
+
+    /// The row of the key.
+    pub fn get(&self, key: &T::Key) -> Option<&T>
+        ensures { option_copied result ≡ row_at T.order T.key key.now self.now }
+    {
+        self.row_at(self.place(key), key)
+    }
+
+    /// The row of the key, looked for first at the place that is next. Then the place behind it, or that of its key, is
+    /// next. Where the keys that are asked for rise, as the rows do, no row is looked for by halving.
+    pub fn get_next(&self, next: &mut usize, key: &T::Key) -> Option<&T>
+        ensures { option_copied result ≡ row_at T.order T.key key.now self.now }
+    {
+        let place = if self.is_place(*next, key) {
+            *next
+        } else {
+            self.place(key)
+        };
+        let row = self.row_at(place, key);
+        *next = place.saturating_add(usize::from(row.is_some()));
+        row
     }
 
     /// Whether there is a row of the key.

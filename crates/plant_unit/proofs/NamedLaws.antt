@@ -1,12 +1,12 @@
 -- The tags that events name, and states that go on from those in the alarms' rows.
 use Rattle.std.specs.{BTreeSet.{contains}, List.{list_any}}
-use Rattle.std.proofs.Common.{List, ap, append_assoc, false, get_or, length, refl, subst, sym, take, true, ◌++◌, ◌+◌, ◌<◌, ◌∙◌, ◌∷◌, ◌≡◌, [], BTreeSet, Bool, if◌then◌else◌, ℕ, ◌||◌, nat_cmp}
+use Rattle.std.proofs.Common.{List, ap, append_assoc, false, get_or, length, refl, sym, take, true, ◌++◌, ◌+◌, ◌<◌, ◌∙◌, ◌∷◌, ◌≡◌, [], BTreeSet, Bool, if◌then◌else◌, ℕ, ◌||◌}
 use Rattle.std.proofs.lemmas.List.{take_more, Elements.{filter-append}, Folds.{list_any_more}}
 use Rattle.plant_alarm.specs.{States.{summary}, declared.{event.Event.{Event}, summary.Summary.{Summary}}}
 use Rattle.plant_floods.specs.Activations.{of_alarm}
-use Rattle.plant_import.specs.{Needed.{from_last_before, has_late, needed}, Numbers.{event_number, with_events}}
+use Rattle.plant_import.specs.{Needed.{from_last_before, has_late, needed}, Numbers.{with_events}}
 use Rattle.plant_import.proofs.public.{LaterLaws.{fresh_after}, NeededLaws.{needed_late}}
-use Rattle.plant_types.{specs.{KeyedRows.{IsInOrder}, Names.{Name, name_cmp, same_name}}, proofs.public.{KeyedRowLaws.{tied}, Orders.{same_names}}}
+use Rattle.plant_types.{specs.{Names.{Name, name_cmp, same_name}}, proofs.public.{KeyedRowLaws.{tied}, Orders.{same_names}}}
 use Rattle.plant_model.specs.declared.rows.AlarmRow.{AlarmRow}
 use Rattle.plant_unit.specs.{Additions.{AreAdded}, Summaries.{AreNamed, summaries}}
 

@@ -7,8 +7,8 @@ use Rattle.plant_model.specs.steps.LooksAt.{Scope, scope_of, AllAlarms, AllEvent
 use Rattle.plant_model.specs.Refusals.{file_refusals, first_refusal}
 use Rattle.plant_model.specs.steps.RowChanges.{import_changes}
 use Rattle.plant_model.specs.steps.RowFacts.{change_found, change_read, facts_among, facts_in, unit_read}
-use Rattle.plant_model.specs.{Rows.{change_entry}, declared.{call.Request.{Request, TheVariants.{Import}}, reply.{Refused.{Refused}, Reply.{Reply}}}}
-use Rattle.plant_model.specs.declared.{reply.Reply.TheVariants.{Imported}, rows.{ChangeEntry.{ChangeEntry}, Row.TheVariants.{Unit as UnitPut}}}
+use Rattle.plant_model.specs.{Rows.{change_entry}, declared.{call.Request.{Request, TheVariants.{Import}}, reply.{Refused.{Refused}}}}
+use Rattle.plant_model.specs.declared.{rows.{ChangeEntry.{ChangeEntry}, Row.TheVariants.{Unit as UnitPut}}}
 use Rattle.plant_model.specs.declared.rows.{RowEdit.{RowEdit, TheVariants.{Put}}, UnitPart.{UnitPart}}
 use Rattle.plant_alarm.specs.declared.event.Event.{Event}
 use Rattle.plant_import.specs.{Merging.{IsRising, first_fault, fresh}, Needed.{needed}, declared.merging.Merged.{Merged}}

@@ -24,7 +24,7 @@ pub fn is_held(part: &UnitPart, person: &Person, role: Role, now: Moment) -> boo
 pub fn holds_any(part: &UnitPart, person: &Person, now: Moment) -> bool
     ensures { result ≡ holds_some (facts_in part.now) now person.now }
 {
-    holds_some_by(part.rows.grants.as_slice(), person, now)
+    holds_some_by(&part.rows.grants, person, now)
 }
 
 /// How many Steward pairs stand.
@@ -89,13 +89,13 @@ fn returned_at(part: &UnitPart, tag: &Tag) -> Option<Moment>
     part.rows.alarms.get(tag).and_then(|alarm| alarm.return_s)
 }
 
-/// When the alarm of a tag last returned to normal, the alarm being looked for at a place first.
-pub fn returned_near(part: &UnitPart, place: usize, tag: &Tag) -> Option<Moment>
+/// When the alarm of a tag last returned to normal, the alarm being looked for first at the place that is next.
+pub fn returned_next(part: &UnitPart, next: &mut usize, tag: &Tag) -> Option<Moment>
     ensures { result ≡ returned (facts_in part.now) tag.now }
 {
     part.rows
         .alarms
-        .get_near(place, tag)
+        .get_next(next, tag)
         .and_then(|alarm| alarm.return_s)
 }
 

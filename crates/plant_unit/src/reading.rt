@@ -44,11 +44,11 @@ pub fn revision_of(part: &UnitPart, tag: &Tag) -> u32
     record_of(part.rows.records.as_slice(), tag).map_or(0, |row| row.rev)
 }
 
-/// The priority of an alarm, where it has a record.
-pub fn priority_of(part: &UnitPart, tag: &Tag) -> Option<Cell>
+/// The priority of an alarm, where it has a record, which is looked for first at the place that is next.
+pub fn priority_next(part: &UnitPart, next: &mut usize, tag: &Tag) -> Option<Cell>
     ensures { result ≡ (facts_in part.now).priority tag.now }
 {
-    part.rows.records.get(tag).map(|row| row.cell_no)
+    part.rows.records.get_next(next, tag).map(|row| row.cell_no)
 }
 
 /// The sheet of a change, where all its columns are there.

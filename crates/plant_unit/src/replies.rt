@@ -9,9 +9,9 @@ ghost use Rattle.plant_unit.specs.{Additions.{AreCountable, AreKept}, FromFacts.
 ghost use Rattle.plant_unit.specs.Shelving.{is_shelved, line_at};
 ghost use Rattle.plant_model.specs.Replies as replies;
 
-use crate::facts::{returned_near, state_now, state_of};
+use crate::facts::{returned_next, state_now, state_of};
 use crate::flood_list::{flood_lines, is_aligned};
-use crate::reading::{change_of, priority_of, rationale_of};
+use crate::reading::{change_of, priority_next, rationale_of};
 use plant_alarm::ShelfState;
 use plant_model::{
     AlarmLine, AlarmRow, Refused, Reply, ShelfLine, ShelfRow, StandingLine, StatusRow, UnitPart,
@@ -73,29 +73,30 @@ pub fn shelf_line(
     }))
 }
 
-/// The line of a shelf, whose alarm is looked for at a place first; none where the shelf has ended.
+/// The line of a shelf, whose alarm is looked for first at the place that is next; none where the shelf has ended.
 fn line(
     alloc: Global,
     part: &UnitPart,
-    place: usize,
+    next: &mut usize,
     row: &ShelfRow,
     now: Moment,
 ) -> Result<Option<ShelfLine>, Fault>
     ensures value { GivesFrom part.now result (λ f. line_at row.now (returned f row.now.tag) now) }
     ensures err { OnlyMemory result }
 {
-    shelf_line(alloc, row, returned_near(part, place, &row.tag), now)
+    shelf_line(alloc, row, returned_next(part, next, &row.tag), now)
 }
 
-/// The lines of the shelves that hold. A part has the alarms of its shelves in their order, mostly one for each.
+/// The lines of the shelves that hold. A part has the alarms of its shelves, mostly one for each.
 fn lines(alloc: Global, part: &UnitPart, now: Moment) -> Result<List<ShelfLine>, Fault>
     ensures value { GivesFrom part.now result (λ f. shelf_lines f now) }
     ensures err { OnlyMemory result }
 {
     let shelves = part.rows.shelves.as_slice();
     let mut lines = List::new(alloc);
-    for (place, row) in shelves.iter().enumerate() {
-        if let Some(found) = line(alloc, part, place, row, now)? {
+    let mut next = 0;
+    for row in shelves {
+        if let Some(found) = line(alloc, part, &mut next, row, now)? {
             lines.push(found)?;
         }
     }
@@ -119,16 +120,34 @@ pub fn shelves(
     }))
 }
 
-fn is_shelved(part: &UnitPart, alarm: &AlarmRow, now: Moment) -> bool
+/// Where the rows of the alarm that comes next are looked for first.
+#[derive(Drop)]
+struct Next {
+    shelf: usize,
+    record: usize,
+}
+
+impl Next {
+    /// Where those of the first alarm are.
+    fn first() -> Next {
+        Next {
+            shelf: 0,
+            record: 0,
+        }
+    }
+}
+
+fn is_shelved(part: &UnitPart, next: &mut usize, alarm: &AlarmRow, now: Moment) -> bool
     ensures { result ≡ is_shelved (facts_in part.now) alarm.now now }
 {
-    let shelf = part.rows.shelves.get(&alarm.tag);
+    let shelf = part.rows.shelves.get_next(next, &alarm.tag);
     !matches!(state_of(shelf, alarm.return_s, now), ShelfState::Unshelved)
 }
 
 fn alarm_line(
     alloc: Global,
     part: &UnitPart,
+    next: &mut Next,
     alarm: &AlarmRow,
     now: Moment,
 ) -> Result<AlarmLine, Fault>
@@ -138,8 +157,8 @@ fn alarm_line(
     Ok(AlarmLine {
         tag: alarm.tag.copy(alloc)?,
         state: alarm.state_no,
-        priority: priority_of(part, &alarm.tag),
-        shelved: is_shelved(part, alarm, now),
+        priority: priority_next(part, &mut next.record, &alarm.tag),
+        shelved: is_shelved(part, &mut next.shelf, alarm, now),
         by_design: alarm.suppressed,
         out_of_service: alarm.out_s.is_some(),
         limit: alarm.max_s,
@@ -150,6 +169,7 @@ fn alarm_line(
 fn standing_line(
     alloc: Global,
     part: &UnitPart,
+    next: &mut Next,
     alarm: &AlarmRow,
     now: Moment,
 ) -> Result<Option<StandingLine>, Fault>
@@ -159,7 +179,7 @@ fn standing_line(
     let Some(since) = alarm.active_s else {
         return Ok(None);
     };
-    let line = alarm_line(alloc, part, alarm, now)?;
+    let line = alarm_line(alloc, part, next, alarm, now)?;
     Ok(Some(StandingLine {
         tag: line.tag,
         state: line.state,
@@ -177,8 +197,9 @@ fn alarm_lines(alloc: Global, part: &UnitPart, now: Moment) -> Result<List<Alarm
 {
     let alarms = part.rows.alarms.as_slice();
     let mut lines = List::new(alloc);
+    let mut next = Next::first();
     for alarm in alarms {
-        lines.push(alarm_line(alloc, part, alarm, now)?)?;
+        lines.push(alarm_line(alloc, part, &mut next, alarm, now)?)?;
     }
     Ok(lines)
 }
@@ -189,8 +210,9 @@ fn standing_lines(alloc: Global, part: &UnitPart, now: Moment) -> Result<List<St
 {
     let alarms = part.rows.alarms.as_slice();
     let mut lines = List::new(alloc);
+    let mut next = Next::first();
     for alarm in alarms {
-        if let Some(found) = standing_line(alloc, part, alarm, now)? {
+        if let Some(found) = standing_line(alloc, part, &mut next, alarm, now)? {
             lines.push(found)?;
         }
     }

@@ -2,7 +2,7 @@
 use Rattle.std.specs.List.{cons_option, list_any}
 use Rattle.std.proofs.Common.{List, None, Option, Some, [], ap, cond, drop, false, filter_map, flat_map, get_or, length, map, refl, sym, true, ℕ, ◌++◌, ◌+◌, ◌<◌, ◌≤◌, ◌∙◌, ◌∷◌, ◌≡◌}
 use Rattle.std.proofs.lemmas.List.{append_assoc, append-nil, at_drop_all, drop_more}
-use Rattle.plant_books.specs.{Contents.{is_held_by, is_held_in, mine_row, shelves_mine, shelves_there}, declared.books.MineRow.{MineRow}}
+use Rattle.plant_books.specs.{Contents.{is_held_row, is_held_in, mine_row, shelves_mine, shelves_there}, declared.books.MineRow.{MineRow}}
 use Rattle.plant_model.specs.declared.rows.UnitRows.{UnitRows}
 use Rattle.plant_types.specs.{Names.{Name}, Options.{when}}
 
@@ -41,7 +41,7 @@ held_shelves there t p (u ∷ us) = by (there u) refl (held_shelves there t p us
     by : (o : Option UnitRows) → there u ≡ o → seen rest ≡ mine → seen (cons_option (when (is_held_in t p o) u) rest) ≡ shelves_mine t p u o ++ mine
     by None e same = same
     by (Some rows) e same =
-        elim (list_any (is_held_by t p) rows.grants) as (λ b. seen (cons_option (when b u) rest) ≡ cond b (map (mine_row u rows) rows.shelves) []
+        elim (list_any (is_held_row t p) rows.grants) as (λ b. seen (cons_option (when b u) rest) ≡ cond b (map (mine_row u rows) rows.shelves) []
         ++ mine) [
           | true ↦ λ i. shelves_there u (e i) ++ same i
           | false ↦ same

@@ -2,7 +2,7 @@
 use Rattle.std.proofs.Common.{option_to_list, Bool, None, Option, Some, cond, map, option_map, unwrap_or, ◌+◌, Err, List, Ok, Result, [], false, max, true, ℕ, ◌∷◌, ◌≡◌, ap, refl, ◌∙◌, is_none, is_ok}
 use Rattle.std.proofs.lemmas.Bool.{and_parts}
 use Rattle.plant_types.specs.{Names.{name_cmp, same_name, Name}, Options.{or_else, when}, Roles.{Pair, same_pair}, declared.role.Role.{Role}}
-use Rattle.plant_types.proofs.public.{KeyedRowLaws.{put-rows, remove-rows, tied}, Orders.{same_names}}
+use Rattle.plant_types.proofs.public.{KeyedRowLaws.{put-rows, remove-rows}, Orders.{same_names}}
 use Rattle.plant_model.specs.{Alarms.{latching, limit}, Changes.{draft, limit_revision, sheet}, Events.{events_of}, Facts.{facts, limit_of}}
 use Rattle.plant_model.specs.{Histories.{Begins, Over, Said, latest, still, what_stands}, Legality.{IsLegal}}
 use Rattle.plant_model.specs.Rows.{alarm_as, alarm_row, grant_as, grant_row, rows_of, unit_row}
@@ -11,7 +11,7 @@ use Rattle.plant_model.specs.{Service.{Outage, outage, said_of_outage}, Shelves.
 use Rattle.plant_model.specs.{Verdicts.{changes_history, is_opening, verdict}, declared.call.{Call.{Call}, Request.{Request}}}
 use Rattle.plant_model.specs.declared.call.Request.TheVariants.{Approve, Propose, Reject, WithdrawChange, Grant, Import, OneShotShelve, OpenUnit, PlaceInService, Register, RemoveFromService, TimedShelve, Unshelve, Withdraw}
 use Rattle.plant_model.specs.declared.rows.{AlarmRow.{AlarmRow}, Row.TheVariants.{Alarm as AlarmPut, Shelf as ShelfPut, Unit as UnitPut}}
-use Rattle.plant_model.specs.declared.rows.{RowEdit.TheVariants.{Put}, ShelfRow.{ShelfRow}, UnitRows.{UnitRows}}
+use Rattle.plant_model.specs.declared.rows.{RowEdit.TheVariants.{Put}, UnitRows.{UnitRows}}
 use Rattle.plant_model.proofs.DecisionLaws.{approve_limit_turns, approve_matrix_turns, approve_sheet_turns, propose_limit_turns, propose_matrix_turns, propose_sheet_turns, reject_turns, withdraw_change_turns}
 use Rattle.plant_model.proofs.{ProposalLaws.{drafted, limit_there, next_undecided}, public.Accepted.{IsEntry, made, unrefused}}
 use Rattle.plant_model.proofs.public.ChangeLaws.{Turns, now_stands, register_turns, said_anew, with_request}

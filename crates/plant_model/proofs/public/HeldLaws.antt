@@ -2,12 +2,13 @@
 use Rattle.std.specs.{Cmp.{IsTotalOrder, nat_cmp_total, on_total}, FinMap.Entries.{below_all}, List.{cons_option, list_any, slice_get}}
 use Rattle.std.{specs.Ordering.{eq_by_cmp, ordering_then}, proofs.lemmas.Option.{slice_get-map}}
 use Rattle.std.proofs.Common.{ap, refl, subst, sym, ◌∙◌, is_eq, is_lt, nat_cmp, Bool, List, None, Option, Some, T, [], cond, false, filter, filter_map, if◌then◌else◌, is_some, map, option_map, true, unwrap_or, ℕ, ◌||◌, ◌∷◌, ◌≡◌, Ordering, Equal, Greater, Less}
-use Rattle.plant_model.specs.{Grants.{held, holds_any, is_before, roles_held}, Rows.{grant_row, grant_rows}}
-use Rattle.plant_model.specs.steps.RowFacts.{pair_of}
+use Rattle.plant_model.specs.{Grants.{held, holds_any, is_before, roles_held, some_role}, Rows.{grant_row, grant_rows}}
+use Rattle.plant_model.specs.steps.RowFacts.{holds_by, pair_of}
+pub use Rattle.plant_model.specs.steps.RowFacts.{is_held_row}
 use Rattle.plant_model.{specs.declared.{call.Call.{Call}, rows.GrantRow.{GrantRow}}, proofs.public.FactLaws.{held_in, is_some-map}}
 use Rattle.plant_model.proofs.public.{HistoryLaws.{grants_told, pairs_of, when_Some}}
 use Rattle.plant_types.proofs.public.{Halves.{both, first, second}, KeyedRowLaws.{IsInOrder-rows, IsInOrder-told, row_at-told, same_rows}}
-use Rattle.plant_types.{proofs.public.Orders.{same_names, same_roles}, specs.{KeyedRows.{IsInOrder, row_at}, Names.{Name, name_cmp, same_name}}}
+use Rattle.plant_types.{proofs.public.Orders.{same_names, same_roles}, specs.{KeyedRows.{IsInOrder, row_at}, Names.{Name, name_cmp}}}
 use Rattle.plant_types.specs.{Options.{when}, Roles.{Pair, all_roles, pair_cmp, role_no}, declared.role.Role.{Role, TheVariants.{Viewer}}}
 
 abbrev pub role_cmp : Role → Role → Ordering
@@ -18,10 +19,6 @@ role_total = on_total role_no nat_cmp_total
 
 abbrev pub role_in : GrantRow → Role
 role_in g = g.role_no
-
--- the person's grants whose end is not yet there
-abbrev pub is_held_row : ℕ → Name → GrantRow → Bool
-is_held_row t p g = if same_name p g.person then is_before t g.end_s else false
 
 abbrev held_by : ℕ → Option GrantRow → Bool
 held_by t o = unwrap_or (option_map (λ (g : GrantRow). is_before t g.end_s) o) false
@@ -158,13 +155,12 @@ module _ (q : Role → Bool) where
       subst (IsInOrder role_cmp (λ x. x)) (sym (filter-when q all_roles))
       (IsInOrder-told role_cmp (λ x. x) role_total same_roles (λ k. when (q k) k) its_key all_roles tt)
 
--- the roles that the rows show
-pub roles_of_rows : (h : List Call) (t : ℕ) (p : Name) → map role_in (filter (is_held_row t p) (grant_rows h)) ≡ roles_held h t p
-roles_of_rows h t p =
-    let rise = IsInOrder-rows (grant_row h) (pairs_of h) (grants_told h) in
-    same_rows role_cmp (λ x. x) role_total same_roles _ _ (roles_rise t p (grant_rows h) rise) (told_rise (λ r. held h t (p, r)))
-    (λ r. row_at-mapped r _ ∙ held_at t p r (grant_rows h) rise ∙ ap (λ b. cond b (Some r) None) (held_in h t (p, r))
-    ∙ sym (told_at (λ r. held h t (p, r)) r))
+-- the roles that rows in order show, where these are the roles whose pairs they hold
+roles_among : (q : Role → Bool) (t : ℕ) (p : Name) (rows : List GrantRow) → IsInOrder pair_cmp pair_of rows
+    → ((r : Role) → held_by t (row_at pair_cmp pair_of (p, r) rows) ≡ q r) → map role_in (filter (is_held_row t p) rows) ≡ filter q all_roles
+roles_among q t p rows rise is =
+    same_rows role_cmp (λ x. x) role_total same_roles _ _ (roles_rise t p rows rise) (told_rise q)
+    (λ r. row_at-mapped r _ ∙ held_at t p r rows rise ∙ ap (λ b. cond b (Some r) None) (is r) ∙ sym (told_at q r))
 
 any-filter : {A : Type 0} (q : A → Bool) (xs : List A) → list_any q xs ≡ is_some (slice_get (filter q xs) 0)
 any-filter q [] = refl
@@ -173,8 +169,21 @@ any-filter q (x ∷ xs) =
     ≡ is_some (slice_get (cond b (x ∷ filter q xs) (filter q xs)) 0)) [ true ↦ refl | false ↦ any-filter q xs ]
 
 -- and whether they show one
+any_among : (q : Role → Bool) (t : ℕ) (p : Name) (rows : List GrantRow) → IsInOrder pair_cmp pair_of rows
+    → ((r : Role) → held_by t (row_at pair_cmp pair_of (p, r) rows) ≡ q r) → list_any (is_held_row t p) rows ≡ some_role q
+any_among q t p rows rise is =
+    any-filter (is_held_row t p) rows
+    ∙ sym (ap is_some (slice_get-map role_in (filter (is_held_row t p) rows) 0) ∙ is_some-map role_in _)
+    ∙ ap (λ (rs : List Role). is_some (slice_get rs 0)) (roles_among q t p rows rise is) ∙ sym (any-filter q all_roles)
+
+pub holds_of_rows : (t : ℕ) (p : Name) (rows : List GrantRow) → IsInOrder pair_cmp pair_of rows → list_any (is_held_row t p) rows ≡ holds_by rows t p
+holds_of_rows t p rows rise = any_among (λ r. held_by t (row_at pair_cmp pair_of (p, r) rows)) t p rows rise (λ r. refl)
+
+-- the roles that the rows of a history show are held
+pub roles_of_rows : (h : List Call) (t : ℕ) (p : Name) → map role_in (filter (is_held_row t p) (grant_rows h)) ≡ roles_held h t p
+roles_of_rows h t p =
+    roles_among (λ r. held h t (p, r)) t p (grant_rows h) (IsInOrder-rows (grant_row h) (pairs_of h) (grants_told h)) (λ r. held_in h t (p, r))
+
 pub any_of_rows : (h : List Call) (t : ℕ) (p : Name) → list_any (is_held_row t p) (grant_rows h) ≡ holds_any h t p
 any_of_rows h t p =
-    any-filter (is_held_row t p) (grant_rows h)
-    ∙ sym (ap is_some (slice_get-map role_in (filter (is_held_row t p) (grant_rows h)) 0) ∙ is_some-map role_in _)
-    ∙ ap (λ (rs : List Role). is_some (slice_get rs 0)) (roles_of_rows h t p) ∙ sym (any-filter (λ r. held h t (p, r)) all_roles)
+    any_among (λ r. held h t (p, r)) t p (grant_rows h) (IsInOrder-rows (grant_row h) (pairs_of h) (grants_told h)) (λ r. held_in h t (p, r))

@@ -19,7 +19,7 @@ use Rattle.plant_ration.specs.{Grid.{Grid}, Matrix.{is_matrix}, declared.{cell.C
 use Rattle.plant_ration.specs.declared.change.ChangeKind.TheVariants.{Limit, Matrix, Rationale}
 use Rattle.plant_types.{specs.{KeyedRows.{put_row, IsInOrder, in_order, row_at}, Names.{Name}, Options.{or_else, when}}, proofs.public.Halves.{both}}
 use Rattle.plant_types.proofs.public.KeyedRowLaws.{put-rows, IsInOrder-rows, IsInOrder-told, Tells, row_at-rows, row_at-told, same_rows, settled, tied}
-use Rattle.plant_types.proofs.public.{Halves.{first, second}, SortedLaws.{in_order_some}}
+use Rattle.plant_types.proofs.public.{SortedLaws.{in_order_some}}
 
 -- The rows of a table whose keys pass a test
 module _ {K X : Type 0} (R : K → K → Ordering) (key : X → K) where

@@ -1,7 +1,7 @@
 -- What is found in a list, and tests of numbers.
 use Rattle.std.specs.Cmp.{nat_cmp_is}
 use Rattle.std.proofs.lemmas.{List.{Folds.{find_at}, Sums.{passes_at_first}}, Option.{get_or_from_slice_get, slice_get_within}}
-use Rattle.std.proofs.Common.{ap, sym, ◌∙◌, is_eq, is_lt, List, Option, Some, true, ℕ, ◌<◌, ◌≡◌, Equal, Less, nat_cmp, find, Bool}
+use Rattle.std.proofs.Common.{ap, sym, ◌∙◌, is_eq, is_lt, List, Some, true, ℕ, ◌<◌, ◌≡◌, Equal, Less, nat_cmp, find, Bool}
 use Rattle.plant_model.specs.Histories.{same_number}
 pub use Rattle.plant_types.proofs.public.SortedLaws.{After, Ordered, Parts, after_more, back, get_none, get_some, greater, later, less, lesser, none_after, ordered, parted, turned}
 

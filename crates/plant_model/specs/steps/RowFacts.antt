@@ -1,8 +1,8 @@
 -- The facts that a verdict looks at, read from rows.
 use Rattle.std.specs.{List.{range_with_len, list_any, slice_get}, Ordering.{nat_cmp}}
-use Rattle.std.specs.Prelude.{Bool, List, Option, [], filter, filter_map, map, option_and_then, true, ◌&&◌, ◌∷◌, count_by, false, length, option_map, unwrap_or, ℕ, ◌-◌}
+use Rattle.std.specs.Prelude.{if◌then◌else◌, Bool, List, Option, [], filter, filter_map, map, option_and_then, true, ◌&&◌, ◌∷◌, count_by, false, length, option_map, unwrap_or, ℕ, ◌-◌}
 use Rattle.plant_alarm.specs.declared.event.Event.{Event}
-use Rattle.plant_model.specs.{Facts.{Facts, is_steward_row}, Grants.{is_before}, Histories.{same_number}, Matrices.{BandKey, CellKey}}
+use Rattle.plant_model.specs.{Facts.{Facts, is_steward_row}, Grants.{is_before, some_role}, Histories.{same_number}, Matrices.{BandKey, CellKey}}
 use Rattle.plant_model.specs.declared.{reply.{ChangeRow.{ChangeRow}, RecordRow.{RecordRow}}, rows.{AlarmRow.{AlarmRow}, BandRow.{BandRow}}}
 use Rattle.plant_model.specs.declared.rows.{CellRow.{CellRow}, ChangeEntry.{ChangeEntry}, ChangeTopic.{ChangeTopic}}
 use Rattle.plant_model.specs.declared.rows.ChangeTopic.TheVariants.{Limit as LimitTopic, Matrix as MatrixTopic, Record as RecordTopic}
@@ -10,7 +10,7 @@ use Rattle.plant_model.specs.declared.rows.{GrantRow.{GrantRow}, RecordEntry.{Re
 use Rattle.plant_model.specs.declared.rows.{UnitRow.{UnitRow}, UnitRows.{UnitRows}}
 use Rattle.plant_ration.specs.{Grid.{Grid}, declared.{cell.Cell.{Cell}, change.ChangeKind.{ChangeKind, TheVariants.{Limit, Matrix, Rationale}}}}
 use Rattle.plant_ration.specs.declared.change.Sheet.{Sheet}
-use Rattle.plant_types.specs.{KeyedRows.{row_at}, Names.{Name, name_cmp}, Roles.{Pair, all_roles, pair_cmp, same_pair}}
+use Rattle.plant_types.specs.{KeyedRows.{row_at}, Names.{Name, name_cmp, same_name}, Roles.{Pair, pair_cmp, same_pair}}
 pub use Rattle.plant_import.specs.Numbers.{event_number}
 
 -- the keys of rows
@@ -123,7 +123,11 @@ abbrev pub held_by : List GrantRow → ℕ → Pair → Bool
 held_by grants t k = unwrap_or (option_map (λ g. is_before t g.end_s) (row_at pair_cmp pair_of k grants)) false
 
 abbrev pub holds_by : List GrantRow → ℕ → Name → Bool
-holds_by grants t p = list_any (λ r. held_by grants t (p, r)) all_roles
+holds_by grants t p = some_role (λ r. held_by grants t (p, r))
+
+-- a grant of the person whose end is not yet there
+abbrev pub is_held_row : ℕ → Name → GrantRow → Bool
+is_held_row t p g = if same_name p g.person then is_before t g.end_s else false
 
 -- the facts, with the numbers of alarms and of changes beside the rows
 abbrev pub facts_from : UnitRows → ℕ → ℕ → Facts

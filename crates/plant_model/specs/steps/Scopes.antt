@@ -1,14 +1,14 @@
 -- What a request looks at in a unit, as the code says it, and the rows that it takes in.
-use Rattle.std.specs.Prelude.{Bool, None, Option, Some, false, option_copied, true, ℕ, ◌≡◌}
+use Rattle.std.specs.Prelude.{Bool, Option, Some, false, option_copied, true, ℕ, ◌≡◌}
 use Rattle.plant_import.specs.Needed.{needed}
-use Rattle.plant_model.specs.{Histories.{Begins, Over, Said}, Kinds.{NewShelf, says}}
+use Rattle.plant_model.specs.{Histories.{begins}, Kinds.{says}}
 use Rattle.plant_model.specs.steps.LooksAt.{Scope as Looked, scope_of}
 use Rattle.plant_model.specs.steps.Parts.{Selection, all_events, every, has_shelf, is_crowded, is_source, nothing, of_approved, of_content, change_by_number, of_records, of_shelving, of_tag, of_topic, selected}
 use Rattle.plant_model.specs.declared.{call.Request.{Request}, kinds.Scope.{Scope}}
 use Rattle.plant_model.specs.steps.RowFacts.{change_found}
 use Rattle.plant_model.specs.declared.kinds.Scope.TheVariants.{AllAlarms, AllEvents, AllGrants, AllRecords, AllShelves, Approval, Content, File, NothingElse, OneAlarm, OneChange, OneRecord, Shelving}
 use Rattle.plant_model.specs.declared.rows.{ChangeEntry.{ChangeEntry}, UnitRows.{UnitRows}}
-use Rattle.plant_types.specs.Names.{Name, same_name}
+use Rattle.plant_types.specs.Names.{same_name}
 use Rattle.plant_model.specs.steps.LooksAt as looked
 pub use Rattle.plant_model.specs.Changes.{number_approved}
 
@@ -41,14 +41,9 @@ of_entry c rows = of_topic rows c.tag c.kind_no
 abbrev pub Selects : Scope → (UnitRows → Selection) → Type 0
 Selects scope these = (rows : UnitRows) → selection_by rows scope ≡ these rows
 
-abbrev pub begins_shelf : Option (Name × Said NewShelf) → Bool
-begins_shelf None = false
-begins_shelf (Some (a, Begins x)) = true
-begins_shelf (Some (a, Over)) = false
-
 -- a request that shelves an alarm
 abbrev pub is_shelving : Request → Bool
-is_shelving q = begins_shelf (says q).shelf
+is_shelving q = begins (λ a. true) (says q).shelf
 
 -- in a unit of these rows: whether it is crowded, for a shelving, and the change that is approved, for an approval
 pub record IsSeenIn (rows : UnitRows) (q : Request) (crowded : Bool) (approved : Option ChangeEntry) : Type 0 where

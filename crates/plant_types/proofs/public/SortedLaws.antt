@@ -1,9 +1,9 @@
 -- Rows in the order of their keys: the one of a key among them, some of them, and the two parts at a key.
 use Rattle.std.specs.{Cmp.{IsTotalOrder, tied_itself}, FinMap.Entries.{below_all}, List.{IsAllAdjacentAnswer, Sorted.{IsPartitionedBy}, list_any, remove}, Slice.{IsGetResult}}
 use Rattle.std.{specs.{Option.{is_some}, Ordering.{ordering_reverse, eq_by_cmp}}, proofs.lemmas.{Bool.{ltb-false, ltb-true}}}
-use Rattle.std.proofs.Common.{◌||◌, drop, take, filter, option_to_list, ap, arith, subst, Bor, option_copied, Result, Ok, Err, OnOk, OnErr, IsTrue, ◌↔◌, get_or, refl, sym, ◌∙◌, is_eq, is_lt, List, None, Option, Some, T, [], cond, false, length, map, nat_lt, option_and_then, slice_get, suc, true, unwrap_or, zero, ℕ, ◌<◌, ◌∷◌, ◌≡◌, ◌≤◌, Ordering, Equal, Greater, Less, true≢false, Bool, not, ◌+◌}
+use Rattle.std.proofs.Common.{◌⊎◌, inl, inr, ◌-◌, ◌||◌, drop, take, filter, option_to_list, ap, arith, subst, Bor, option_copied, Result, Ok, Err, OnOk, OnErr, IsTrue, ◌↔◌, get_or, refl, sym, ◌∙◌, is_eq, is_lt, List, None, Option, Some, T, [], cond, false, length, map, nat_lt, option_and_then, option_map, slice_get, suc, true, unwrap_or, zero, ℕ, ◌<◌, ◌∷◌, ◌≡◌, ◌≤◌, Ordering, Equal, Greater, Less, true≢false, Bool, not, ◌+◌}
 use Rattle.std.proofs.lemmas.{Option.{get_or_from_slice_get, slice_get-get_or, slice_get_past, slice_get_within}}
-use Rattle.plant_types.{specs.{KeyedRows.{IsInOrder, IsPlace, remove_row, row_at, rows_below, rows_from}, Options.{when}}, proofs.public.{KeyedRowLaws.{tied}}}
+use Rattle.plant_types.{specs.{KeyedRows.{IsInOrder, IsPlace, is_row_below, remove_row, row_at, rows_below, rows_from}, Options.{when}}, proofs.public.{KeyedRowLaws.{tied}}}
 use Rattle.std.proofs.lemmas.List.{take_all}
 use Rattle.plant_types.proofs.public.Halves.{both, first, second}
 
@@ -122,6 +122,29 @@ module _ {K X : Type 0} (R : K → K → Ordering) (key : X → K) where
             ap is_lt (total.trans (key x) (key (get_or xs j d)) t (after_at (key x) xs h.0 j d (omega arith)) (lesser (R (key (get_or xs j d)) t) e))
         by (x ∷ xs) h (suc i) zero d le lt e = absurd (omega arith)
         by (x ∷ xs) h (suc i) (suc j) d le lt e = by xs h.1 i j d (omega arith) (omega arith) e
+
+    -- a place is that of a key if the row before it is below the key, and the row at it is not
+    below_at : (rows : List X) (t : K) (p : ℕ) (d : X) → p < length rows → is_row_below R key t rows p ≡ is_lt (R (key (get_or rows p d)) t)
+    below_at rows t p d within =
+        ap (λ o. unwrap_or (option_map (λ r. is_lt (R (key r) t)) o) false) (slice_get-get_or rows p d within)
+
+    pub place_is : (rows : List X) (t : K) (p : ℕ) → IsInOrder R key rows → p ≤ length rows → is_row_below R key t rows p ≡ false
+        → (p ≡ 0) ⊎ (is_row_below R key t rows (p - 1) ≡ true) → IsPlace R key t rows p
+    place_is rows t p order within at before = (λ k d low high. smaller k d high before, λ k d low high. other k d low high)
+      where
+        smaller : (k : ℕ) (d : X) → k < p → (p ≡ 0) ⊎ (is_row_below R key t rows (p - 1) ≡ true) → is_lt (R (key (get_or rows k d)) t) ≡ true
+        smaller k d high (inl none) = absurd (omega (arith, high, none))
+        smaller k d high (inr below) =
+            parted rows t order k (p - 1) d (omega (arith, high)) (omega (arith, high, within))
+            (sym (below_at rows t (p - 1) d (omega (arith, high, within))) ∙ below)
+
+        other : (k : ℕ) (d : X) → p ≤ k → k < length rows → is_lt (R (key (get_or rows k d)) t) ≡ false
+        other k d low high = by (is_lt (R (key (get_or rows k d)) t)) refl
+          where
+            by : (b : Bool) → is_lt (R (key (get_or rows k d)) t) ≡ b → is_lt (R (key (get_or rows k d)) t) ≡ false
+            by false e = e
+            by true e =
+                absurd (true≢false (sym (parted rows t order p k d low high e) ∙ sym (below_at rows t p d (omega (arith, low, high))) ∙ at))
 
     row_found : (rows : List X) (t : K) (p : ℕ) → Ordered rows → Parts t rows p → at_place t (slice_get rows p) ≡ row_at R key t rows
     row_found [] t p order h = refl

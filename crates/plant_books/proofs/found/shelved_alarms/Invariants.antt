@@ -1,6 +1,6 @@
-use Rattle.std.proofs.Common.{take, ◌≡◌}
+use Rattle.std.proofs.Common.{drop, ◌++◌, ◌≡◌}
 use Rattle.plant_books.specs.Found.{shelved}
 use Rattle.plant_books.proofs.found.shelved_alarms.Given as goal
 
-abbrev pub invariant-loop-alarm : goal.invariant-loop-alarm
-invariant-loop-alarm l = l.found ≡ shelved l.fn.shelves (take l.alarm-index l.alarm-items)
+abbrev pub invariant-loop-shelf : goal.invariant-loop-shelf
+invariant-loop-shelf l = l.found ++ shelved (drop l.shelf-index l.shelf-items) l.fn.alarms ≡ shelved l.shelf-items l.fn.alarms

@@ -51,7 +51,7 @@ returns-clause-rows g c honest books rise =
     let keys = sym (append-nil so.0) ∙ ap (λ l. so.0 ++ l) (sym c.in-None.ensures.steps.0) ∙ so.1
     ∙ c.into_iter-number-iterator.ensures.into_iter_gives.0 in
     if_ok c.in_order.result (λ sorted h. h ∙ c.from_vec.ensures ∙ so.2 honest books rise ∙ ap (λ ks. those_among g.T.Numbered.number ks all) keys)
-    c.in_order.ensures
+    c.in_order.ensures.value
 
 pub returns-in_err-append-clause-reads : goal.returns-in_err-append-clause-reads
 returns-in_err-append-clause-reads g c = reads_then c.loop-number.invariant.reads c.rows_of_number.ensures.reads

@@ -1,4 +1,4 @@
-use Rattle.std.proofs.Common.{List, ap, rules, slice_get, sym, ◌∙◌, ◌≡◌}
+use Rattle.std.proofs.Common.{List, ap, rules, slice_get, ◌∙◌, ◌≡◌}
 use Rattle.plant_model.{specs.declared.rows.AlarmRow.{AlarmRow}, proofs.public.RowsFound.{get_none, get_some}}
 use Rattle.plant_unit.proofs.AlarmLists.{added_other, added_own}
 use Rattle.plant_unit.proofs.alarms.add_event.Goals as goal

@@ -5,6 +5,6 @@ use Rattle.plant_model.specs.steps.RowFacts.{facts_in}
 use Rattle.plant_unit.specs.Additions.{AreKept}
 use Rattle.plant_unit.proofs.replies.lines.Given as goal
 
-abbrev pub invariant-loop-place : goal.invariant-loop-place
-invariant-loop-place l = AreKept l.part
-    → l.lines ≡ filter_map (λ s. line_of s (shelf_state (shelf_left (Some s)) (returned (facts_in l.part) s.tag) l.now)) (take l.place l.shelves)
+abbrev pub invariant-loop-row : goal.invariant-loop-row
+invariant-loop-row l = AreKept l.part
+    → l.lines ≡ filter_map (λ s. line_of s (shelf_state (shelf_left (Some s)) (returned (facts_in l.part) s.tag) l.now)) (take l.row-index l.shelves)
