@@ -16,8 +16,8 @@ use crate::scope_numbers::{change_numbers, matrix_numbers};
 use plant_alarm::Event;
 use plant_import::needed;
 use plant_model::{
-    AlarmRow, BandRow, Call, CellRow, ChangeEntry, Counted, GrantRow, RecordEntry, Request, Scope,
-    ShelfRow, UnitPart, UnitRow, UnitRows, holds_some_by, is_shelving, number_approved, scope_of,
+    AlarmRow, BandRow, Call, CellRow, ChangeEntry, Counted, GrantRow, Request, Scope, ShelfRow,
+    UnitPart, UnitRow, UnitRows, holds_some_by, is_shelving, number_approved, scope_of,
 };
 use plant_types::{Fault, List, Person, Sorted, TryCopy, copy_all};
 use std::alloc::Global;
@@ -27,17 +27,13 @@ pub fn rows_but_history(alloc: Global, rows: &UnitRows) -> Result<UnitRows, Faul
     ensures value { IfOk result (λ copy. copy ≡ without_history rows.now) }
     ensures memory { OnlyMemory result }
 {
-    Ok(UnitRows {
-        units: rows.units.copy(alloc)?,
-        grants: rows.grants.copy(alloc)?,
-        alarms: rows.alarms.copy(alloc)?,
-        shelves: rows.shelves.copy(alloc)?,
-        records: rows.records.copy(alloc)?,
-        events: Sorted::new(alloc),
-        bands: Sorted::new(alloc),
-        cells: Sorted::new(alloc),
-        changes: Sorted::new(alloc),
-    })
+    let mut copy = UnitRows::none(alloc);
+    copy.units = rows.units.copy(alloc)?;
+    copy.grants = rows.grants.copy(alloc)?;
+    copy.alarms = rows.alarms.copy(alloc)?;
+    copy.shelves = rows.shelves.copy(alloc)?;
+    copy.records = rows.records.copy(alloc)?;
+    Ok(copy)
 }
 
 /// The grants that the call looks at: those of its caller, or of all persons.
@@ -119,45 +115,6 @@ fn changes_asked(
     rows_of_numbers(alloc, &rows.changes, &numbers)
 }
 
-/// The unit's own row, and the grants and alarms that the scope takes in.
-fn grants_and_alarms_asked(
-    alloc: Global,
-    rows: &UnitRows,
-    person: &Person,
-    scope: Scope<'_>,
-) -> Result<(List<UnitRow>, Sorted<GrantRow>, Sorted<AlarmRow>), Fault>
-    ensures value { IfOk result (λ asked.
-        (asked.0 ≡ (rows_by person.now rows.now scope.entry).units)
-        × (asked.1 ≡ (rows_by person.now rows.now scope.entry).grants)
-        × (asked.2 ≡ (rows_by person.now rows.now scope.entry).alarms)) }
-    ensures memory { OnlyMemory result }
-{
-    Ok((
-        rows.units.copy(alloc)?,
-        grants_asked(alloc, rows, person, scope)?,
-        alarms_asked(alloc, &rows.alarms, &rows.shelves, wanted_alarms(scope))?,
-    ))
-}
-
-/// The shelves, events and records that the scope takes in.
-fn shelves_events_and_records_asked(
-    alloc: Global,
-    rows: &UnitRows,
-    scope: Scope<'_>,
-) -> Result<(Sorted<ShelfRow>, Sorted<Event>, Sorted<RecordEntry>), Fault>
-    ensures value { (p : Name) → IfOk result (λ asked.
-        (asked.0 ≡ (rows_by p rows.now scope.entry).shelves)
-        × (asked.1 ≡ (rows_by p rows.now scope.entry).events)
-        × (asked.2 ≡ (rows_by p rows.now scope.entry).records)) }
-    ensures memory { OnlyMemory result }
-{
-    Ok((
-        rows_wanted(alloc, &rows.shelves, &wanted_shelves(scope))?,
-        events_asked(alloc, &rows.events, wanted_events(scope))?,
-        rows_wanted(alloc, &rows.records, &wanted_records(scope))?,
-    ))
-}
-
 /// The limits and cells of the matrices that the scope takes in.
 fn matrices_asked(
     alloc: Global,
@@ -176,8 +133,7 @@ fn matrices_asked(
     ))
 }
 
-/// The rows that the scope takes in, copied a few lists at a time: a function that holds nine where a copy can fail is
-/// proved once for each of them at each failure.
+/// The rows that the scope takes in.
 fn rows_asked(
     alloc: Global,
     rows: &UnitRows,
@@ -187,21 +143,16 @@ fn rows_asked(
     ensures value { Gives result (rows_by person.now rows.now scope.entry) }
     ensures memory { OnlyMemory result }
 {
-    let (units, grants, alarms) = grants_and_alarms_asked(alloc, rows, person, scope)?;
-    let (shelves, events, records) = shelves_events_and_records_asked(alloc, rows, scope)?;
-    let (bands, cells) = matrices_asked(alloc, rows, scope)?;
-    let changes = changes_asked(alloc, rows, scope)?;
-    Ok(UnitRows {
-        units,
-        grants,
-        alarms,
-        shelves,
-        events,
-        bands,
-        cells,
-        records,
-        changes,
-    })
+    let mut asked = UnitRows::none(alloc);
+    asked.units = rows.units.copy(alloc)?;
+    asked.grants = grants_asked(alloc, rows, person, scope)?;
+    asked.alarms = alarms_asked(alloc, &rows.alarms, &rows.shelves, wanted_alarms(scope))?;
+    asked.shelves = rows_wanted(alloc, &rows.shelves, &wanted_shelves(scope))?;
+    asked.events = events_asked(alloc, &rows.events, wanted_events(scope))?;
+    asked.records = rows_wanted(alloc, &rows.records, &wanted_records(scope))?;
+    (asked.bands, asked.cells) = matrices_asked(alloc, rows, scope)?;
+    asked.changes = changes_asked(alloc, rows, scope)?;
+    Ok(asked)
 }
 
 /// Whether the request shelves in a crowded unit.

@@ -1,7 +1,7 @@
 -- How a row relates to events in rising number: what the code finds from the nearest of them.
-use Rattle.std.specs.{BTreeSet.{BTreeSet, contains}, Borrow.{Bor}, List.{list_any}}
+use Rattle.std.specs.{Borrow.{Bor}, List.{list_any}}
 use Rattle.std.specs.Prelude.{ℕ, ◌≡◌, ◌-◌, Bool, true, false, List, ◌++◌, Option, Some, None, Result, Ok, Err, filter, length, nat_lt, not, slice_get, option_copied}
-use Rattle.plant_types.specs.Names.{Name, name_cmp, same_name}
+use Rattle.plant_types.specs.Names.{Name}
 use Rattle.plant_alarm.specs.declared.event.Event.{Event}
 use Rattle.plant_import.specs.{Merging.{clashes, is_new, merge_fault, out_of_order, same_event}, declared.bad_file.Cause.{Cause}}
 use Rattle.plant_import.specs.declared.{bad_file.Cause.TheVariants.{SequenceClash, MomentOutOfOrder}, relation.Nearest.{Nearest}}
@@ -36,10 +36,6 @@ IsLast es e = option_copied e ≡ slice_get es (length es - 1)
 -- the last of the events below the number, and the first of the others
 abbrev pub AreNearest : List Event → ℕ → Nearest → Type 0
 AreNearest es n nearest = IsLast (below n es) nearest.below × IsFirst (from n es) nearest.from
-
--- the set has these tags
-abbrev pub AreKnown : BTreeSet Name → List Name → Type 0
-AreKnown known tags = (a : Name) → contains name_cmp known a ≡ list_any (same_name a) tags
 
 -- the row's fault, or whether it is new
 abbrev pub JudgesRow : List Name → ℕ → List Event → List Event → Event → Result Bool Cause → Type 0

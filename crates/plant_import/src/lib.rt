@@ -12,7 +12,7 @@ mod records;
 mod relation;
 
 pub use bad_file::{BadFile, Cause};
-pub use event_numbers::{count_new, events_after, in_rising_number, put_events, rise};
+pub use event_numbers::{count_new, events_after, in_rising_number, put_events};
 pub use merging::{Merged, merge};
-pub use needs::{has_late, needed};
+pub use needs::needed;
 pub use reading::{FileRead, read_file};

@@ -1,8 +1,8 @@
-ghost use Rattle.std.specs.{BTreeMap.{BTreeMap as TheMap}, List.{list_all}};
-ghost use Rattle.std.specs.Prelude.{◌≡◌, ◌+◌, ◌++◌, ◌∷◌, [], IfOk, IsTrue, List, MatchOption, None, OnOk, Some, length, nat_lt, ℕ};
+ghost use Rattle.std.specs.{BTreeMap.{BTreeMap as TheMap}, List.{list_all, list_any}};
+ghost use Rattle.std.specs.Prelude.{◌≡◌, ◌+◌, ◌++◌, ◌∷◌, [], IfOk, IsTrue, List, MatchOption, None, OnOk, Some, length, map, nat_lt, ℕ};
 ghost use Rattle.plant_alarm.specs.declared.event.Event.{Event as TheEvent};
-ghost use Rattle.plant_types.specs.{Names.{Name}, Results.{OnlyMemory}};
-ghost use Rattle.plant_import.specs.{Merging.{IsRising}, Numbers.{AreByNumber, AreNumbered, with_event}, Relation.{AreKnown, AreNearest, JudgesRow}};
+ghost use Rattle.plant_types.specs.{Names.{Name, same_name}, Results.{OnlyMemory}};
+ghost use Rattle.plant_import.specs.{Merging.{IsRising}, Numbers.{AreByNumber, AreNumbered, with_event}, Relation.{AreNearest, JudgesRow}};
 ghost use Rattle.plant_import.specs.Merging as merging;
 ghost use Rattle.plant_import.specs.Relation as relation;
 
@@ -10,9 +10,9 @@ use crate::event_numbers::{put, rise};
 use crate::relation::{Nearest, Relation, nearest_among, nearest_by_number, relation_of};
 use crate::{BadFile, Cause};
 use plant_alarm::{Event, Number};
-use plant_types::{Fault, List, Moment, Sorted, Tag};
+use plant_types::{Fault, Keyed, List, Moment, Sorted, Tag};
 use std::alloc::Global;
-use std::collections::{BTreeMap, BTreeSet};
+use std::collections::BTreeMap;
 
 /// What a file adds to the events of a unit.
 #[derive(Drop)]
@@ -23,28 +23,29 @@ pub struct Merged {
     pub repeated: u64,
 }
 
-/// What a file adds to the kept events, whose moments don't fall, or its first faulty row with the first cause of that
-/// row.
-pub fn merge(
+/// What a file adds to the kept events of alarms, whose moments don't fall, or its first faulty row with the first cause
+/// of that row.
+pub fn merge<T: Keyed<Key = Tag>>(
     alloc: Global,
     kept: &Sorted<Event>,
     file: &[Event],
-    tags: &[Tag],
+    alarms: &Sorted<T>,
     now: Moment,
 ) -> Result<Result<Merged, BadFile>, Fault>
-    ensures value { IsRising kept.now
-        → IfOk result (λ merged. merged ≡ merging.merge kept.now file.now tags.now now) }
+    ensures value { IsRising kept.now → IfOk result
+        (λ merged. merged ≡ merging.merge kept.now file.now (map T.key alarms.now) now) }
     ensures counted { IfOk result
         (λ merged. IfOk merged (λ m. m.repeated + length m.fresh ≡ length file.now)) }
     ensures err { OnlyMemory result }
 {
-    let known = known_tags(alloc, tags)?;
     let mut fresh = List::new(alloc);
     let mut rising = tree_for(alloc, file);
     let mut repeated = 0;
+    let mut next = 0;
     for (i, event) in file.iter().enumerate() {
         let nearest = nearest_new(fresh.as_slice(), &rising, event.seq);
-        let is_new = match judged(kept, nearest, event, &known, now) {
+        let is_known = alarms.get_next(&mut next, &event.tag).is_some();
+        let is_new = match judged(kept, nearest, event, is_known, now) {
             Ok(is_new) => is_new,
             Err(cause) => {
                 return Ok(Err(BadFile {
@@ -60,18 +61,6 @@ pub fn merge(
         }
     }
     Ok(Ok(Merged { fresh, repeated }))
-}
-
-/// The set of the tags.
-fn known_tags(alloc: Global, tags: &[Tag]) -> Result<BTreeSet<Tag>, Fault>
-    ensures value { IfOk result (λ known. AreKnown known tags.now) }
-    ensures err { OnlyMemory result }
-{
-    let mut known = BTreeSet::new(alloc);
-    for tag in tags {
-        known.insert(tag.copy(alloc)?)?;
-    }
-    Ok(known)
 }
 
 /// An empty tree for the new rows of a file, or none where the file's numbers rise.
@@ -127,20 +116,20 @@ fn add(
 }
 
 /// Whether a row is new beside the kept events and the earlier rows that were new, of which these are the nearest,
-/// or its first fault.
+/// or its first fault. Its alarm is known or not.
 #[tactic(auto, unfolding(crate::specs::Merging::merge_fault))]
 fn judged(
     kept: &Sorted<Event>,
     nearest: Nearest<'_>,
     event: &Event,
-    known: &BTreeSet<Tag>,
+    is_known: bool,
     now: Moment,
 ) -> Result<bool, Cause>
-    ensures { (tags : List Name) → AreKnown known.now tags → IsRising kept.now
+    ensures { (tags : List Name) → is_known ≡ list_any (same_name event.now.tag) tags → IsRising kept.now
         → (seen : List TheEvent) → IsRising seen → AreNearest seen event.now.seq nearest.entry
         → JudgesRow tags now kept.now seen event.now result }
 {
-    if !known.contains(&event.tag) {
+    if !is_known {
         return Err(Cause::TagUnknown);
     }
     if now < event.moment {

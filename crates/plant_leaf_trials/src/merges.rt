@@ -22,10 +22,10 @@ fn events(rt: &impl Abort, alloc: Global, rows: &[Row]) -> Vec<Event> {
 }
 
 /// LT-2 and PT-101.
-fn two_tags(rt: &impl Abort, alloc: Global) -> Vec<Tag> {
-    let mut tags = Vec::new(alloc);
-    tags.push(tag(rt, alloc, b"LT-2")).expect(rt, "memory");
-    tags.push(tag(rt, alloc, b"PT-101")).expect(rt, "memory");
+fn two_tags(rt: &impl Abort, alloc: Global) -> Sorted<Tag> {
+    let mut tags = Sorted::new(alloc);
+    tags.put(tag(rt, alloc, b"LT-2")).expect(rt, "memory");
+    tags.put(tag(rt, alloc, b"PT-101")).expect(rt, "memory");
     tags
 }
 
@@ -47,13 +47,14 @@ fn adds_new_rows_in_the_order_of_the_file(rt: HostRuntime) {
     assert!(rt; merged.fresh.as_slice() == file.as_slice());
 }
 
-/// Two thousand tags; the last is PT-101.
-fn many_tags(rt: &impl Abort, alloc: Global) -> Vec<Tag> {
-    let mut tags = Vec::new(alloc);
-    for _ in 0..1999 {
-        tags.push(tag(rt, alloc, b"PT-102")).expect(rt, "memory");
+/// Two thousand tags, PT-101 among them.
+fn many_tags(rt: &impl Abort, alloc: Global) -> Sorted<Tag> {
+    let mut tags = two_tags(rt, alloc);
+    for number in 1000..2998 {
+        let name = format!(in alloc; "FT-{number}").expect(rt, "memory");
+        let tag = tag(rt, alloc, name.as_bytes());
+        tags.put(tag).expect(rt, "memory");
     }
-    tags.push(tag(rt, alloc, b"PT-101")).expect(rt, "memory");
     tags
 }
 

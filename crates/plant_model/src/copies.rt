@@ -45,25 +45,17 @@ fn copy_three<A: TryCopy, B: TryCopy, C: TryCopy>(
 
 impl TryCopy for UnitRows {
     fn copy(&self, alloc: Global) -> Result<UnitRows, Fault> {
-        let (units, grants, alarms) = copy_three(alloc, &self.units, &self.grants, &self.alarms)?;
-        let (shelves, events, bands) = copy_three(alloc, &self.shelves, &self.events, &self.bands)?;
-        let (cells, records, changes) = copy_three(
-            alloc,
-            &self.cells,
-            &self.records,
-            &self.changes,
-        )?;
-        Ok(UnitRows {
-            units,
-            grants,
-            alarms,
-            shelves,
-            events,
-            bands,
-            cells,
-            records,
-            changes,
-        })
+        let mut rows = UnitRows::none(alloc);
+        rows.units = self.units.copy(alloc)?;
+        rows.grants = self.grants.copy(alloc)?;
+        rows.alarms = self.alarms.copy(alloc)?;
+        rows.shelves = self.shelves.copy(alloc)?;
+        rows.events = self.events.copy(alloc)?;
+        rows.bands = self.bands.copy(alloc)?;
+        rows.cells = self.cells.copy(alloc)?;
+        rows.records = self.records.copy(alloc)?;
+        rows.changes = self.changes.copy(alloc)?;
+        Ok(rows)
     }
 }
 

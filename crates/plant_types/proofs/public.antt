@@ -6,4 +6,4 @@ pub mod Halves
 pub mod DateTests
 pub mod Days
 pub mod Round
-pub mod NameSets
+pub mod NameKeys

@@ -93,24 +93,35 @@ impl<T: Keyed> Sorted<T> {
         rows.partition_point(|row| row.key_cmp(key).is_lt())
     }
 
-    /// The place of the row of the key.
-    fn place_of(&self, key: &T::Key) -> Option<usize>
+    /// The key's place, if a row of the key stands there.
+    fn found_at(&self, place: usize, key: &T::Key) -> Option<usize>
+        requires { IsPlace T.order T.key key.now self.now place }
         ensures { IsPlaceOf T.order T.key key.now self.now result }
     {
-        let place = self.place(key);
         match self.as_slice().get(place) {
             Some(row) if row.key_cmp(key).is_eq() => Some(place),
             _ => None,
         }
     }
 
-    /// The place of the row of the same key, or else the place where the row belongs, found by halving.
+    /// How many rows have a smaller key than this row: all, if the last has; else found by halving.
+    fn place_from(&self, row: &T) -> usize
+        ensures bound { result ≤ length self.now }
+        ensures place { IsPlace T.order T.key (T.key row.now) self.now result }
+    {
+        let rows = self.as_slice();
+        match rows.last() {
+            Some(last) if last.row_cmp(row).is_lt() => rows.len(),
+            _ => rows.partition_point(|other| other.row_cmp(row).is_lt()),
+        }
+    }
+
+    /// The place of the row of the same key, or else the place where the row belongs.
     fn place_for(&self, row: &T) -> Result<usize, usize>
         ensures { IsPlaceFor T.order T.key row.now self.now result }
     {
-        let rows = self.as_slice();
-        let place = rows.partition_point(|other| other.row_cmp(row).is_lt());
-        match rows.get(place) {
+        let place = self.place_from(row);
+        match self.as_slice().get(place) {
             Some(other) if row.row_cmp(other).is_eq() => Ok(place),
             _ => Err(place),
         }
@@ -156,19 +167,53 @@ impl<T: Keyed> Sorted<T> {
         self.row_at(self.place(key), key)
     }
 
-    /// The row of the key, looked for first at the place that is next. Then the place behind it, or that of its key, is
-    /// next. Where the keys that are asked for rise, as the rows do, no row is looked for by halving.
+    /// Whether the row at the place has this key, and so the place is that of the key.
+    fn is_at(&self, place: usize, key: &T::Key) -> bool
+        ensures bound { IsTrue result → place ≤ length self.now }
+        ensures place { IsTrue result → IsPlace T.order T.key key.now self.now place }
+    {
+        match self.as_slice().get(place) {
+            Some(row) => row.key_cmp(key).is_eq(),
+            None => false,
+        }
+    }
+
+    /// The place of the key: this one or the one before it, if it is one of them, else found by halving.
+    fn place_near(&self, place: usize, key: &T::Key) -> usize
+        ensures bound { result ≤ length self.now }
+        ensures place { IsPlace T.order T.key key.now self.now result }
+    {
+        if self.is_place(place, key) {
+            return place;
+        }
+        let before = place.saturating_sub(1);
+        if self.is_at(before, key) {
+            before
+        } else {
+            self.place(key)
+        }
+    }
+
+    /// The row of the key, looked for first at the place that is next, and at the one before it. Then the place behind the
+    /// row, or that of its key, is next. None is looked for by halving where each row asked for is the one before again or
+    /// stands right behind it.
     pub fn get_next(&self, next: &mut usize, key: &T::Key) -> Option<&T>
         ensures { option_copied result ≡ row_at T.order T.key key.now self.now }
     {
-        let place = if self.is_place(*next, key) {
-            *next
-        } else {
-            self.place(key)
-        };
+        let place = self.place_near(*next, key);
         let row = self.row_at(place, key);
         *next = place.saturating_add(usize::from(row.is_some()));
         row
+    }
+
+    /// The place of the row of the key, looked for as `get_next` does.
+    pub fn place_next(&self, next: &mut usize, key: &T::Key) -> Option<usize>
+        ensures { IsPlaceOf T.order T.key key.now self.now result }
+    {
+        let place = self.place_near(*next, key);
+        let found = self.found_at(place, key);
+        *next = place.saturating_add(usize::from(found.is_some()));
+        found
     }
 
     /// Whether there is a row of the key.
@@ -213,7 +258,7 @@ impl<T: Keyed> Sorted<T> {
         ensures taken { result ≡ row_at T.order T.key key.now self.old }
         ensures rest { self.new ≡ remove_row T.order T.key key.now self.old }
     {
-        match self.place_of(key) {
+        match self.found_at(self.place(key), key) {
             Some(place) => self.rows.remove_at(place),
             None => None,
         }

@@ -5,7 +5,7 @@ ghost use Rattle.std.specs.Cmp;
 ghost use Rattle.std.specs.Hash as fed;
 ghost use Rattle.plant_types.specs.Text as text;
 
-use crate::Fault;
+use crate::{Fault, Keyed};
 use smallvec::SmallVec;
 use std::alloc::Global;
 use std::cmp::Ordering;
@@ -141,6 +141,29 @@ impl<C: Alphabet> Hash for Text<C> {
 
     fn hash<H: Hasher>(&self, state: &mut H) {
         self.as_bytes().hash(state);
+    }
+}
+
+/// A text is its own key.
+impl<C: Alphabet> Keyed for Text<C> {
+    ghost use Rattle.std.specs.FinMap.{nat_cmp-IsAntisymmetric, slice_cmp-IsAntisymmetric};
+
+    type Key = Text<C>;
+
+    ghost order = { slice_cmp nat_cmp };
+
+    ghost key = { λ t. t };
+
+    ghost total = { nat_list_cmp_total };
+
+    ghost only = { slice_cmp-IsAntisymmetric nat_cmp-IsAntisymmetric };
+
+    fn key_cmp(&self, other: &Text<C>) -> Ordering {
+        self.cmp(other)
+    }
+
+    fn row_cmp(&self, other: &Text<C>) -> Ordering {
+        self.cmp(other)
     }
 }
 

@@ -1,6 +1,7 @@
 -- The judgement of an import.
-use Rattle.std.proofs.Common.{ap, append_assoc, arith, refl, subst, sym, ◌∙◌, Bool, Err, IfOk, List, None, Ok, Option, Result, Some, [], false, if◌then◌else◌, length, nat_lt, not, true, ℕ, ◌++◌, ◌+◌, ◌∷◌, ◌≡◌, ◌≤◌}
-use Rattle.std.proofs.lemmas.{Bool.{ltb-false}, Result.{IfOk-weaker}}
+use Rattle.std.proofs.Common.{ap, append_assoc, arith, refl, subst, sym, ◌∙◌, Bool, Err, IfOk, List, None, Ok, Option, Result, Some, [], false, filter, if◌then◌else◌, length, nat_lt, not, true, ℕ, ◌++◌, ◌+◌, ◌∷◌, ◌≡◌, ◌≤◌}
+use Rattle.std.specs.{List.{list_any}, Ordering.{eq_by_cmp, nat_cmp}}
+use Rattle.std.proofs.lemmas.{Bool.{le-ltb, ltb-false}, List.{length-map, Filters.{length-filter_both}}, Map.Made.{distinct_count-le}, Result.{IfOk-weaker}}
 use Rattle.plant_model.specs.{Calls.{own_refusals, reply}, Facts.{Facts}, Kinds.{role_needed}}
 use Rattle.plant_model.specs.steps.CallChanges.{changes_for, unit_after}
 use Rattle.plant_model.specs.Refusals.{fault_entries, file_refusals, first_refusal, holds_some, lacks_role, tags_of}
@@ -12,7 +13,7 @@ use Rattle.plant_model.specs.declared.{reply.Reply.TheVariants.{Imported}, rows.
 use Rattle.plant_model.specs.declared.rows.{RowEdit.TheVariants.{Put}, Verdict.{Verdict, TheVariants.{Accepted as IsAccepted, Refused as IsRefused}}}
 use Rattle.plant_types.specs.{Limits.{max_events}, Names.{Name}, Options.{or_else}}
 use Rattle.plant_alarm.specs.declared.event.Event.{Event}
-use Rattle.plant_import.specs.{Merging.{IsRising, first_fault, fresh, merge, merged_or}, Needed.{needed}, Numbers.{new_numbers}}
+use Rattle.plant_import.specs.{Merging.{IsRising, first_fault, fresh, merge, merged_or}, Needed.{needed}, Numbers.{has_number, new_numbers, numbers_of}}
 use Rattle.plant_import.{specs.declared.{bad_file.BadFile.{BadFile}, merging.Merged.{Merged}}, proofs.public.Counted.{fresh_count}}
 use Rattle.plant_import.proofs.public.NeededLaws.{needed_merge, needed_numbers, needed_rises}
 use Rattle.plant_unit.specs.{Additions.{AreAdded, addition, decided_or, rows_added}, Judged.{IsJudged, IsJudgedOwn, holder_refusals}}
@@ -126,24 +127,32 @@ import_added f t rows m rises is =
       no_fault = (adds f t rows m (sym is)).sound;
     }
 
+-- a file has no more new numbers than rows
+fewer_numbers : (es rows : List Event) → length (new_numbers es rows) ≤ length rows
+fewer_numbers es rows =
+    let others : List Event = filter (λ e. not (list_any (has_number e.seq) es)) rows in
+    omega (arith, distinct_count-le (eq_by_cmp nat_cmp) (numbers_of others), length-map others (λ e. e.seq), length-filter_both (λ e. not (list_any (has_number e.seq) es)) (λ e. not (not (list_any (has_number e.seq) es))) (λ e. refl) rows)
+
+-- there is room for all rows, and so for the new numbers
+pub room_for_all : (es rows : List Event) (k : ℕ) (b : Bool) → k ≡ length es → b ≡ nat_lt max_events (k + length rows) → b ≡ false
+    → false ≡ nat_lt max_events (length es + length (new_numbers es rows))
+room_for_all es rows k b ek eb room =
+    let free : k + length rows ≤ max_events = ltb-false _ _ (sym eb ∙ room) in
+    sym (le-ltb _ _ (omega (arith, free, ek, fewer_numbers es rows)))
+
 -- what the code finds of a file beside the events that it needs
-pub counted_at : (f : Facts) (rows kept : List Event) (k n : ℕ) (b : Bool) → IsRising f.events → kept ≡ needed f.events rows → k ≡ length f.events
-    → n ≡ length (new_numbers kept rows) → b ≡ nat_lt max_events (k + n)
-    → b ≡ nat_lt max_events (length f.events + length (new_numbers f.events rows))
-counted_at f rows kept k n b rises ek el en eb =
-    let count : n ≡ length (new_numbers f.events rows) = en ∙ ap (λ l. length (new_numbers l rows)) ek
-    ∙ ap length (needed_numbers f.events rows rises) in
+pub counted_at : (es rows kept : List Event) (k n : ℕ) (b : Bool) → IsRising es → kept ≡ needed es rows → k ≡ length es
+    → n ≡ length (new_numbers kept rows) → b ≡ nat_lt max_events (k + n) → b ≡ nat_lt max_events (length es + length (new_numbers es rows))
+counted_at es rows kept k n b rises ek el en eb =
+    let count : n ≡ length (new_numbers es rows) = en ∙ ap (λ l. length (new_numbers l rows)) ek ∙ ap length (needed_numbers es rows rises) in
     eb ∙ (λ i. nat_lt max_events (el i + count i))
 
-pub merged_at : (f : Facts) (t : ℕ) (rows kept : List Event) (tags : List Name) (k n : ℕ) (b : Bool) (m x : Result Merged BadFile) → IsRising f.events
-    → kept ≡ needed f.events rows → k ≡ length f.events → n ≡ length (new_numbers kept rows)
-    → b ≡ nat_lt max_events (k + n) → b ≡ false → tags ≡ tags_of f → (IsRising kept → m ≡ merge kept rows tags t) → m ≡ x
-    → refused_by x ≡ addition f t rows
-merged_at f t rows kept tags k n b m x rises ek el en eb room et em ex =
+pub merged_at : (f : Facts) (t : ℕ) (rows kept : List Event) (tags : List Name) (b : Bool) (m x : Result Merged BadFile) → IsRising f.events
+    → kept ≡ needed f.events rows → b ≡ nat_lt max_events (length f.events + length (new_numbers f.events rows)) → b ≡ false
+    → tags ≡ tags_of f → (IsRising kept → m ≡ merge kept rows tags t) → m ≡ x → refused_by x ≡ addition f t rows
+merged_at f t rows kept tags b m x rises ek full room et em ex =
     let rising : IsRising kept = subst (λ (l : List Event). IsRising l) (sym ek) (needed_rises f.events rows rises) in
-    let free : nat_lt max_events (length f.events + length (new_numbers f.events rows)) ≡ false = sym (counted_at f rows kept k n b rises ek el en eb)
-    ∙ room in
-    merge_added f t rows x free (sym ex ∙ em rising ∙ (λ i. merge (ek i) rows (et i) t) ∙ needed_merge f.events rows (tags_of f) t rises)
+    merge_added f t rows x (sym full ∙ room) (sym ex ∙ em rising ∙ (λ i. merge (ek i) rows (et i) t) ∙ needed_merge f.events rows (tags_of f) t rises)
 
 -- one who is not refused for want of a role holds one
 none_holds : (b : Bool) (rest : List (Bool × Refused)) → first_refusal ((not b, NotGranted) ∷ rest) ≡ None → b ≡ true

@@ -1,6 +1,6 @@
 -- What a file adds to a unit, or why it is refused.
 use Rattle.std.specs.List.{list_all}
-use Rattle.std.specs.Prelude.{Err, List, None, Ok, Option, Result, Some, length, true, ℕ, ◌-◌, ◌<◌, ◌||◌, ◌∷◌, ◌≡◌, ◌≤◌}
+use Rattle.std.specs.Prelude.{Bool, Err, List, None, Ok, Option, Result, Some, length, nat_lt, true, ℕ, ◌+◌, ◌-◌, ◌<◌, ◌||◌, ◌∷◌, ◌≡◌, ◌≤◌}
 use Rattle.plant_model.specs.Facts.{Facts, limit_revision_of}
 use Rattle.plant_model.specs.steps.CallChanges.{unit_after}
 use Rattle.plant_model.specs.steps.LooksAt.{Scope, scope_of, AllAlarms, AllEvents, AllGrants, AllRecords, AllShelves, Approval, Content, File, NothingElse, OneAlarm, OneChange, OneRecord, Shelving}
@@ -11,8 +11,8 @@ use Rattle.plant_model.specs.{Rows.{change_entry}, declared.{call.Request.{Reque
 use Rattle.plant_model.specs.declared.{rows.{ChangeEntry.{ChangeEntry}, Row.TheVariants.{Unit as UnitPut}}}
 use Rattle.plant_model.specs.declared.rows.{RowEdit.{RowEdit, TheVariants.{Put}}, UnitPart.{UnitPart}}
 use Rattle.plant_alarm.specs.declared.event.Event.{Event}
-use Rattle.plant_import.specs.{Merging.{IsRising, first_fault, fresh}, Needed.{needed}, declared.merging.Merged.{Merged}}
-use Rattle.plant_types.specs.{Names.{Name}, Results.{Gives}}
+use Rattle.plant_import.specs.{Merging.{IsRising, first_fault, fresh}, Needed.{needed}, Numbers.{new_numbers}, declared.merging.Merged.{Merged}}
+use Rattle.plant_types.specs.{Limits.{max_events}, Names.{Name}, Results.{Gives}}
 use Rattle.plant_unit.specs.{Readings.{has_its_sheet, has_kind, is_left_out, is_matrix_at}, Summaries.{HaveSummaries}}
 
 -- what is decided, unless it is refused
@@ -38,6 +38,11 @@ pub record AreEventsOf (part : UnitPart) (rows es : List Event) : Type 0 where
   pub needed_are : part.rows.events ≡ needed es rows
   pub count_is : part.count ≡ length es
   pub summaries : HaveSummaries part.rows.alarms es
+
+-- by all events of the unit: whether with a file's new numbers they are too many
+abbrev pub TellsFull : {E : Type 0} → UnitPart → List Event → Result Bool E → Type 0
+TellsFull part rows said = (es : List Event) → AreEventsOf part rows es
+    → Gives said (nat_lt max_events (length es + length (new_numbers es rows)))
 
 -- by all events of the unit: what a file's rows add at a moment, or why they are refused
 abbrev pub GivesAddition : {E : Type 0} → UnitPart → ℕ → List Event → Result (Result Merged Refused) E → Type 0

@@ -1,9 +1,9 @@
 -- The state of each alarm, computed from the events of all.
-use Rattle.std.specs.{BTreeSet.{BTreeSet, contains}, List.{list_any}, Prelude.{Bool, List, map, ◌≡◌}}
+use Rattle.std.specs.{List.{list_any}, Prelude.{Bool, List, map, ◌≡◌}}
 use Rattle.plant_alarm.specs.{States.{summary}, declared.{event.Event.{Event}, summary.Summary.{Summary}}}
 use Rattle.plant_floods.specs.Activations.{of_alarm}
 use Rattle.plant_model.specs.declared.rows.AlarmRow.{AlarmRow}
-use Rattle.plant_types.specs.Names.{Name, name_cmp, same_name}
+use Rattle.plant_types.specs.Names.{same_name}
 
 -- what an alarm's own events come to
 abbrev pub summary_of : List Event → AlarmRow → Summary
@@ -30,7 +30,3 @@ summary_in r =
 -- the columns of each alarm are computed from its events
 abbrev pub HaveSummaries : List AlarmRow → List Event → Type 0
 HaveSummaries alarms es = map summary_in alarms ≡ summaries alarms es
-
--- the set has the tags of the events
-abbrev pub AreNamed : BTreeSet Name → List Event → Type 0
-AreNamed tags es = (a : Name) → contains name_cmp tags a ≡ list_any (λ e. same_name a e.tag) es

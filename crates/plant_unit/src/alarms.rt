@@ -2,17 +2,22 @@
 
 ghost use Rattle.std.specs.Prelude.{◌≡◌, ◌++◌, ◌∷◌, [], IfOk, OnOk, length, map};
 ghost use Rattle.plant_types.specs.Results.{Gives, OnlyMemory};
+ghost use Rattle.plant_unit.specs.Alarms.{AddsAt, AddsEvents, ForImport, GivesAnew, GivesNamed, GivesOn, PushesNamed, brought, in_columns, states_after};
 ghost use Rattle.plant_import.specs.Numbers.{with_events};
-ghost use Rattle.plant_unit.specs.Alarms.{AddsEvents, AddsAt, ForImport, GivesAnew, GivesNamed, GivesOn, PushesNamed, states_after};
-ghost use Rattle.plant_unit.specs.Summaries.{AreNamed};
 ghost use Rattle.plant_unit.specs.Summaries as states;
 
 use plant_alarm::{Event, Summary};
-use plant_import::{events_after, has_late, in_rising_number, rise};
+use plant_import::events_after;
 use plant_model::{AlarmRow, Row, RowEdit};
-use plant_types::{Fault, List, Sorted, Tag, TryCopy, copy_all};
+use plant_types::{Fault, List, Sorted, TryCopy};
 use std::alloc::Global;
-use std::collections::BTreeSet;
+
+/// What events of alarms come to, and which of the alarms the new ones of them name, at the places of the alarms.
+#[derive(Drop)]
+struct Brought {
+    summaries: List<Summary>,
+    named: List<bool>,
+}
 
 /// Brings the summary at a place forward by one more event of its alarm.
 fn add_at(summaries: &mut List<Summary>, place: usize, event: &Event, latching: bool)
@@ -26,38 +31,53 @@ fn add_at(summaries: &mut List<Summary>, place: usize, event: &Event, latching: 
     }
 }
 
-/// Brings the summaries of alarms forward by one more event.
-fn add_event(summaries: &mut List<Summary>, alarms: &Sorted<AlarmRow>, event: &Event)
-    ensures length { length summaries.new ≡ length summaries.old }
-    ensures value { AddsEvents alarms.now (event.now ∷ []) summaries.old summaries.new }
+/// Brings alarms forward by one more event, which is new.
+fn add_event(all: &mut Brought, alarms: &Sorted<AlarmRow>, next: &mut usize, event: &Event)
+    ensures summaries { length all.new.summaries ≡ length all.old.summaries }
+    ensures named { length all.new.named ≡ length all.old.named }
+    ensures value { AddsEvents alarms.now (event.now ∷ []) all.old all.new }
 {
-    let place = alarms.place(&event.tag);
-    let rows = alarms.as_slice();
-    if let Some(alarm) = rows.get(place) {
-        if alarm.tag == event.tag {
-            add_at(summaries, place, event, alarm.latching);
+    if let Some(place) = alarms.place_next(next, &event.tag) {
+        if let Some(alarm) = alarms.as_slice().get(place) {
+            add_at(&mut all.summaries, place, event, alarm.latching);
+            all.named.replace_at(place, true);
         }
     }
 }
 
-/// The summaries of alarms without events.
-fn no_summaries(alloc: Global, alarms: &[AlarmRow]) -> Result<List<Summary>, Fault>
-    ensures value { IfOk result (λ s. s ≡ states.summaries alarms.now []) }
-    ensures err { OnlyMemory result }
+/// Brings alarms forward by more events, which are new.
+fn add_events(all: &mut Brought, alarms: &Sorted<AlarmRow>, events: &[Event])
+    ensures summaries { length all.new.summaries ≡ length all.old.summaries }
+    ensures named { length all.new.named ≡ length all.old.named }
+    ensures value { AddsEvents alarms.now events.now all.old all.new }
 {
-    let mut summaries = List::new(alloc);
-    for alarm in alarms {
-        summaries.push(Summary::of(&[], alarm.latching))?;
+    let mut next = 0;
+    for event in events {
+        add_event(all, alarms, &mut next, event);
     }
-    Ok(summaries)
 }
 
-/// The summaries that the rows of alarms have in their columns.
-fn summaries_in(alloc: Global, alarms: &[AlarmRow]) -> Result<List<Summary>, Fault>
-    ensures value { IfOk result (λ s. s ≡ map states.summary_in alarms.now) }
+/// Alarms without events.
+fn without_events(alloc: Global, alarms: &[AlarmRow]) -> Result<Brought, Fault>
+    ensures value { IfOk result (λ all. all ≡ brought alarms.now [] []) }
     ensures err { OnlyMemory result }
 {
     let mut summaries = List::new(alloc);
+    let mut named = List::new(alloc);
+    for alarm in alarms {
+        summaries.push(Summary::of(&[], alarm.latching))?;
+        named.push(false)?;
+    }
+    Ok(Brought { summaries, named })
+}
+
+/// Alarms as the columns of their rows say, before new events.
+fn from_columns(alloc: Global, alarms: &[AlarmRow]) -> Result<Brought, Fault>
+    ensures value { IfOk result (λ all. all ≡ in_columns alarms.now) }
+    ensures err { OnlyMemory result }
+{
+    let mut summaries = List::new(alloc);
+    let mut named = List::new(alloc);
     for alarm in alarms {
         summaries.push(Summary {
             state: alarm.state_no,
@@ -65,74 +85,48 @@ fn summaries_in(alloc: Global, alarms: &[AlarmRow]) -> Result<List<Summary>, Fau
             active_since: alarm.active_s,
             last_return: alarm.return_s,
         })?;
+        named.push(false)?;
     }
-    Ok(summaries)
+    Ok(Brought { summaries, named })
 }
 
-/// Brings the summaries of alarms forward by more events.
-fn add_events(summaries: &mut List<Summary>, alarms: &Sorted<AlarmRow>, events: &[Event])
-    ensures length { length summaries.new ≡ length summaries.old }
-    ensures value { AddsEvents alarms.now events.now summaries.old summaries.new }
-{
-    for event in events {
-        add_event(summaries, alarms, event);
-    }
-}
-
-/// The summaries of alarms, computed anew from their kept and their new events.
-fn summaries_from_events(
+/// Alarms after new events, computed anew from their kept and their new events.
+fn from_events(
     alloc: Global,
     alarms: &Sorted<AlarmRow>,
     kept: &Sorted<Event>,
-    fresh: &[Event],
-) -> Result<List<Summary>, Fault>
-    ensures length { IfOk result (λ s. length s ≡ length alarms.now) }
+    fresh: &Sorted<Event>,
+) -> Result<Brought, Fault>
+    ensures summaries { IfOk result (λ all. length all.summaries ≡ length alarms.now) }
+    ensures named { IfOk result (λ all. length all.named ≡ length alarms.now) }
     ensures value { GivesAnew alarms.now kept.now fresh.now result }
     ensures err { OnlyMemory result }
 {
-    let mut summaries = no_summaries(alloc, alarms.as_slice())?;
-    add_events(
-        &mut summaries,
-        alarms,
-        events_after(alloc, kept, fresh)?.as_slice(),
-    );
-    Ok(summaries)
+    let all_events = events_after(alloc, kept, fresh.as_slice())?;
+    let mut all = without_events(alloc, alarms.as_slice())?;
+    add_events(&mut all, alarms, all_events.as_slice());
+    let mut new = without_events(alloc, alarms.as_slice())?;
+    add_events(&mut new, alarms, fresh.as_slice());
+    Ok(Brought {
+        summaries: all.summaries,
+        named: new.named,
+    })
 }
 
-/// Brings the summaries of alarms forward by more events in rising number, however they stand here.
-#[tactic(auto, using(plant_import::proofs::public::Placed::puts_none, plant_import::proofs::public::Placed::rises_of))]
-fn add_rising(
-    alloc: Global,
-    summaries: &mut List<Summary>,
-    alarms: &Sorted<AlarmRow>,
-    events: &[Event],
-) -> Result<(), Fault>
-    ensures length { length summaries.new ≡ length summaries.old }
-    ensures value { OnOk result (AddsEvents alarms.now (with_events [] events.now) summaries.old summaries.new) }
-    ensures err { OnlyMemory result }
-{
-    if rise(events) {
-        add_events(summaries, alarms, events);
-        return Ok(());
-    }
-    let rising = in_rising_number(alloc, copy_all(alloc, events)?)?;
-    add_events(summaries, alarms, rising.as_slice());
-    Ok(())
-}
-
-/// The summaries in the rows of alarms, brought forward by new events that come after all others of their alarms.
-fn summaries_from_rows(
+/// Alarms as their rows say, brought forward by new events that come after all others of their alarms.
+fn from_rows(
     alloc: Global,
     alarms: &Sorted<AlarmRow>,
-    fresh: &[Event],
-) -> Result<List<Summary>, Fault>
-    ensures length { IfOk result (λ s. length s ≡ length alarms.now) }
+    fresh: &Sorted<Event>,
+) -> Result<Brought, Fault>
+    ensures summaries { IfOk result (λ all. length all.summaries ≡ length alarms.now) }
+    ensures named { IfOk result (λ all. length all.named ≡ length alarms.now) }
     ensures value { GivesOn alarms.now fresh.now result }
     ensures err { OnlyMemory result }
 {
-    let mut summaries = summaries_in(alloc, alarms.as_slice())?;
-    add_rising(alloc, &mut summaries, alarms, fresh)?;
-    Ok(summaries)
+    let mut all = from_columns(alloc, alarms.as_slice())?;
+    add_events(&mut all, alarms, fresh.as_slice());
+    Ok(all)
 }
 
 /// The alarm's row with the state of a summary.
@@ -148,32 +142,18 @@ fn with_summary(alloc: Global, alarm: &AlarmRow, summary: &Summary) -> Result<Al
     Ok(row)
 }
 
-/// The tags of the events.
-fn tags_named(alloc: Global, events: &[Event]) -> Result<BTreeSet<Tag>, Fault>
-    ensures value { IfOk result (λ tags. AreNamed tags events.now) }
-    ensures err { OnlyMemory result }
-{
-    let mut tags = BTreeSet::new(alloc);
-    for event in events {
-        if !tags.contains(&event.tag) {
-            tags.insert(event.tag.copy(alloc)?)?;
-        }
-    }
-    Ok(tags)
-}
-
-/// The change of an alarm's row, where the alarm is named.
+/// The change of an alarm's row, if the alarm is named.
 #[tactic(auto, using(crate::proofs::AlarmLists::summary_state))]
 fn alarm_change(
     alloc: Global,
-    named: &BTreeSet<Tag>,
+    is_named: bool,
     alarm: &AlarmRow,
     summary: &Summary,
 ) -> Result<Option<RowEdit>, Fault>
-    ensures value { GivesNamed named.now alarm.now summary.now result }
+    ensures value { GivesNamed is_named alarm.now summary.now result }
     ensures err { OnlyMemory result }
 {
-    if !named.contains(&alarm.tag) {
+    if !is_named {
         return Ok(None);
     }
     Ok(Some(RowEdit::Put(Row::Alarm(with_summary(alloc, alarm, summary)?))))
@@ -184,61 +164,58 @@ fn push_named(
     alloc: Global,
     changes: &mut List<RowEdit>,
     alarms: &[AlarmRow],
-    summaries: &[Summary],
-    named: &BTreeSet<Tag>,
+    all: &Brought,
 ) -> Result<(), Fault>
-    requires { length summaries.now ≡ length alarms.now }
-    ensures value { PushesNamed named.now alarms.now summaries.now changes.old changes.new result }
+    requires summaries { length all.now.summaries ≡ length alarms.now }
+    requires named { length all.now.named ≡ length alarms.now }
+    ensures value { PushesNamed alarms.now all.now changes.old changes.new result }
     ensures err { OnlyMemory result }
 {
+    let (summaries, named) = (all.summaries.as_slice(), all.named.as_slice());
     for (i, alarm) in alarms.iter().enumerate() {
-        if let Some(change) = alarm_change(alloc, named, alarm, &summaries[i])? {
+        if let Some(change) = alarm_change(alloc, named[i], alarm, &summaries[i])? {
             changes.push(change)?;
         }
     }
     Ok(())
 }
 
-/// The summaries of alarms after a file's new rows. They go on from those in the alarms' rows, unless a row comes late.
-fn summaries_after(
+/// Alarms after a file's new rows, before which there were so many events. They go on from their own rows, unless all
+/// events are kept here, as they are if a row of the file comes late.
+fn after_file(
     alloc: Global,
     alarms: &Sorted<AlarmRow>,
     kept: &Sorted<Event>,
-    rows: &[Event],
-    fresh: &[Event],
-) -> Result<List<Summary>, Fault>
-    ensures length { IfOk result (λ s. length s ≡ length alarms.now) }
-    ensures value { ForImport alarms.now kept.now rows.now fresh.now
-        (λ es. Gives result (states.summaries alarms.now (with_events es fresh.now))) }
+    count: u32,
+    fresh: &Sorted<Event>,
+) -> Result<Brought, Fault>
+    ensures summaries { IfOk result (λ all. length all.summaries ≡ length alarms.now) }
+    ensures named { IfOk result (λ all. length all.named ≡ length alarms.now) }
+    ensures value { ForImport alarms.now kept.now count fresh.now
+        (λ es added. Gives result (brought alarms.now (with_events es added) added)) }
     ensures err { OnlyMemory result }
 {
-    if has_late(alloc, kept, rows)? {
-        summaries_from_events(alloc, alarms, kept, fresh)
+    if count > 0 && kept.len() == count as usize {
+        from_events(alloc, alarms, kept, fresh)
     } else {
-        summaries_from_rows(alloc, alarms, fresh)
+        from_rows(alloc, alarms, fresh)
     }
 }
 
-/// Adds the changes of the alarms that a file's new rows name. `kept` are the events that the file needs.
+/// Adds the changes of the alarms that a file's new rows name, which stand in rising number here. `kept` are the events
+/// that the file needs, of so many.
 pub fn push_alarms(
     alloc: Global,
     changes: &mut List<RowEdit>,
     alarms: &Sorted<AlarmRow>,
     kept: &Sorted<Event>,
-    rows: &[Event],
-    fresh: &[Event],
+    count: u32,
+    fresh: &Sorted<Event>,
 ) -> Result<(), Fault>
-    ensures value { ForImport alarms.now kept.now rows.now fresh.now
-        (λ es. OnOk result (changes.new ≡ changes.old ++ states_after es fresh.now alarms.now)) }
+    ensures value { ForImport alarms.now kept.now count fresh.now
+        (λ es added. OnOk result (changes.new ≡ changes.old ++ states_after es added alarms.now)) }
     ensures err { OnlyMemory result }
 {
-    let summaries = summaries_after(alloc, alarms, kept, rows, fresh)?;
-    let named = tags_named(alloc, fresh)?;
-    push_named(
-        alloc,
-        changes,
-        alarms.as_slice(),
-        summaries.as_slice(),
-        &named,
-    )
+    let all = after_file(alloc, alarms, kept, count, fresh)?;
+    push_named(alloc, changes, alarms.as_slice(), &all)
 }

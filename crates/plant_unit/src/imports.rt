@@ -1,29 +1,18 @@
 //! The judgement of an import whose caller may make it.
 
-ghost use Rattle.std.specs.Prelude.{◌≡◌, ◌≤◌, ◌+◌, IfOk, map, nat_lt};
+ghost use Rattle.std.specs.Prelude.{◌≡◌, ◌≤◌, ◌+◌, IfOk, nat_lt};
 ghost use Rattle.plant_types.specs.Results.{OnlyMemory};
 ghost use Rattle.plant_model.specs.declared.reply.Reply.TheVariants.{Imported};
-ghost use Rattle.plant_model.specs.steps.RowFacts.{alarm_tag, unit_read};
-ghost use Rattle.plant_unit.specs.{Additions.{GivesAddition, GivesImport}, FromFacts.{JudgesImport}};
+ghost use Rattle.plant_model.specs.steps.RowFacts.{unit_read};
+ghost use Rattle.plant_unit.specs.{Additions.{GivesAddition, GivesImport, TellsFull}, FromFacts.{JudgesImport}};
 
 use crate::alarms::push_alarms;
 use plant_alarm::Event;
 use plant_import::{FileRead, Merged, count_new, in_rising_number, merge};
-use plant_model::{AlarmRow, Call, Full, Refused, Reply, Row, RowEdit, UnitPart, UnitRow, Verdict};
+use plant_model::{Call, Full, Refused, Reply, Row, RowEdit, UnitPart, UnitRow, Verdict};
 use plant_types::limits::MAX_EVENTS;
-use plant_types::{Fault, List, Moment, Tag};
+use plant_types::{Fault, List, Moment};
 use std::alloc::Global;
-
-fn tags_of(alloc: Global, alarms: &[AlarmRow]) -> Result<List<Tag>, Fault>
-    ensures value { IfOk result (λ tags. tags ≡ map alarm_tag alarms.now) }
-    ensures err { OnlyMemory result }
-{
-    let mut tags = List::new(alloc);
-    for alarm in alarms {
-        tags.push(alarm.tag.copy(alloc)?)?;
-    }
-    Ok(tags)
-}
 
 /// Whether so many events are too many for a unit.
 fn is_full(kept: u32, new: usize) -> bool
@@ -31,6 +20,19 @@ fn is_full(kept: u32, new: usize) -> bool
 {
     let kept = u64::from(kept);
     kept > MAX_EVENTS || new as u64 > MAX_EVENTS - kept
+}
+
+/// Whether a file's new numbers are too many for a unit. They are no more than its rows, so they are counted only if there
+/// is not room for all of these.
+fn has_too_many(alloc: Global, part: &UnitPart, rows: &[Event]) -> Result<bool, Fault>
+    ensures value { TellsFull part.now rows.now result }
+    ensures err { OnlyMemory result }
+{
+    if !is_full(part.count, rows.len()) {
+        return Ok(false);
+    }
+    let new = count_new(alloc, &part.rows.events, rows)?;
+    Ok(is_full(part.count, new))
 }
 
 /// The new rows of a file and the number of its repeated ones. Refused, in this order: a file whose new numbers are too
@@ -44,12 +46,11 @@ fn merge_file(
     ensures value { GivesAddition part.now now rows.now result }
     ensures err { OnlyMemory result }
 {
-    let kept = &part.rows.events;
-    if is_full(part.count, count_new(alloc, kept, rows)?) {
+    if has_too_many(alloc, part, rows)? {
         return Ok(Err(Refused::UnitFull(Full::Events)));
     }
-    let tags = tags_of(alloc, part.rows.alarms.as_slice())?;
-    match merge(alloc, kept, rows, tags.as_slice(), now)? {
+    let kept = &part.rows.events;
+    match merge(alloc, kept, rows, &part.rows.alarms, now)? {
         Ok(merged) => Ok(Ok(merged)),
         Err(fault) => Ok(Err(Refused::BadFile(fault))),
     }
@@ -84,8 +85,8 @@ fn import_changes(
     row.last_s = now;
     changes.push(RowEdit::Put(Row::Unit(row)))?;
     let (alarms, kept) = (&part.rows.alarms, &part.rows.events);
-    push_alarms(alloc, &mut changes, alarms, kept, rows, added.as_slice())?;
     let rising = in_rising_number(alloc, added)?;
+    push_alarms(alloc, &mut changes, alarms, kept, part.count, &rising)?;
     changes.push(RowEdit::PutEvents(rising.into_list()))?;
     Ok(changes)
 }

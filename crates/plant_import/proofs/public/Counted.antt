@@ -6,7 +6,7 @@ use Rattle.plant_alarm.specs.declared.event.Event.{Event}
 use Rattle.plant_import.specs.declared.bad_file.BadFile.{BadFile}
 use Rattle.plant_import.specs.{declared.bad_file.Cause.{Cause}, Merging.{clashes, first_fault, fresh, merge_fault, out_of_order, same_event}}
 use Rattle.plant_import.specs.Numbers.{event_number, has_number, is_other, new_numbers, numbers_of, with_events}
-use Rattle.plant_import.{specs.Reading.{bad}, proofs.public.{EachLaws.{any_none, each_not}, FreshLaws.{any_first, distinct_firsts, firsts}}}
+use Rattle.plant_import.{specs.Reading.{bad}, proofs.public.{EachLaws.{Each, any_none, each_both, each_not, each_of}, FreshLaws.{any_first, distinct_firsts, firsts}}}
 use Rattle.plant_import.proofs.public.Placed.{AllAbove, Rises, keys_rise, other_above, rises_of, rising_distinct, same_it}
 use Rattle.plant_types.specs.{KeyedRows.{IsInOrder, put_row, row_at}, Names.{Name}, Options.{or_else, when}}
 use Rattle.plant_types.proofs.public.{KeyedRowLaws.{IsInOrder-put_row, row_at-put_row, same_rows}, Orders.{same_numbers}}
@@ -158,6 +158,31 @@ put_twice kept more order =
 pub any_puts : (n : ℕ) (rs es : List Event) → list_any (has_number n) (with_events es rs) ≡ (list_any (has_number n) es || list_any (has_number n) rs)
 any_puts n [] es = sym (or-false _)
 any_puts n (r ∷ rs) es = grind (arith, any_puts n rs (put_row nat_cmp event_number r es), any_put n r es)
+
+-- what is so of one of a file's new rows is so of one of them in rising number
+any_put_new : (p : Event → Bool) (r : Event) (es : List Event) → list_any (has_number r.seq) es ≡ false
+    → list_any p (put_row nat_cmp event_number r es) ≡ (p r || list_any p es)
+any_put_new p r [] none = refl
+any_put_new p r (e ∷ es) none = grind (arith, any_put_new p r es)
+
+any_put_all : (p : Event → Bool) (rs es : List Event) → IsDistinct same_number rs → Each (λ r. list_any (has_number r.seq) es ≡ false) rs
+    → list_any p (with_events es rs) ≡ (list_any p es || list_any p rs)
+unfolding IsDistinct
+any_put_all p [] es distinct apart = sym (or-false _)
+any_put_all p (r ∷ rs) es distinct apart =
+    let still : Each (λ x. list_any (has_number x.seq) (put_row nat_cmp event_number r es) ≡ false) rs =
+    each_both (λ x. same_number r x ≡ false) (λ x. list_any (has_number x.seq) es ≡ false) _
+    (λ x differs other. any_put x.seq r es ∙ ap (λ b. b || list_any (has_number x.seq) es) (turned x.seq r.seq ∙ differs) ∙ other) rs distinct.0 apart.1 in
+    let rest = any_put_all p rs (put_row nat_cmp event_number r es) distinct.1 still in
+    let first = any_put_new p r es apart.0 in
+    grind (arith, rest, first)
+
+pub any_rising : (p : Event → Bool) (tags : List Name) (now line : ℕ) (kept rows : List Event) → first_fault tags now line kept rows ≡ None
+    → list_any p (with_events [] (fresh kept rows)) ≡ list_any p (fresh kept rows)
+any_rising p tags now line kept rows none =
+    any_put_all p (fresh kept rows) []
+    (subst (IsDistinct same_number) (sym (fresh_firsts tags now line kept rows none)) (distinct_firsts same_numbers_tie kept rows))
+    (each_of _ (fresh kept rows) (λ k d within. refl))
 
 pub same_count : (kept rows : List Event) → length (new_numbers kept (with_events [] rows)) ≡ length (new_numbers kept rows)
 same_count kept rows =

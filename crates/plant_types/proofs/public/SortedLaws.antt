@@ -86,7 +86,7 @@ module _ {K X : Type 0} (R : K → K → Ordering) (key : X → K) where
   in_order [] h = tt
   in_order (r ∷ rows) h = both _ _ (below_of (key r) rows h.0) (in_order rows h.1)
 
-  after_at : (a : K) (rows : List X) → After a rows → (k : ℕ) (d : X) → k < length rows → R a (key (get_or rows k d)) ≡ Less
+  pub after_at : (a : K) (rows : List X) → After a rows → (k : ℕ) (d : X) → k < length rows → R a (key (get_or rows k d)) ≡ Less
   after_at a [] h k d lt = absurd (omega arith)
   after_at a (r ∷ rows) h zero d lt = h.0
   after_at a (r ∷ rows) h (suc k) d lt = after_at a rows h.1 k d (omega arith)
@@ -145,6 +145,43 @@ module _ {K X : Type 0} (R : K → K → Ordering) (key : X → K) where
             by false e = e
             by true e =
                 absurd (true≢false (sym (parted rows t order p k d low high e) ∙ sym (below_at rows t p d (omega (arith, low, high))) ∙ at))
+
+    -- where the last row is below a key, all are
+    pub behind_last : (rows : List X) (t : K) (r : X) → IsInOrder R key rows → slice_get rows (length rows - 1) ≡ Some r
+        → is_lt (R (key r) t) ≡ true → IsPlace R key t rows (length rows)
+    behind_last rows t r order last less = (
+      λ k d low high. parted rows t order k (length rows - 1) d (omega (arith, high)) (slice_get_within rows (length rows - 1) r last)
+          (ap (λ x. is_lt (R (key x) t)) (get_or_from_slice_get rows (length rows - 1) r d last) ∙ less),
+      λ k d low high. absurd (omega (arith, low, high)),
+    )
+
+    -- the place of a row is that of its key
+    ahead : (rows : List X) → Ordered rows → (k p : ℕ) (d e : X) → k < p → p < length rows
+        → is_lt (R (key (get_or rows k e)) (key (get_or rows p d))) ≡ true
+    ahead [] h k p d e lt within = absurd (omega (arith, within))
+    ahead (x ∷ rows) h k zero d e lt within = absurd (omega (arith, lt))
+    ahead (x ∷ rows) h zero (suc p) d e lt within = ap is_lt (after_at (key x) rows h.0 p d (omega (arith, within)))
+    ahead (x ∷ rows) h (suc k) (suc p) d e lt within = ahead rows h.1 k p d e (omega (arith, lt)) (omega (arith, within))
+
+    behind : (rows : List X) → Ordered rows → (k p : ℕ) (d e : X) → p ≤ k → k < length rows
+        → is_lt (R (key (get_or rows k e)) (key (get_or rows p d))) ≡ false
+    behind [] h k p d e le within = absurd (omega (arith, within))
+    behind (x ∷ rows) h zero zero d e le within = ap is_lt (tied_itself total (key x))
+    behind (x ∷ rows) h (suc k) zero d e le within =
+        ap is_lt (turned total (key x) (key (get_or rows k e)) (after_at (key x) rows h.0 k e (omega (arith, within))))
+    behind (x ∷ rows) h zero (suc p) d e le within = absurd (omega (arith, le))
+    behind (x ∷ rows) h (suc k) (suc p) d e le within = behind rows h.1 k p d e (omega (arith, le)) (omega (arith, within))
+
+    own_place : (rows : List X) (p : ℕ) (d : X) → IsInOrder R key rows → p < length rows → IsPlace R key (key (get_or rows p d)) rows p
+    own_place rows p d order within =
+        (λ k e low high. ahead rows (ordered rows order) k p d e high within, λ k e low high. behind rows (ordered rows order) k p d e low high)
+
+    pub place_here : ((a b : K) → R a b ≡ Equal → a ≡ b) → (rows : List X) (t : K) (p : ℕ) (r : X) → IsInOrder R key rows
+        → slice_get rows p ≡ Some r → eq_by_cmp R (key r) t ≡ true → IsPlace R key t rows p
+    place_here same rows t p r order is tie =
+        subst (λ k. IsPlace R key k rows p)
+        (ap key (get_or_from_slice_get rows p r r is) ∙ same (key r) t (tied (R (key r) t) true tie refl))
+        (own_place rows p r order (slice_get_within rows p r is))
 
     row_found : (rows : List X) (t : K) (p : ℕ) → Ordered rows → Parts t rows p → at_place t (slice_get rows p) ≡ row_at R key t rows
     row_found [] t p order h = refl

@@ -3,9 +3,8 @@ use Rattle.plant_import.{specs.{Relation.{JudgesRow}, declared.bad_file.Cause.{C
 use Rattle.plant_import.proofs.merging.judged.Goals as goal
 
 pub returns : goal.returns
-returns c tags are kept seen rises near =
+returns c tags known kept seen rises near =
     let less : c.lt.result ≡ nat_lt c.args.now c.args.event.now.moment = search rules in
     subst (λ (r : Result Bool Cause). JudgesRow tags c.args.now c.args.kept.now seen c.args.event.now r) (sym c.joined.ensures)
-    (judged_so tags c.args.now c.args.kept.now seen c.args.event.now (sym (are c.args.event.now.tag) ∙ sym c.contains.ensures
-    ∙ search rules) (ltb-false _ _ (sym less ∙ c.if-lt.false)) c.relation_of.result c.relation_of-2.result
+    (judged_so tags c.args.now c.args.kept.now seen c.args.event.now (sym known ∙ search rules) (ltb-false _ _ (sym less ∙ c.if-lt.false)) c.relation_of.result c.relation_of-2.result
     (c.relation_of.ensures c.args.kept.now kept c.nearest_among.ensures) (c.relation_of-2.ensures seen rises near))
