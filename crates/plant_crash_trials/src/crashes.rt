@@ -1,11 +1,13 @@
 //! Disks that stop at some call, as at a power cut: what the next start finds.
 
+ghost use Rattle.plant_statements.specs.Reading.{HasNoTransaction};
+
 use plant_examples::{BASE, BEGIN, Exchanges, LOOKED_AT, SHELVED, between};
 use plant_office::Books;
 use plant_store::Tables;
 use plant_trials::{after, hold_alike, lists, mirrored, replays_on, root, text};
 use plant_types::limits::MAX_ROWS_AT_HAND;
-use sqlite::{Connection, FileStore, Files, Options};
+use sqlite::{Alter, Connection, FileStore, Files, Options};
 use sqlite_disk::{Crash, Disk, Fuse, Memory};
 use std::process::Abort;
 
@@ -54,6 +56,20 @@ fn fused(rt: &(impl Abort + AllocGlobal), calls: u64) -> Fuse<Memory> {
     Fuse::new(Memory::new(rt.alloc()), calls)
 }
 
+/// New books in this database, or its store where they can't be made. In words of any store, as the others here: each
+/// call in those of two files takes the prover long.
+fn made_in<S: Alter + Drop>(
+    rt: &(impl Abort + AllocGlobal),
+    conn: Connection<S>,
+) -> Result<Tables<S>, S>
+    requires { HasNoTransaction conn }
+{
+    match Tables::create(rt.alloc(), conn, root(rt.alloc()).expect(rt, "a person")) {
+        Ok(books) => Ok(books),
+        Err(unopened) => Err(unopened.conn.into_store()),
+    }
+}
+
 /// New books on these disks, or what a crash leaves of the files where the disk stops before they are made.
 fn made_on<D: Crash + Drop>(
     rt: &(impl Abort + AllocGlobal),
@@ -67,10 +83,21 @@ fn made_on<D: Crash + Drop>(
         Ok(conn) => conn,
         Err((_, left)) => return Err(left.into_files()),
     };
-    match Tables::create(rt.alloc(), conn, root(rt.alloc()).expect(rt, "a person")) {
+    match made_in(rt, conn) {
         Ok(books) => Ok(books),
-        Err(unopened) => Err(unopened.conn.into_store().close()),
+        Err(store) => Err(store.close()),
     }
+}
+
+/// The books of this database, if it has books.
+fn opened_in<S: Alter + Drop>(
+    rt: &(impl Abort + AllocGlobal),
+    conn: Connection<S>,
+) -> Option<Tables<S>>
+    requires { HasNoTransaction conn }
+{
+    let root = root(rt.alloc()).expect(rt, "a person");
+    Tables::open(rt.alloc(), conn, root).ok()
 }
 
 /// The books that the next start finds after a power cut, if it finds any.
@@ -83,8 +110,7 @@ fn found_in<D: Crash + Drop>(
     let Ok(conn) = Connection::open_files(rt.alloc(), files, Options::new(7)) else {
         return None;
     };
-    let root = root(rt.alloc()).expect(rt, "a person");
-    Tables::open(rt.alloc(), conn, root).ok()
+    opened_in(rt, conn)
 }
 
 /// How many exchanges at the front were answered as expected, by the bytes that were written. Behind them no change was
@@ -135,25 +161,36 @@ fn served<B: Books + Drop>(
     (answered(rt, wanted, &written), left.into_books())
 }
 
-/// The books hold what was answered, or that and the call that was being served.
-fn check_held(
+/// The same over tables: the store that is left.
+fn served_from<S: Alter + Drop>(
     rt: &(impl Abort + AllocGlobal),
     wanted: &Exchanges,
-    found: &mut impl Books,
+    books: Tables<S>,
+) -> (usize, S) {
+    let (count, left) = served(rt, wanted, books);
+    (count, left.close().into_store())
+}
+
+/// There are books, and they hold what was answered, or that and the call that was being served.
+fn check_held<B: Books + Drop>(
+    rt: &(impl Abort + AllocGlobal),
+    wanted: &Exchanges,
+    found: Option<B>,
     count: usize,
 ) {
-    let is_kept = hold_first(rt, found, wanted, count);
-    let is_ahead = !is_kept && hold_first(rt, found, wanted, count.saturating_add(1));
+    let mut found = found.expect(rt, "books after the cut");
+    let is_kept = hold_first(rt, &mut found, wanted, count);
+    let is_ahead = !is_kept && hold_first(rt, &mut found, wanted, count.saturating_add(1));
     assert!(rt; is_kept || is_ahead, "after {count} answers");
 }
 
-/// Where books were begun that a crash left in these files, the next start finds them without a unit.
-fn check_begun<D: Crash + Drop>(
+/// Where there are books, they are without a unit.
+fn check_begun<B: Books + Drop>(
     rt: &(impl Abort + AllocGlobal),
     wanted: &Exchanges,
-    files: Files<D>,
+    found: Option<B>,
 ) {
-    if let Some(mut found) = found_in(rt, files) {
+    if let Some(mut found) = found {
         assert!(rt; hold_first(rt, &mut found, wanted, 0));
     }
 }
@@ -165,16 +202,13 @@ fn serves_and_survives<D: Crash + Drop>(
     wanted: &Exchanges,
     books: Tables<FileStore<D>>,
 ) -> usize {
-    let (count, left) = served(rt, wanted, books);
-    match found_in(rt, left.close().into_store().close()) {
-        Some(mut found) => check_held(rt, wanted, &mut found, count),
-        None => rt.panic("no books after the cut"),
-    }
+    let (count, left) = served_from(rt, wanted, books);
+    check_held(rt, wanted, found_in(rt, left.close()), count);
     count
 }
 
 /// One session on these disks, and then a power cut. Gives how many exchanges were answered; nothing was lost if all
-/// were.
+/// were. Where the books were only begun, the next start finds none or those without a unit.
 fn survives<D: Crash + Drop>(
     rt: &(impl Abort + AllocGlobal),
     wanted: &Exchanges,
@@ -184,7 +218,7 @@ fn survives<D: Crash + Drop>(
     match made_on(rt, log, db) {
         Ok(books) => serves_and_survives(rt, wanted, books),
         Err(files) => {
-            check_begun(rt, wanted, files);
+            check_begun(rt, wanted, found_in(rt, files));
             0
         }
     }

@@ -8,7 +8,7 @@ use plant_reopen::reopen;
 use plant_store::Tables;
 use plant_trials::{after, mirrored, root};
 use plant_types::limits::MAX_ROWS_AT_HAND;
-use sqlite::{Connection, FileStore, Files, Options};
+use sqlite::{Alter, Connection, FileStore, Files, Options};
 use sqlite_disk::{Disk, Memory};
 use std::process::Abort;
 
@@ -50,11 +50,9 @@ fn after_all_at_hand<B: Books + Drop>(
     after_all(rt, books, texts, title).into_books()
 }
 
-/// The books of an office with the first shelf, kept in these files.
-fn shelved<D: Disk + Drop>(
-    rt: &(impl Abort + AllocGlobal),
-    conn: Connection<FileStore<D>>,
-) -> Tables<FileStore<D>>
+/// The books of an office with the first shelf, kept in this database. In words of any store: each call in those of two
+/// files takes the prover long.
+fn shelved<S: Alter + Drop>(rt: &(impl Abort + AllocGlobal), conn: Connection<S>) -> Tables<S>
     requires { HasNoTransaction conn }
 {
     let root = root(rt.alloc()).expect(rt, "a person");
@@ -74,6 +72,17 @@ fn reopened<D: Disk + Drop>(
     again.expect(rt, "books again")
 }
 
+/// The office goes on from the first shelf.
+fn goes_on<B: Books + Drop>(rt: &(impl Abort + AllocGlobal), books: B) -> B {
+    after_all_at_hand(rt, books, &[LOOKED_AT, GOES_ON], "again")
+}
+
+/// The first shelf has ended, with rows at hand and without.
+fn has_ended<B: Books + Drop>(rt: &(impl Abort + AllocGlobal), books: B) {
+    let books = after_all_at_hand(rt, books, &[UNSHELVED], "once more");
+    drop(after_all(rt, books, &[UNSHELVED], "without rows at hand"));
+}
+
 /// In these files the first shelf is found again, twice, and the office goes on from there.
 fn finds_the_shelf_again<D: Disk + Drop>(
     rt: &(impl Abort + AllocGlobal),
@@ -81,11 +90,8 @@ fn finds_the_shelf_again<D: Disk + Drop>(
 )
     requires { HasNoTransaction conn }
 {
-    let books = reopened(rt, shelved(rt, conn));
-    let books = after_all_at_hand(rt, books, &[LOOKED_AT, GOES_ON], "again");
-    let books = reopened(rt, books);
-    let books = after_all_at_hand(rt, books, &[UNSHELVED], "once more");
-    drop(after_all(rt, books, &[UNSHELVED], "without rows at hand"));
+    let books = goes_on(rt, reopened(rt, shelved(rt, conn)));
+    has_ended(rt, reopened(rt, books));
 }
 
 #[test]

@@ -1,6 +1,7 @@
 //! A disk on which a sync fails: from then on each call is answered by a fault of the store.
 
 ghost use Rattle.std.specs.Prelude.{◌≡◌, ◌+◌, ◌&&◌, not};
+ghost use Rattle.plant_statements.specs.Reading.{HasNoTransaction};
 
 use plant_examples::{BASE, BEGIN, Exchanges, LOOKED_AT, Mark, SHELVED, between};
 use plant_model::{Answer, Call};
@@ -9,7 +10,7 @@ use plant_store::Tables;
 use plant_trials::{Calls, bytes_of, calls_of, mirrored, root, served, text};
 use plant_types::Fault;
 use plant_types::limits::MAX_ROWS_AT_HAND;
-use sqlite::{Connection, FileStore, Files, Options};
+use sqlite::{Alter, Connection, FileStore, Files, Options};
 use sqlite_disk::{Disk, Memory, Tally};
 use std::io;
 use std::process::Abort;
@@ -151,18 +152,31 @@ fn answered<B: Books>(
     count
 }
 
-/// The same of an office over these books with rows at hand.
+/// The same of an office over these books with rows at hand, if there are books.
 fn answered_at_hand<B: Books + Drop>(
     rt: &(impl Abort + AllocGlobal),
-    below: B,
+    below: Option<B>,
     wanted: &Exchanges,
     calls: &[Call],
-) -> usize {
+) -> Option<usize> {
+    let below = below?;
     let books = mirrored(rt.alloc(), below, MAX_ROWS_AT_HAND).expect(rt, "books with rows at hand");
     let mut office = Office::new(rt.alloc(), books);
     let count = answered(rt, &mut office, wanted, calls);
     drop(office.into_books());
-    count
+    Some(count)
+}
+
+/// New books in this database, if they can be made. In words of any store: each call in those of two files takes the
+/// prover long.
+fn made_in<S: Alter + Drop>(
+    rt: &(impl Abort + AllocGlobal),
+    conn: Connection<S>,
+) -> Option<Tables<S>>
+    requires { HasNoTransaction conn }
+{
+    let root = root(rt.alloc()).expect(rt, "a person");
+    Tables::create(rt.alloc(), conn, root).ok()
 }
 
 /// New books on these disks, if enough syncs succeed to make them.
@@ -174,12 +188,8 @@ fn made_on<D: Disk + Drop>(
     if !log.may_be_used() || !db.may_be_used() {
         rt.panic("no disk")
     }
-    let root = root(rt.alloc()).expect(rt, "a person");
-    let Ok(conn) = Connection::open_files(rt.alloc(), Files { log, db }, Options::new(7)) else {
-        return None;
-    };
-    match Tables::create(rt.alloc(), conn, root) {
-        Ok(books) => Some(books),
+    match Connection::open_files(rt.alloc(), Files { log, db }, Options::new(7)) {
+        Ok(conn) => made_in(rt, conn),
         Err(_) => None,
     }
 }
@@ -192,10 +202,7 @@ fn answered_on<D: Disk + Drop>(
     wanted: &Exchanges,
     calls: &[Call],
 ) -> Option<usize> {
-    match made_on(rt, log, db) {
-        Some(books) => Some(answered_at_hand(rt, books, wanted, calls)),
-        None => None,
-    }
+    answered_at_hand(rt, made_on(rt, log, db), wanted, calls)
 }
 
 /// How many offices answer a fault, where each sync of the log fails in turn until all calls are answered. To make
