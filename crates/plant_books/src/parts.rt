@@ -1,4 +1,4 @@
-ghost use Rattle.std.specs.Prelude.{◌≡◌, ◌<◌, ◌^◌, IfOk, filter, option_copied, true};
+ghost use Rattle.std.specs.Prelude.{◌≡◌, ◌<◌, ◌^◌, IfOk, OnOk, false, filter, option_copied, true};
 ghost use Rattle.plant_books.specs.{Asking.{alarms_wanted, IsApprovedBy, changes_by, events_wanted, grants_by, rows_by}, Contents.{without_history}};
 ghost use Rattle.plant_model.specs.steps.Parts.{counted_for, is_crowded as is_crowded_in, part_of as the_part, part_of_holder as holders_part, selected};
 ghost use Rattle.plant_model.specs.steps.{RowChanges.{no_rows}, RowFacts.{last_number as last_number_of}};
@@ -27,13 +27,28 @@ pub fn rows_but_history(alloc: Global, rows: &UnitRows) -> Result<UnitRows, Faul
     ensures value { IfOk result (λ copy. copy ≡ without_history rows.now) }
     ensures memory { OnlyMemory result }
 {
-    let mut copy = UnitRows::none(alloc);
-    copy.units = rows.units.copy(alloc)?;
-    copy.grants = rows.grants.copy(alloc)?;
-    copy.alarms = rows.alarms.copy(alloc)?;
-    copy.shelves = rows.shelves.copy(alloc)?;
-    copy.records = rows.records.copy(alloc)?;
-    Ok(copy)
+    let mut copies = UnitRows::none(alloc);
+    copy_but_history(alloc, rows, &mut copies)?;
+    Ok(copies)
+}
+
+/// Puts copies of a unit's rows but its history in place of others. It owns no list where a copy fails, as `put_asked`.
+fn copy_but_history(alloc: Global, rows: &UnitRows, copies: &mut UnitRows) -> Result<(), Fault>
+    ensures value { OnOk result (copies.new ≡ record copies.old {
+      units = rows.now.units;
+      grants = rows.now.grants;
+      alarms = rows.now.alarms;
+      shelves = rows.now.shelves;
+      records = rows.now.records;
+    }) }
+    ensures memory { OnlyMemory result }
+{
+    copies.units = rows.units.copy(alloc)?;
+    copies.grants = rows.grants.copy(alloc)?;
+    copies.alarms = rows.alarms.copy(alloc)?;
+    copies.shelves = rows.shelves.copy(alloc)?;
+    copies.records = rows.records.copy(alloc)?;
+    Ok(())
 }
 
 /// The grants that the call looks at: those of its caller, or of all persons.
@@ -133,6 +148,29 @@ fn matrices_asked(
     ))
 }
 
+/// Puts the rows that the scope takes in in place of others, list by list. A function that owns nine lists is proved for
+/// all of them at each copy that can fail; this one owns none.
+fn put_asked(
+    alloc: Global,
+    asked: &mut UnitRows,
+    rows: &UnitRows,
+    person: &Person,
+    scope: Scope<'_>,
+) -> Result<(), Fault>
+    ensures value { OnOk result (asked.new ≡ rows_by person.now rows.now scope.entry) }
+    ensures memory { OnlyMemory result }
+{
+    asked.units = rows.units.copy(alloc)?;
+    asked.grants = grants_asked(alloc, rows, person, scope)?;
+    asked.alarms = alarms_asked(alloc, &rows.alarms, &rows.shelves, wanted_alarms(scope))?;
+    asked.shelves = rows_wanted(alloc, &rows.shelves, &wanted_shelves(scope))?;
+    asked.events = events_asked(alloc, &rows.events, wanted_events(scope))?;
+    asked.records = rows_wanted(alloc, &rows.records, &wanted_records(scope))?;
+    (asked.bands, asked.cells) = matrices_asked(alloc, rows, scope)?;
+    asked.changes = changes_asked(alloc, rows, scope)?;
+    Ok(())
+}
+
 /// The rows that the scope takes in.
 fn rows_asked(
     alloc: Global,
@@ -144,14 +182,7 @@ fn rows_asked(
     ensures memory { OnlyMemory result }
 {
     let mut asked = UnitRows::none(alloc);
-    asked.units = rows.units.copy(alloc)?;
-    asked.grants = grants_asked(alloc, rows, person, scope)?;
-    asked.alarms = alarms_asked(alloc, &rows.alarms, &rows.shelves, wanted_alarms(scope))?;
-    asked.shelves = rows_wanted(alloc, &rows.shelves, &wanted_shelves(scope))?;
-    asked.events = events_asked(alloc, &rows.events, wanted_events(scope))?;
-    asked.records = rows_wanted(alloc, &rows.records, &wanted_records(scope))?;
-    (asked.bands, asked.cells) = matrices_asked(alloc, rows, scope)?;
-    asked.changes = changes_asked(alloc, rows, scope)?;
+    put_asked(alloc, &mut asked, rows, person, scope)?;
     Ok(asked)
 }
 
@@ -217,6 +248,7 @@ fn part_of_holder(alloc: Global, rows: &UnitRows, call: &Call) -> Result<UnitPar
     Ok(UnitPart {
         rows: rows_asked(alloc, rows, &call.person, scope_in(rows, &call.request))?,
         count,
+        held: true,
     })
 }
 
@@ -238,24 +270,20 @@ fn own_grants(
     Ok(Sorted::of(own))
 }
 
-/// A part of the unit's own row and the caller's grants, and of nothing else.
+/// The part of a caller who holds no role: the unit's own row, the caller's grants, and nothing else.
 pub fn part_of_grants(alloc: Global, units: List<UnitRow>, grants: Sorted<GrantRow>) -> UnitPart
     ensures rows { result.rows ≡ record no_rows { units = units; grants = grants } }
     ensures count { result.count ≡ 0 }
+    ensures held { result.held ≡ false }
 {
     UnitPart {
         rows: UnitRows {
             units,
             grants,
-            alarms: Sorted::new(alloc),
-            shelves: Sorted::new(alloc),
-            events: Sorted::new(alloc),
-            bands: Sorted::new(alloc),
-            cells: Sorted::new(alloc),
-            records: Sorted::new(alloc),
-            changes: Sorted::new(alloc),
+            ..UnitRows::none(alloc)
         },
         count: 0,
+        held: false,
     }
 }
 

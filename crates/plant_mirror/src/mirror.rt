@@ -10,9 +10,7 @@ use crate::at_hand::AtHand;
 use crate::copies::Copies;
 use plant_alarm::Event;
 use plant_books::{Books, MineRow, MineUnit, part_of, rows_but_history};
-use plant_model::{
-    Call, Changes, UnitPart, UnitRows, holds_some_by, looks_at_events, looks_at_reviews,
-};
+use plant_model::{Call, Changes, UnitPart, UnitRows, looks_at_events, looks_at_reviews};
 use plant_types::limits::MAX_ROWS_AT_HAND;
 use plant_types::{Fault, List, Moment, Person, Sorted, TryCopy, UnitCode};
 use std::alloc::Global;
@@ -235,11 +233,11 @@ impl<B: Books> Mirror<B> {
     }
 
     /// Makes the unit the one last used, where its rows are at hand and the caller holds a role in it.
-    fn touch_for(&mut self, unit: &UnitCode, part: &UnitPart, call: &Call)
+    fn touch_for(&mut self, unit: &UnitCode, part: &UnitPart)
         ensures kept { (m : Content) → Mirrors B.Books self.old m → Mirrors B.Books self.new m }
         ensures below { self.new.books ≡ self.old.books }
     {
-        if holds_some_by(&part.rows.grants, &call.person, call.moment) {
+        if part.held {
             self.copies.touch(unit);
         }
     }
@@ -252,7 +250,7 @@ impl<B: Books> Mirror<B> {
         ensures leaves { Leaves B.Books result self.old self.new }
     {
         if let Some(part) = self.ready_part(unit, call)? {
-            self.touch_for(unit, &part, call);
+            self.touch_for(unit, &part);
             return Ok(Some(part));
         }
         self.prepare(unit, call)?;

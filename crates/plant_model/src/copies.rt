@@ -1,4 +1,4 @@
-ghost use Rattle.std.specs.Prelude.{◌≡◌, IfOk};
+ghost use Rattle.std.specs.Prelude.{◌≡◌, IfOk, OnOk};
 ghost use Rattle.plant_model.specs.steps.RowChanges.{no_rows};
 ghost use Rattle.plant_types.specs.Results.{OnlyMemory};
 
@@ -28,8 +28,7 @@ impl UnitRows {
     }
 }
 
-/// The same three values again. Lists are copied three at a time, since a function that holds nine where a copy can fail
-/// is proved once for each of them at each failure.
+/// The same three values again: a function that owns more is proved for all of them at each copy that can fail.
 fn copy_three<A: TryCopy, B: TryCopy, C: TryCopy>(
     alloc: Global,
     first: &A,
@@ -43,19 +42,29 @@ fn copy_three<A: TryCopy, B: TryCopy, C: TryCopy>(
     Ok((first.copy(alloc)?, second.copy(alloc)?, third.copy(alloc)?))
 }
 
+/// Puts copies of the rows in place of others, list by list. A function that owns nine lists is proved for all of them at
+/// each copy that can fail; this one owns none.
+fn copy_over(alloc: Global, rows: &UnitRows, copies: &mut UnitRows) -> Result<(), Fault>
+    ensures value { OnOk result (copies.new ≡ rows.now) }
+    ensures memory { OnlyMemory result }
+{
+    copies.units = rows.units.copy(alloc)?;
+    copies.grants = rows.grants.copy(alloc)?;
+    copies.alarms = rows.alarms.copy(alloc)?;
+    copies.shelves = rows.shelves.copy(alloc)?;
+    copies.events = rows.events.copy(alloc)?;
+    copies.bands = rows.bands.copy(alloc)?;
+    copies.cells = rows.cells.copy(alloc)?;
+    copies.records = rows.records.copy(alloc)?;
+    copies.changes = rows.changes.copy(alloc)?;
+    Ok(())
+}
+
 impl TryCopy for UnitRows {
     fn copy(&self, alloc: Global) -> Result<UnitRows, Fault> {
-        let mut rows = UnitRows::none(alloc);
-        rows.units = self.units.copy(alloc)?;
-        rows.grants = self.grants.copy(alloc)?;
-        rows.alarms = self.alarms.copy(alloc)?;
-        rows.shelves = self.shelves.copy(alloc)?;
-        rows.events = self.events.copy(alloc)?;
-        rows.bands = self.bands.copy(alloc)?;
-        rows.cells = self.cells.copy(alloc)?;
-        rows.records = self.records.copy(alloc)?;
-        rows.changes = self.changes.copy(alloc)?;
-        Ok(rows)
+        let mut copies = UnitRows::none(alloc);
+        copy_over(alloc, self, &mut copies)?;
+        Ok(copies)
     }
 }
 

@@ -162,12 +162,14 @@ pub struct UnitRows {
     pub changes: Sorted<ChangeEntry>,
 }
 
-/// The rows that one call looks at, and how many alarms, changes or events the unit has, whichever the call needs. A
-/// unit that has more than a count can say has no part; no unit of a legal history has.
+/// The rows that one call looks at; how many alarms, changes or events the unit has, whichever the call needs; and
+/// whether the caller holds a role in the unit. A unit that has more than a count can say has no part; no unit of a legal
+/// history has.
 #[derive(Drop)]
 pub struct UnitPart {
     pub rows: UnitRows,
     pub count: u32,
+    pub held: bool,
 }
 
 /// A row of one of the tables.

@@ -1,10 +1,10 @@
 -- What serving a call says, and leaves of the books.
-use Rattle.std.specs.Prelude.{IfOk, OnErr, Result, false, ◌≡◌}
-use Rattle.plant_books.specs.{Contents.{Content}, Counting.{Counts}, declared.books.Books.{Ghosts}}
-use Rattle.plant_model.specs.{Verdicts.{changes_history}, Worlds.{IsLegalWorld, World}, declared.{call.Call.{Call}, reply.Refused.{Refused}}}
-use Rattle.plant_model.specs.declared.reply.Reply.{Reply}
+use Rattle.std.specs.Prelude.{IfOk, OnErr, Option, Result, Some, false, ◌≡◌}
+use Rattle.plant_books.specs.{Books.{Keeps, WasHonest}, Contents.{Content, part_in}, Counting.{Counts}, Crashes.{LosesNothing}, declared.books.Books.{Ghosts}}
+use Rattle.plant_model.specs.{Verdicts.{changes_history}, Worlds.{IsLegalWorld, World, unit_named}, declared.{call.Call.{Call}, reply.Refused.{Refused}}}
+use Rattle.plant_model.specs.declared.{reply.Reply.{Reply}, rows.UnitPart.{UnitPart}}
 use Rattle.plant_office.specs.{Answers.{answer_as}, Enduring.{Endures, books_state}, Served.{Holds, IsServed}}
-use Rattle.plant_types.specs.declared.fault.Fault.{Fault}
+use Rattle.plant_types.specs.{Names.{Name}, declared.fault.Fault.{Fault}}
 
 -- the answer is that of the world whose rows the books hold; after a fault, a refusal or a reply to a read the books
 -- are unchanged
@@ -20,3 +20,12 @@ pub record Serves {B : Type 0} (books : Ghosts B) (c : Call) (said : Result (Res
   pub count : Counts (books.stores before) (books.stores after) said
   -- and so does a crash
   pub endures : Endures c (answer_as said) (books_state books before) (books_state books after)
+
+-- the books gave this part of a unit's rows for a call, and hold what they held
+pub record HaveRead {B : Type 0} (books : Ghosts B) (before after : B) (c : Call) (part : Option UnitPart) : Type 0 where
+  pub found : (m : Content) → books.represents before m → books.is_honest after → (u : Name)
+      → unit_named c.request ≡ Some u → part ≡ part_in m c u
+  pub same : Keeps books.represents before after
+  pub honest : WasHonest books.is_honest before after
+  pub crash : LosesNothing books.represents books.is_honest books.is_clean books.leaves_books books.may_leave before after
+  pub count : books.stores after ≡ books.stores before

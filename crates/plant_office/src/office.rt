@@ -7,7 +7,7 @@ ghost use Rattle.plant_model.specs.{Views.{view}, Worlds.{World, IsLegalWorld, u
 ghost use Rattle.plant_model.specs.declared.rows.UnitRows.{UnitRows};
 ghost use Rattle.plant_office.specs.{Answers.{CountsAnswer, IfSaid, OnFault, answer_as, reply_or_fault}, Lines.{line_of_mine, line_of_shelf}};
 ghost use Rattle.plant_office.specs.Enduring.{EnduresAll, EnduresSettled, books_state};
-ghost use Rattle.plant_office.specs.{Runs.{AllChangeNothing, EachKeepsUnchanged, IsRun, stores_in}, Served.{Holds, IsIsolated, IsServed}, Serves.{Serves}};
+ghost use Rattle.plant_office.specs.{Runs.{AllChangeNothing, EachKeepsUnchanged, IsRun, stores_in}, Served.{Holds, IsIsolated, IsServed}, Serves.{HaveRead, Serves}};
 
 use plant_books::{Books, MineRow, MineUnit};
 use plant_model::{
@@ -198,23 +198,39 @@ impl<B: Books> Office<B> {
         }))
     }
 
-    fn serve_unit(&mut self, unit: &UnitCode, call: &Call) -> Result<Result<Reply, Refused>, Fault>
+    /// Serves a call on a unit from the part of its rows that the books gave, and does not own: a function that owns rows is
+    /// proved for all of them at each of its ends.
+    fn serve_part(
+        &mut self,
+        unit: &UnitCode,
+        part: &Option<UnitPart>,
+        call: &Call,
+    ) -> Result<Result<Reply, Refused>, Fault>
         requires named { unit_named call.now.request ≡ Some unit.now }
         requires plain { is_opening call.now.request ≡ false }
-        ensures serves { Serves B.Books call.now result self.old.books self.new.books }
+        ensures serves { (before : B) → HaveRead B.Books before self.old.books call.now part.now
+            → Serves B.Books call.now result before self.new.books }
     {
         note_matrix(&call.request);
-        let part = self.books.part(call)?;
         match judge(self.alloc, part.as_ref(), call)? {
             Verdict::Refused(refused) => Ok(Err(refused)),
             Verdict::Accepted(reply, mut changes) => {
                 if is_read(&call.request) {
                     return Ok(Ok(reply));
                 }
-                leave_out_same(&part, &mut changes);
-                reply_if_made(self.books.apply(unit, &changes, rows_in(&part)), reply)
+                leave_out_same(part, &mut changes);
+                reply_if_made(self.books.apply(unit, &changes, rows_in(part)), reply)
             }
         }
+    }
+
+    fn serve_unit(&mut self, unit: &UnitCode, call: &Call) -> Result<Result<Reply, Refused>, Fault>
+        requires named { unit_named call.now.request ≡ Some unit.now }
+        requires plain { is_opening call.now.request ≡ false }
+        ensures serves { Serves B.Books call.now result self.old.books self.new.books }
+    {
+        let part = self.books.part(call)?;
+        self.serve_part(unit, &part, call)
     }
 
     fn serve_opening(

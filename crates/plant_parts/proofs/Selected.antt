@@ -92,9 +92,9 @@ module _ (s : State) (m : Content) (u : Name) (k : HasContent s m) where
 
   pub stranger_found : (c : Call) (units : List UnitRow) → units ≡ rows_seen u s.now.trees Units → has_any units ≡ true → (own : List GrantRow)
       → own ≡ filter (λ g. same_name c.person g.person) (rows_seen u s.now.trees Grants) → holds_by own c.moment c.person ≡ false
-      → (part : UnitPart) → part.rows ≡ record no_rows { units = units; grants = own } → part.count ≡ 0
+      → (part : UnitPart) → part.rows ≡ record no_rows { units = units; grants = own } → part.count ≡ 0 → part.held ≡ false
       → ◌≡◌ {A = Option UnitPart} (Some part) (part_in m c u)
-  stranger_found c units us any own os held part rows none =
+  stranger_found c units us any own os held part rows none lacks =
       let whole : ◌≡◌ {A = UnitPart} part (part_of_stranger c (rows_in m u)) = λ i. record {
         rows = (rows
             ∙ (λ j. record no_rows {
@@ -102,6 +102,7 @@ module _ (s : State) (m : Content) (u : Name) (k : HasContent s m) where
               grants = (os ∙ ap (filter (λ (g : GrantRow). same_name c.person g.person)) (k.seen u Grants)) j;
             })) i;
         count = none i;
+        held = lacks i;
       } in
       ap Some (whole
       ∙ sym (ap (λ b. if b then part_of_holder c (rows_in m u) else part_of_stranger c (rows_in m u)) (sym (own_tell c own os) ∙ held)))

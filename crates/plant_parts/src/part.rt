@@ -290,6 +290,37 @@ fn matrices<S: Alter>(
     Ok((bands, cells))
 }
 
+/// Reads the rows of a caller's part beside the unit's own row and the grants, which were read before. It gives the count
+/// that the request needs, and owns no list where a query fails. The scope takes in what the call looks at.
+fn read_in_scope<S: Alter>(
+    alloc: Global,
+    conn: &mut Connection<S>,
+    unit: &UnitCode,
+    call: &Call,
+    scope: Scope<'_>,
+    rows: &mut UnitRows,
+) -> Result<u32, Error>
+    requires { HasNoTransaction conn.old }
+    ensures mode { HasNoTransaction conn.new }
+    ensures found { IsHonest (state S.Store conn.new) → (m : Content)
+        → HasContent (state S.Store conn.old) m
+        → selection_by (rows_in m unit.now) scope.entry ≡ selected (rows_in m unit.now) call.now.request
+        → rows.old.units ≡ (rows_in m unit.now).units
+        → IfOk result (λ count. (count ≡ counted_for (rows_in m unit.now) call.now.request)
+        × (rows.new ≡ record (part_of_holder call.now (rows_in m unit.now)).rows {
+          units = rows.old.units;
+          grants = rows.old.grants;
+        })) }
+    ensures reads { IsOnlyRead S.Store conn.old conn.new }
+{
+    (rows.alarms, rows.shelves) = alarms_and_shelves(alloc, conn, unit, scope)?;
+    let (events, count) = events_and_count(alloc, conn, unit, &call.request, scope)?;
+    rows.events = events;
+    (rows.records, rows.changes) = records_and_changes(alloc, conn, unit, scope)?;
+    (rows.bands, rows.cells) = matrices(alloc, conn, unit, &rows.units, scope)?;
+    Ok(count)
+}
+
 /// The part of a caller who holds a role, with the unit's own row and the grants of the part, which were read before. The
 /// scope takes in what the call looks at.
 fn part_in_scope<S: Alter>(
@@ -311,23 +342,16 @@ fn part_in_scope<S: Alter>(
         → IfOk result (λ part. part ≡ part_of_holder call.now (rows_in m unit.now)) }
     ensures reads { IsOnlyRead S.Store conn.old conn.new }
 {
-    let (alarms, shelves) = alarms_and_shelves(alloc, conn, unit, scope)?;
-    let (events, count) = events_and_count(alloc, conn, unit, &call.request, scope)?;
-    let (records, changes) = records_and_changes(alloc, conn, unit, scope)?;
-    let (bands, cells) = matrices(alloc, conn, unit, &units, scope)?;
+    let mut rows = UnitRows {
+        units,
+        grants,
+        ..UnitRows::none(alloc)
+    };
+    let count = read_in_scope(alloc, conn, unit, call, scope, &mut rows)?;
     Ok(UnitPart {
-        rows: UnitRows {
-            units,
-            grants,
-            alarms,
-            shelves,
-            events,
-            bands,
-            cells,
-            records,
-            changes,
-        },
+        rows,
         count,
+        held: true,
     })
 }
 

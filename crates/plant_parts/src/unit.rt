@@ -1,8 +1,9 @@
 //! The rows of one unit: all of them, or all but its history, or its events alone.
 
-ghost use Rattle.std.specs.{FinMap.{contains_key, get}, Prelude.{◌≡◌}};
-ghost use Rattle.plant_books.specs.Contents.{events_in, rows_but_history as all_but_history, rows_in, with_history_of};
-ghost use Rattle.plant_statements.specs.{Keeping.{has_any}, Reading.{HasNoTransaction, IsOnlyRead, ReadsContent}};
+ghost use Rattle.std.specs.{FinMap.{contains_key, get}, Prelude.{◌≡◌, OnOk}};
+ghost use Rattle.sqlite.specs.Held.{state};
+ghost use Rattle.plant_books.specs.Contents.{Content, events_in, rows_but_history as all_but_history, rows_in, with_history_of};
+ghost use Rattle.plant_statements.specs.{Changes.{IsHonest}, Keeping.{HasContent, has_any}, Reading.{HasNoTransaction, IsOnlyRead, ReadsContent}};
 
 use plant_alarm::Event;
 use plant_model::{UnitRow, UnitRows};
@@ -35,6 +36,32 @@ pub fn taken<S: Alter>(
     Ok(has_row(&units))
 }
 
+/// Reads the rows of the unit beside its own row and its history. It owns no list where a query fails: a function that owns
+/// many is proved for all of them at each.
+fn read_standing<S: Alter>(
+    alloc: Global,
+    conn: &mut Connection<S>,
+    unit: &UnitCode,
+    rows: &mut UnitRows,
+) -> Result<(), Error>
+    requires { HasNoTransaction conn.old }
+    ensures mode { HasNoTransaction conn.new }
+    ensures found { IsHonest (state S.Store conn.new) → (m : Content)
+        → HasContent (state S.Store conn.old) m → OnOk result (rows.new ≡ record rows.old {
+          grants = (rows_in m unit.now).grants;
+          alarms = (rows_in m unit.now).alarms;
+          shelves = (rows_in m unit.now).shelves;
+          records = (rows_in m unit.now).records;
+        }) }
+    ensures reads { IsOnlyRead S.Store conn.old conn.new }
+{
+    rows.grants = sorted_rows(alloc, conn, unit)?;
+    rows.alarms = sorted_rows(alloc, conn, unit)?;
+    rows.shelves = sorted_rows(alloc, conn, unit)?;
+    rows.records = sorted_rows(alloc, conn, unit)?;
+    Ok(())
+}
+
 /// All rows of the unit but its history, where it was opened.
 pub fn rows_but_history<S: Alter>(
     alloc: Global,
@@ -51,21 +78,10 @@ pub fn rows_but_history<S: Alter>(
     if !has_row(&units) {
         return Ok(None);
     }
-    let grants = sorted_rows(alloc, conn, unit)?;
-    let alarms = sorted_rows(alloc, conn, unit)?;
-    let shelves = sorted_rows(alloc, conn, unit)?;
-    let records = sorted_rows(alloc, conn, unit)?;
-    Ok(Some(UnitRows {
-        units,
-        grants,
-        alarms,
-        shelves,
-        events: Sorted::new(alloc),
-        bands: Sorted::new(alloc),
-        cells: Sorted::new(alloc),
-        records,
-        changes: Sorted::new(alloc),
-    }))
+    let mut rows = UnitRows::none(alloc);
+    rows.units = units;
+    read_standing(alloc, conn, unit, &mut rows)?;
+    Ok(Some(rows))
 }
 
 /// All events of the unit, none where it was never opened.
@@ -82,30 +98,25 @@ pub fn events<S: Alter>(
     sorted_rows(alloc, conn, unit)
 }
 
-/// The rows with the unit's history.
-fn with_history<S: Alter>(
+/// Reads the unit's history.
+fn read_history<S: Alter>(
     alloc: Global,
     conn: &mut Connection<S>,
     unit: &UnitCode,
-    rows: UnitRows,
-) -> Result<UnitRows, Error>
+    rows: &mut UnitRows,
+) -> Result<(), Error>
     requires { HasNoTransaction conn.old }
     ensures mode { HasNoTransaction conn.new }
-    ensures found { ReadsContent S.Store conn.old conn.new result
-        (λ m. with_history_of (rows_in m unit.now) rows) }
+    ensures found { IsHonest (state S.Store conn.new) → (m : Content)
+        → HasContent (state S.Store conn.old) m
+        → OnOk result (rows.new ≡ with_history_of (rows_in m unit.now) rows.old) }
     ensures reads { IsOnlyRead S.Store conn.old conn.new }
 {
-    let bands = sorted_rows(alloc, conn, unit)?;
-    let cells = sorted_rows(alloc, conn, unit)?;
-    let changes = sorted_rows(alloc, conn, unit)?;
-    let events = sorted_rows(alloc, conn, unit)?;
-    Ok(UnitRows {
-        bands,
-        cells,
-        changes,
-        events,
-        ..rows
-    })
+    rows.bands = sorted_rows(alloc, conn, unit)?;
+    rows.cells = sorted_rows(alloc, conn, unit)?;
+    rows.changes = sorted_rows(alloc, conn, unit)?;
+    rows.events = sorted_rows(alloc, conn, unit)?;
+    Ok(())
 }
 
 /// All rows of the unit, where it was opened.
@@ -122,6 +133,9 @@ pub fn rows_of<S: Alter>(
 {
     match rows_but_history(alloc, conn, unit)? {
         None => Ok(None),
-        Some(rows) => Ok(Some(with_history(alloc, conn, unit, rows)?)),
+        Some(mut rows) => {
+            read_history(alloc, conn, unit, &mut rows)?;
+            Ok(Some(rows))
+        }
     }
 }

@@ -2,13 +2,13 @@
 #![tactic(auto)]
 
 ghost use Rattle.std.specs.Prelude.{◌≡◌, IfSome};
-ghost use Rattle.sqlite.specs.Files.{file_state};
+ghost use Rattle.sqlite.specs.{Files.{file_state}, Held.{state}};
 ghost use Rattle.plant_books.specs.Contents.{Content};
 ghost use Rattle.plant_statements.specs.{Keeping.{Represents}, Reading.{HasNoTransaction}};
 
 use plant_store::Tables;
 use plant_types::Person;
-use sqlite::{Connection, FileStore, Options};
+use sqlite::{Alter, Connection, FileStore, Options};
 use sqlite_disk::Disk;
 use std::alloc::Global;
 
@@ -38,6 +38,24 @@ fn reopen_files<D: Disk + Drop>(
     }
 }
 
+/// Opens the books of a database again. In words of any store, since each call in those of two files takes the prover
+/// long.
+fn open_again<S: Alter + Drop>(
+    alloc: Global,
+    conn: Connection<S>,
+    admin: Person,
+) -> Option<Tables<S>>
+    requires { HasNoTransaction conn }
+    ensures fresh { IfSome result (λ again. (again.0.1 ≡ admin) × (again.1 ≡ 0)) }
+    ensures kept { (m : Content) → Represents (state S.Store conn) m → m.admin ≡ admin
+        → IfSome result (λ again. (again.0.1 ≡ m.admin) × Represents (state S.Store again.0.0) m) }
+{
+    match Tables::open(alloc, conn, admin) {
+        Ok(again) => Some(again),
+        Err(_) => None,
+    }
+}
+
 /// Closes books that are kept in files, and opens them again for the same administrator. What they held is found again;
 /// faults are counted anew.
 pub fn reopen<D: Disk + Drop>(
@@ -52,8 +70,5 @@ pub fn reopen<D: Disk + Drop>(
         → IfSome result (λ again. (again.0.1 ≡ m.admin) × Represents (file_state again.0.0) m) }
 {
     let conn = reopen_files(alloc, tables.close(), options)?;
-    match Tables::open(alloc, conn, admin) {
-        Ok(again) => Some(again),
-        Err(_) => None,
-    }
+    open_again(alloc, conn, admin)
 }

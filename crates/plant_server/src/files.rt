@@ -7,17 +7,21 @@ ghost use Rattle.sqlite_std_file.specs.File.{IsFresh};
 ghost use Rattle.sqlite_store.specs.FileStore.{view};
 ghost use Rattle.sqlite_wal.specs.Files.{image_at};
 ghost use Rattle.sqlite_wal.specs.Reads.{AreClean};
-ghost use Rattle.plant_books.specs.Contents.{Content, no_units};
+ghost use Rattle.sqlite.specs.Held.{state};
+ghost use Rattle.plant_books.specs.{Books.{WasHonest}, Contents.{Content, no_units}};
+ghost use Rattle.plant_columns.specs.Tables.{schema_no};
 ghost use Rattle.plant_server.specs.{Crashes.{HoldWholeBooks, LeavesOnly}, Files.{HoldBooks, HoldDatabase}};
-ghost use Rattle.plant_statements.specs.{Changes.{IsHonest}, Keeping.{Represents}, Reading.{HasNoTransaction}};
-ghost use Rattle.plant_store.specs.Opening.{IsThisOffice};
+ghost use Rattle.plant_statements.specs.{Changes.{IsHonest}, Keeping.{LeavesAlike, Represents}, Reading.{HasNoTransaction, IsHonestIn}};
+ghost use Rattle.plant_store.specs.{Opened.{KeepsIfOk, WasOffice}, Opening.{IsThisOffice}};
 ghost use Rattle.plant_server.specs.Files as files;
 
 use crate::openings::open_at;
 use crate::remains::close_whole;
 use plant_store::{StoreFault, Tables};
 use plant_types::{Fault, Person};
-use sqlite::{Connection, Error, ErrorCode, File, FileFrom, FileStore, Leftover, Start, Unknown};
+use sqlite::{
+    Alter, Connection, Error, ErrorCode, File, FileFrom, FileStore, Leftover, Start, Unknown,
+};
 use sqlite_disk::{Disk, Files};
 use sqlite_trees::error::StoreError;
 use std::alloc::Global;
@@ -70,6 +74,26 @@ pub fn connect<S: Start>(
     }
 }
 
+/// The books of a database, in words of any store.
+fn open_books<S: Alter + Drop>(
+    alloc: Global,
+    conn: Connection<S>,
+    admin: Person,
+) -> Result<Tables<S>, StoreFault>
+    requires { HasNoTransaction conn }
+    ensures fresh { IfOk result (λ t. (t.0.1 ≡ admin) × (t.1 ≡ 0)) }
+    ensures kept { KeepsIfOk S.Store conn result (λ t. t.0.0) }
+    ensures crash { (m : Content) → Represents (state S.Store conn) m
+        → IfOk result (λ t. LeavesAlike (state S.Store conn) (state S.Store t.0.0) m) }
+    ensures honest { IfOk result (λ t. WasHonest (IsHonestIn S.Store) conn t.0.0) }
+    ensures office { IfOk result (λ t. WasOffice S.Store conn t.0.0 schema_no admin) }
+{
+    match Tables::open(alloc, conn, admin) {
+        Ok(books) => Ok(books),
+        Err(unopened) => Err(unopened.fault),
+    }
+}
+
 /// The books of a database that is there. Where its files held books with some content, that is what these hold; of any
 /// other database none are opened but where it is this person's office.
 fn open_file<S: Start>(
@@ -90,9 +114,9 @@ fn open_file<S: Start>(
         × (IsCleanLeft left → LeavesFiles opened left))) }
 {
     let conn = connect(rt, path, start)?;
-    match Tables::open(rt.alloc(), conn, admin) {
+    match open_books(rt.alloc(), conn, admin) {
         Ok(books) => Ok(books),
-        Err(unopened) => Err((unopened.fault, None)),
+        Err(fault) => Err((fault, None)),
     }
 }
 
@@ -145,6 +169,21 @@ pub fn remove(rt: &HostRuntime, path: &str) -> Result<(), StoreFault> {
     }
 }
 
+/// Makes new books in a new database, in words of any store.
+fn create_books<S: Alter + Drop>(
+    alloc: Global,
+    conn: Connection<S>,
+    admin: Person,
+) -> Result<Tables<S>, StoreFault>
+    requires { HasNoTransaction conn }
+    ensures { IfOk result (λ books. Represents (state S.Store books.0.0) (no_units admin)) }
+{
+    match Tables::create(alloc, conn, admin) {
+        Ok(books) => Ok(books),
+        Err(unopened) => Err(unopened.fault),
+    }
+}
+
 /// Makes new books in a new database, and closes it.
 fn make_over<D: Disk + Drop>(
     alloc: Global,
@@ -155,9 +194,9 @@ fn make_over<D: Disk + Drop>(
     ensures { IfOk result (λ files. AreClean D.Disk files.log files.db
         → HoldWholeBooks D.Disk files (no_units admin)) }
 {
-    match Tables::create(alloc, conn, admin) {
+    match create_books(alloc, conn, admin) {
         Ok(books) => close_new(books),
-        Err(unopened) => Err(unopened.fault),
+        Err(fault) => Err(fault),
     }
 }
 

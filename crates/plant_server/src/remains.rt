@@ -1,9 +1,9 @@
 //! What serving leaves of the files of books.
 
 ghost use Rattle.std.specs.Prelude.{◌≡◌, IfOk, IsTrue, List};
-ghost use Rattle.sqlite.specs.{Files.{file_state}, State.{HasCleanDisk}};
+ghost use Rattle.sqlite.specs.{Files.{file_state}, Held.{AreDatabases, state}, State.{HasCleanDisk, IsLive}};
 ghost use Rattle.sqlite_store.specs.FileStore.{view};
-ghost use Rattle.sqlite_trees.specs.View.{IsClean};
+ghost use Rattle.sqlite_trees.specs.View.{IsClean, IsQuiet, IsRolledBack as IsUndone};
 ghost use Rattle.sqlite_wal.specs.Reads.{AreClean};
 ghost use Rattle.plant_books.specs.Contents.{Content};
 ghost use Rattle.plant_model.specs.{Worlds.{World}, declared.{call.Call.{Call}, reply.Answer.{Answer}}};
@@ -12,10 +12,28 @@ ghost use Rattle.plant_server.specs.Crashes.{HoldCommitted, HoldWholeBooks, Hold
 ghost use Rattle.plant_statements.specs.Keeping.{LeavesBooks, LeavesContent, Represents};
 
 use plant_store::Tables;
-use sqlite::FileStore;
+use sqlite::{Alter, FileStore};
 use sqlite_disk::{Disk, Files};
 use sqlite_trees::error::StoreError;
 use sqlite_trees::store::Store;
+
+/// Gives the store of the books back. In words of any store, since each call in those of two files takes the prover long.
+fn store_of<S: Alter + Drop>(books: Tables<S>) -> S
+    ensures numbered { IsClean (S.Store.view result) → IsTrue (S.Store.view result).is_numbered }
+    ensures sound { IsClean (S.Store.view result) → AreDatabases (S.Store.recovers result) }
+    ensures undone { IsUndone (S.Store.view books.0.0.store) (S.Store.view result) }
+    ensures quiet { IsQuiet S.Store.view S.Store.faults S.Store.recovers S.Store.is_shielded
+        books.0.0.store result }
+    ensures live { IsLive (state S.Store books.0.0) }
+    ensures settled { IsTrue (state S.Store books.0.0).is_open
+        → (state S.Store books.0.0).now ≡ (state S.Store books.0.0).committed }
+{
+    let conn = books.close();
+    // Tell the proof that there is a database, and that all of it is committed; the values are not used.
+    let _live = conn.schema();
+    let _settled = conn.is_autocommit();
+    conn.into_store()
+}
 
 /// Gives the store of the books back, as serving left it. Whatever a crash leaves of it now, these books may leave.
 pub fn leave<D: Disk + Drop>(books: Tables<FileStore<D>>) -> FileStore<D>
@@ -28,8 +46,11 @@ pub fn leave<D: Disk + Drop>(books: Tables<FileStore<D>>) -> FileStore<D>
         → LeavesBooks (file_state books.0.0)
         → ((x : Content) → LeavesContent (file_state books.0.0) x → IsOutcome w calls answers x)
         → LeavesOutcomes result w calls answers }
+    ensures live { IsLive (file_state books.0.0) }
+    ensures settled { IsTrue (file_state books.0.0).is_open
+        → (file_state books.0.0).now ≡ (file_state books.0.0).committed }
 {
-    books.close().into_store()
+    store_of(books)
 }
 
 /// Copies the log into the file, and gives the two files back, or the store as it is where that fails.
@@ -67,9 +88,5 @@ pub fn close_whole<D: Disk + Drop>(
         → IfOk result (λ files. AreClean D.Disk files.log files.db
         → HoldWholeBooks D.Disk files m) }
 {
-    let conn = books.close();
-    // Tell the proof that there is a database, and that all of it is committed; the values are not used.
-    let _live = conn.schema();
-    let _settled = conn.is_autocommit();
-    copy_log(conn.into_store())
+    copy_log(leave(books))
 }

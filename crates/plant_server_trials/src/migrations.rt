@@ -102,10 +102,16 @@ fn answers_over_a_migrated_store(rt: HostRuntime) {
     drop(after(rt.alloc(), newer(&rt), requests, answers).expect(&rt, "migrated"));
 }
 
+/// Makes a store of schema 1, and lets it go. In words of any store: each call in those of two files takes the prover long.
+fn fill_and_leave<S: Alter + Drop>(stop: &impl Abort, conn: Connection<S>, statements: &str) {
+    let mut conn = conn;
+    fill(stop, &mut conn, statements);
+}
+
 /// Makes a file with a store of schema 1, after these statements. Its rows are still in the log, beside it.
 fn make_older(stop: &impl Abort, rt: &HostRuntime, path: &str, statements: &str) {
-    let mut conn = Connection::open(rt, path).expect(stop, "a file");
-    fill(stop, &mut conn, statements);
+    let conn = Connection::open(rt, path).expect(stop, "a file");
+    fill_and_leave(stop, conn, statements);
 }
 
 /// A name with an ending.

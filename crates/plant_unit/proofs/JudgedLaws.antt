@@ -12,9 +12,9 @@ use Rattle.plant_model.specs.declared.{call.Request.TheVariants.{Floods, Import,
 use Rattle.plant_model.specs.declared.{reply.Reply.TheVariants.{Done}, rows.{RowEdit.{RowEdit}, UnitPart.{UnitPart}, UnitRows.{UnitRows}}}
 use Rattle.plant_model.specs.declared.rows.Verdict.{Verdict, TheVariants.{Accepted as IsAccepted, Refused as IsRefused}}
 use Rattle.plant_model.proofs.public.{AcceptLaws.{accepted_turns}, ChangeLaws.{opening_turns}, WorldLaws.{not_granted, refused_changes}}
-use Rattle.plant_model.proofs.public.{PartLaws.{part_changes, part_verdict, stranger_verdict}, ReadLaws.{facts-rows}}
+use Rattle.plant_model.proofs.public.{PartLaws.{part_changes, part_held, part_verdict, stranger_verdict}, ReadLaws.{facts-rows}}
 use Rattle.plant_types.specs.{Names.{Name}, declared.fault.Fault.{Fault}}
-use Rattle.plant_unit.specs.{Additions.{AreEventsFor, AreKept}, Judged.{IsJudged, IsOpening, IsPartOf, IsVerdictOn, is_import}}
+use Rattle.plant_unit.specs.{Additions.{AreEventsFor, AreKept}, Judged.{IsJudged, IsOpening, IsPartOf, IsVerdictOn, SaysHeld, is_import}}
 use Rattle.plant_unit.proofs.KeptLaws.{part_events, part_kept_of}
 use Rattle.plant_alarm.specs.declared.event.Event.{Event}
 
@@ -89,6 +89,13 @@ pub part_kept : (h : List Call) (part : UnitPart) (c : Call) (o : Option UnitPar
 part_kept h part c o some left =
     let known : IsPartOf (Some part) h c = subst (λ x. IsPartOf x h c) some left in
     subst (λ (x : UnitPart). AreKept x) (sym known.0) (part_kept_of h known.1 c.person c.moment c.request)
+
+-- a part of a history says whether the caller holds a role
+pub says_held : (h : List Call) (part : UnitPart) (c : Call) (o : Option UnitPart) → o ≡ Some part → IsPartOf o h c → SaysHeld part c
+unfolding holds_some
+says_held h part c o some left =
+    let known : IsPartOf (Some part) h c = subst (λ x. IsPartOf x h c) some left in
+    subst (λ (x : UnitPart). x.held ≡ holds_by x.rows.grants c.moment c.person) (sym known.0) (part_held (rows_of h) c.person c.moment c.request)
 
 -- the events that a holder's call sees are those of the history
 pub part_seen : (h : List Call) (part : UnitPart) (c : Call) (o : Option UnitPart) → o ≡ Some part → IsPartOf o h c

@@ -94,6 +94,10 @@ abbrev pub IsPartOf : Option UnitPart → List Call → Call → Type 0
 IsPartOf None h c = h ≡ []
 IsPartOf (Some part) h c = (part ≡ part_of c (rows_of h)) × IsLegal h
 
+-- the part says whether the caller holds a role
+abbrev pub SaysHeld : UnitPart → Call → Type 0
+SaysHeld part c = part.held ≡ holds_some (facts_in part) c.moment c.person
+
 -- these are all events of the unit, as far as a caller who holds a role sees some
 abbrev pub AreEventsSeen : UnitPart → Call → List Event → Type 0
 AreEventsSeen part c es = holds_some (facts_in part) c.moment c.person ≡ true → AreEventsFor part c.request es

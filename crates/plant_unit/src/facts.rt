@@ -3,13 +3,13 @@
 ghost use Rattle.std.specs.Prelude.{◌≡◌, count_by, option_copied};
 ghost use Rattle.plant_types.specs.{KeyedRows.{row_at}, Names.{name_cmp}};
 ghost use Rattle.plant_alarm.specs.Shelves.{is_unshelved};
-ghost use Rattle.plant_model.specs.{Facts.{is_steward_row, others_shelved, returned, shelf_now}, Refusals.{holds_some}};
+ghost use Rattle.plant_model.specs.Facts.{is_steward_row, others_shelved, returned, shelf_now};
 ghost use Rattle.plant_model.specs.steps.RowFacts.{facts_in, shelf_tag};
 ghost use Rattle.plant_model.specs.Shelves as shelves;
 ghost use Rattle.plant_unit.specs.Shelving as shelving;
 
 use plant_alarm::{Shelf, ShelfState, shelf_at};
-use plant_model::{GrantRow, ShelfRow, UnitPart, holds_some_by, is_held_by, last_return};
+use plant_model::{GrantRow, ShelfRow, UnitPart, is_held_by, last_return};
 use plant_types::{Moment, Person, Role, Tag};
 
 /// Whether the pair is held at the moment.
@@ -17,14 +17,6 @@ pub fn is_held(part: &UnitPart, person: &Person, role: Role, now: Moment) -> boo
     ensures { result ≡ (facts_in part.now).held now (person.now, role) }
 {
     is_held_by(part.rows.grants.as_slice(), person, role, now)
-}
-
-/// Whether the person holds some role at the moment.
-#[tactic(auto, unfolding(plant_model::specs::Refusals::holds_some))]
-pub fn holds_any(part: &UnitPart, person: &Person, now: Moment) -> bool
-    ensures { result ≡ holds_some (facts_in part.now) now person.now }
-{
-    holds_some_by(&part.rows.grants, person, now)
 }
 
 /// How many Steward pairs stand.

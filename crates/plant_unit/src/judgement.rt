@@ -4,7 +4,7 @@ ghost use Rattle.plant_alarm.specs.declared.event.Event.{Event as TheEvent};
 ghost use Rattle.plant_model.specs.{Verdicts.{is_opening}, declared.call.Call.{Call}};
 ghost use Rattle.plant_model.specs.steps.RowFacts.{facts_among, facts_in, unit_read};
 ghost use Rattle.plant_unit.specs.Additions.{AreKept};
-ghost use Rattle.plant_unit.specs.Judged.{AreEventsSeen, IsJudged, IsJudgedOwn, IsOpeningFor, IsPartOf, IsVerdictOn, is_import};
+ghost use Rattle.plant_unit.specs.Judged.{AreEventsSeen, IsJudged, IsJudgedOwn, IsOpeningFor, IsPartOf, IsVerdictOn, SaysHeld, is_import};
 
 use crate::changes::opening_changes;
 use crate::decisions::{approve, propose, reject, withdraw_change};
@@ -98,8 +98,8 @@ fn judge_own(alloc: Global, unit: &UnitRow, part: &UnitPart, call: &Call) -> Res
 fn judge_part(alloc: Global, unit: &UnitRow, part: &UnitPart, call: &Call) -> Result<Verdict, Fault>
     requires row { unit_read part.now.rows ≡ unit.now }
     requires plain { is_opening call.now.request ≡ false }
-    ensures value { AreKept part.now → (es : List TheEvent) → AreEventsSeen part.now call.now es
-        → IfOk result (IsJudged (facts_among part.now es) call.now) }
+    ensures value { SaysHeld part.now call.now → AreKept part.now → (es : List TheEvent)
+        → AreEventsSeen part.now call.now es → IfOk result (IsJudged (facts_among part.now es) call.now) }
     ensures err { OnlyMemory result }
 {
     if let Some(refused) = holder_refusal(unit, part, call) {

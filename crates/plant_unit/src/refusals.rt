@@ -3,19 +3,20 @@
 ghost use Rattle.std.specs.Prelude.{◌≡◌};
 ghost use Rattle.plant_model.specs.Refusals.{first_refusal};
 ghost use Rattle.plant_model.specs.steps.RowFacts.{facts_in, unit_read};
-ghost use Rattle.plant_unit.specs.Judged.{holder_refusals};
+ghost use Rattle.plant_unit.specs.Judged.{SaysHeld, holder_refusals};
 
-use crate::facts::{holds_any, is_held};
+use crate::facts::is_held;
 use plant_model::{Call, Refused, UnitPart, UnitRow};
 
 /// The refusal of a caller who may not make the call, or not any more at its moment, if any.
 pub fn holder_refusal(unit: &UnitRow, part: &UnitPart, call: &Call) -> Option<Refused>
     requires { unit_read part.now.rows ≡ unit.now }
-    ensures { result ≡ first_refusal (holder_refusals (facts_in part.now) call.now) }
+    ensures { SaysHeld part.now call.now
+        → result ≡ first_refusal (holder_refusals (facts_in part.now) call.now) }
 {
     let person = &call.person;
     let now = call.moment;
-    if !holds_any(part, person, now) {
+    if !part.held {
         return Some(Refused::NotGranted);
     }
     if let Some(role) = call.request.role_needed() {

@@ -59,7 +59,7 @@ holders_part_without c rows none =
     let chosen : rows_selected c.person (selected (without_events rows) q) (without_events rows) ≡ rows_selected c.person (selected rows q) rows =
     ap (λ s. rows_selected c.person s (without_events rows)) (selection_without rows (scope_of q))
     ∙ ap (λ es. record (rows_selected c.person (selected rows q) rows) { events = es }) nothing in
-    λ i. record { rows = chosen i; count = counted_without q rows none i }
+    λ i. record { rows = chosen i; count = counted_without q rows none i; held = true }
 
 -- the part of a call that does not look at events
 pub part_without : (c : Call) (rows : UnitRows) → looks_at_events c.request ≡ false → part_of c (without_events rows) ≡ part_of c rows
@@ -122,7 +122,7 @@ holders_part_unreviewed c rows unseen =
     let chosen : rows_selected c.person (selected (without_reviews rows) q) (without_reviews rows) ≡ rows_selected c.person s rows =
     ap (λ t. rows_selected c.person t (without_reviews rows)) is.0
     ∙ (λ i. record (rows_selected c.person s rows) { bands = bands i; cells = cells i; changes = changes i }) in
-    λ i. record { rows = chosen i; count = counted_unreviewed q rows unseen i }
+    λ i. record { rows = chosen i; count = counted_unreviewed q rows unseen i; held = true }
 
 -- the part of a call that does not look at what was reviewed
 pub part_unreviewed : (c : Call) (rows : UnitRows) → looks_at_reviews c.request ≡ false

@@ -226,7 +226,7 @@ module _ (rows : UnitRows) (p : Name) (t : ℕ) where
 
   -- the facts of a selection of the rows
   abbrev chosen : Selection → Facts
-  chosen s = facts_among (record { rows = rows_selected p s rows; count = 0 }) rows.events
+  chosen s = facts_among (record { rows = rows_selected p s rows; count = 0; held = true }) rows.events
 
   abbrev approved : ℕ → Option Name → ChangeTopic → Selection
   approved n tag k = with_number n (of_topic rows tag k)
@@ -417,6 +417,16 @@ module _ (rows : UnitRows) (p : Name) (t : ℕ) where
         own : (r : Role) → held_by (filter (λ g. same_name p g.person) rows.grants) t (p, r) ≡ held_by rows.grants t (p, r)
         own r = ap (held_by_row t) (row_at-filter pair_cmp pair_of (p, r) (λ g. same_name p g.person)
             (λ g e. ap is_eq (then_Equal (name_cmp p g.person) (nat_cmp (role_no r) (role_no g.role_no)) (tied _ true e refl)).0) rows.grants)
+
+  -- a part says whether the caller holds a role
+  pub part_held : (q : Request) → (part_of (asked q) rows).held ≡ holds_by (part_of (asked q) rows).rows.grants t p
+  unfolding holds_some
+  part_held q = by (holds_by rows.grants t p) refl where
+    by : (b : Bool) → holds_by rows.grants t p ≡ b
+        → (if b then part_of_holder (asked q) rows else part_of_stranger (asked q) rows).held
+        ≡ holds_by (if b then part_of_holder (asked q) rows else part_of_stranger (asked q) rows).rows.grants t p
+    by true some = sym (own_roles q ∙ some)
+    by false none = sym (own_holds ∙ none)
 
   -- the verdict from the part, with all events beside it, is the verdict from all rows
   pub part_verdict : (q : Request)

@@ -144,7 +144,11 @@ rows_selected p s rows =
 
 abbrev pub part_of_holder : Call → UnitRows → UnitPart
 part_of_holder c rows =
-    record { rows = rows_selected c.person (selected rows c.request) rows; count = counted_for rows c.request }
+    record {
+      rows = rows_selected c.person (selected rows c.request) rows;
+      count = counted_for rows c.request;
+      held = true;
+    }
 
 -- of one who holds no role: the unit's row and the caller's grants, which have ended
 abbrev pub part_of_stranger : Call → UnitRows → UnitPart
@@ -152,6 +156,7 @@ part_of_stranger c rows =
     record {
       rows = record no_rows { units = rows.units; grants = filter (λ g. same_name c.person g.person) rows.grants };
       count = 0;
+      held = false;
     }
 
 abbrev pub part_of : Call → UnitRows → UnitPart

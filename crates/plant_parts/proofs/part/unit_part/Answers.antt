@@ -26,7 +26,7 @@ returns-then-not-holds_some_by-clause-found g c honest m k =
     stranger_found old m u k call c.in_ok-units.units (c.in_ok-units.ensures.rows t1.0 k.books) any
     c.in_ok-own.own (c.in_ok-own.ensures.rows honest.0 r1.books
     ∙ ap (λ (d : Database). filter (λ (g : GrantRow). same_name call.person g.person) (rows_seen u d.trees Grants)) r1.now) none
-    c.part_of_grants.result c.part_of_grants.ensures.rows c.part_of_grants.ensures.count
+    c.part_of_grants.result c.part_of_grants.ensures.rows c.part_of_grants.ensures.count c.part_of_grants.ensures.held
 
 pub returns-clause-found : goal.returns-clause-found
 returns-clause-found g c honest m k =

@@ -1,5 +1,5 @@
 use Rattle.std.proofs.Common.{ap, slice_get, sym, ◌∙◌, option_copied}
-use Rattle.plant_unit.proofs.JudgedLaws.{has_unit, judged_some, judged_none, part_kept, part_seen}
+use Rattle.plant_unit.proofs.JudgedLaws.{has_unit, judged_some, judged_none, part_kept, part_seen, says_held}
 use Rattle.plant_model.specs.Events.{events}
 use Rattle.plant_unit.proofs.judgement.judge.Goals as goal
 
@@ -9,7 +9,8 @@ returns-in_default-clause-value c = λ h left. judged_none h c.args.call.now _ (
 pub returns-clause-value : goal.returns-clause-value
 returns-clause-value c = λ h left.
     judged_some h c.in-Some.part.now c.args.call.now _ c.judge_part.result c.requires (ap option_copied c.in-Some.is) left
-    (c.judge_part.ensures.value (part_kept h c.in-Some.part.now c.args.call.now _ (ap option_copied c.in-Some.is) left) (events h)
+    (c.judge_part.ensures.value (says_held h c.in-Some.part.now c.args.call.now _ (ap option_copied c.in-Some.is) left)
+    (part_kept h c.in-Some.part.now c.args.call.now _ (ap option_copied c.in-Some.is) left) (events h)
     (part_seen h c.in-Some.part.now c.args.call.now _ (ap option_copied c.in-Some.is) left))
 
 pub returns-in_default-first-clause-value : goal.returns-in_default-first-clause-value

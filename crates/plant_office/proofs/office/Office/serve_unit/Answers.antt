@@ -1,93 +1,12 @@
-use Rattle.std.proofs.Common.{Err, OnOk, Result, refl, subst, sym, ◌∙◌}
-use Rattle.plant_books.specs.{Books.{CountsBy, KeepsOnErr, Makes}, Contents.{after_changes}}
-use Rattle.plant_model.proofs.public.LegalLaws.{next_legal}
-use Rattle.plant_model.specs.declared.reply.{Refused.{Refused}, Reply.{Reply}}
-use Rattle.plant_office.specs.Serves.{Serves}
-use Rattle.plant_office.proofs.Serving.{by_outcome, changing_call, holds_meant, known_call, leaves, on_history, read_call, refused_call, same_changes, serves_changing, serves_fault, serves_same}
-use Rattle.plant_types.specs.declared.fault.Fault.{Fault}
 use Rattle.plant_office.proofs.office.Office.serve_unit.Goals as goal
 
-pub returns-in-Refused : goal.returns-in-Refused
-returns-in-Refused g c =
-    let call = c.args.call.now in
-    let u = c.args.unit.now in
-    record {
-      serves = serves_same (λ m k w legal h honest.
-          let found = c.in_ok-part.ensures.found m k honest u c.requires.named in
-          let v = on_history m w call u _ _ _ _ legal h found c.as_ref.ensures.value c.in_ok-refused.ensures.value c.in-Refused.is in
-          leaves w call _ m (g.B.Books.represents c.part.new.self) legal c.note_matrix.ensures
-          (refused_call m w call u c.in-Refused.refused h c.requires.named c.requires.plain v) (c.part.ensures.same m k))
-          c.part.ensures.honest c.part.ensures.same c.in_ok-part.ensures.count tt c.part.ensures.crash;
-    }
-
-pub returns-then-is_read : goal.returns-then-is_read
-returns-then-is_read g c =
-    let call = c.args.call.now in
-    let u = c.args.unit.now in
-    record {
-      serves = serves_same (λ m k w legal h honest.
-          let found = c.in_ok-part.ensures.found m k honest u c.requires.named in
-          let v = on_history m w call u _ _ _ _ legal h found c.as_ref.ensures.value c.in_ok-refused.ensures.value c.in-Accepted.is in
-          leaves w call _ m (g.B.Books.represents c.part.new.self) legal c.note_matrix.ensures
-          (read_call m w call u c.in-Accepted.reply _ h c.requires.named c.requires.plain (sym c.if-is_read.ensures) v) (c.part.ensures.same m k))
-          c.part.ensures.honest c.part.ensures.same c.in_ok-part.ensures.count (sym c.if-is_read.ensures) c.part.ensures.crash;
-    }
-
 pub returns : goal.returns
-returns g c =
-    let call = c.args.call.now in
-    let u = c.args.unit.now in
-    let changes = sym c.if-is_read.ensures in
-    let left = c.leave_out_same.new.changes in
-    let first = c.args.self.now.books in
-    let mid = c.part.new.self in
-    let last = c.apply.new.self in
-    record {
-      serves = subst (λ (said : Result (Result Reply Refused) Fault). Serves g.B.Books call said first last) (sym c.reply_if_made.ensures)
-          (by_outcome c.apply.result c.in-Accepted.reply (λ said. Serves g.B.Books call said first last)
-          (λ made. Makes g.B.Books.represents mid last u left made × KeepsOnErr g.B.Books.represents mid last made
-          × CountsBy g.B.Books.stores mid last made × OnOk made (g.B.Books.is_clean last → g.B.Books.is_honest last))
-          (c.apply.ensures.made, c.apply.ensures.unchanged, c.apply.ensures.count, c.apply.ensures.kept)
-          (λ _ it. serves_changing (λ m k w legal h honest.
-          let found = c.in_ok-part.ensures.found m k (c.apply.ensures.honest honest) u c.requires.named in
-          let v = on_history m w call u _ _ _ _ legal h found c.as_ref.ensures.value c.in_ok-refused.ensures.value c.in-Accepted.is in
-          let known = known_call m w call u c.in-Accepted.reply _ left h changes v in
-          let same = same_changes m call u c.in_ok-part.part c.in-Accepted.changes left found c.leave_out_same.ensures in
-          leaves w call _ (after_changes m u c.in-Accepted.changes)
-          (g.B.Books.represents last) legal c.note_matrix.ensures
-          (changing_call m w call u c.in-Accepted.reply _ h c.requires.named c.requires.plain changes v)
-          (subst (g.B.Books.represents last) same (it.0 m (c.part.ensures.same m k) known)))
-          (λ honest. c.part.ensures.honest (c.apply.ensures.honest honest)) changes (it.2 ∙ c.in_ok-part.ensures.count)
-          (record {
-            read = c.part.ensures.crash;
-            same = c.part.ensures.same;
-            writes = c.apply.ensures.crash;
-            known = λ m k w legal h honest.
-                let v = on_history m w call u _ _ _ _ legal h (c.in_ok-part.ensures.found m k honest u c.requires.named) c.as_ref.ensures.value
-                c.in_ok-refused.ensures.value c.in-Accepted.is in
-                known_call m w call u c.in-Accepted.reply _ left h changes v;
-            meant = λ m k w legal h honest.
-                let found = c.in_ok-part.ensures.found m k honest u c.requires.named in
-                let v = on_history m w call u _ _ _ _ legal h found c.as_ref.ensures.value c.in_ok-refused.ensures.value c.in-Accepted.is in
-                holds_meant m w call u c.in-Accepted.reply _ left legal h c.note_matrix.ensures c.requires.named c.requires.plain changes v
-                (same_changes m call u c.in_ok-part.part c.in-Accepted.changes left found c.leave_out_same.ensures);
-            legal = λ w legal. next_legal w call legal c.note_matrix.ensures;
-          }) it.3)
-          (λ e it. serves_fault (Err e) e refl (λ honest. c.part.ensures.honest (c.apply.ensures.honest honest))
-          (λ m k. it.1 m (c.part.ensures.same m k)) c.in_ok-part.ensures.count it.2
-          (record {
-            read = c.part.ensures.crash;
-            same = c.part.ensures.same;
-            writes = c.apply.ensures.crash;
-            known = λ m k w legal h honest.
-                let v = on_history m w call u _ _ _ _ legal h (c.in_ok-part.ensures.found m k honest u c.requires.named) c.as_ref.ensures.value
-                c.in_ok-refused.ensures.value c.in-Accepted.is in
-                known_call m w call u c.in-Accepted.reply _ left h changes v;
-            meant = λ m k w legal h honest.
-                let found = c.in_ok-part.ensures.found m k honest u c.requires.named in
-                let v = on_history m w call u _ _ _ _ legal h found c.as_ref.ensures.value c.in_ok-refused.ensures.value c.in-Accepted.is in
-                holds_meant m w call u c.in-Accepted.reply _ left legal h c.note_matrix.ensures c.requires.named c.requires.plain changes v
-                (same_changes m call u c.in_ok-part.part c.in-Accepted.changes left found c.leave_out_same.ensures);
-            legal = λ w legal. next_legal w call legal c.note_matrix.ensures;
-          })));
-    }
+returns g c = record {
+  serves = c.serve_part.ensures.serves c.args.self.now.books (record {
+    found = c.in_ok-part.ensures.found;
+    same = c.part.ensures.same;
+    honest = c.part.ensures.honest;
+    crash = c.part.ensures.crash;
+    count = c.in_ok-part.ensures.count;
+  });
+}

@@ -1,6 +1,6 @@
 use Rattle.std.proofs.Common.{sym, ◌∙◌}
 use Rattle.plant_books.proofs.PassingLaws.{passing_as}
-use Rattle.plant_books.proofs.parts.rows_asked.Goals as goal
+use Rattle.plant_books.proofs.parts.put_asked.Goals as goal
 
 pub returns-clause-value : goal.returns-clause-value
 returns-clause-value c =
