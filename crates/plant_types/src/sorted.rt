@@ -1,9 +1,11 @@
 ghost use Rattle.std.specs.Prelude.{◌≡◌, ◌↔◌, ◌-◌, ◌≤◌, [], length, is_some, option_copied, slice_get, IsOk, IsTrue, OnOk, OnErr, IfOk, IfErr};
-ghost use Rattle.plant_types.specs.KeyedRows.{IsInOrder, IsPlace, IsPlaceFor, IsPlaceOf, is_row_below, put_row, remove_row, row_at, rows_below, rows_from};
+ghost use Rattle.plant_types.specs.KeyedRows.{IsFound, IsInOrder, IsPlace, IsPlaceFor, IsPlaceOf, cmp_at, put_row, remove_row, row_at, rows_below, rows_from};
+ghost use Rattle.std.specs.declared.cmp.Ordering.TheVariants.{Greater};
 ghost use Rattle.plant_types.specs.Results.{OnlyMemory};
 
 use crate::{Fault, Keyed, List, TryCopy, copy_all};
 use std::alloc::Global;
+use std::cmp::Ordering;
 use std::marker::Model;
 
 /// Rows in the order of their keys, each key once. Contracts see them as the list of the rows.
@@ -93,17 +95,6 @@ impl<T: Keyed> Sorted<T> {
         rows.partition_point(|row| row.key_cmp(key).is_lt())
     }
 
-    /// The key's place, if a row of the key stands there.
-    fn found_at(&self, place: usize, key: &T::Key) -> Option<usize>
-        requires { IsPlace T.order T.key key.now self.now place }
-        ensures { IsPlaceOf T.order T.key key.now self.now result }
-    {
-        match self.as_slice().get(place) {
-            Some(row) if row.key_cmp(key).is_eq() => Some(place),
-            _ => None,
-        }
-    }
-
     /// How many rows have a smaller key than this row: all, if the last has; else found by halving.
     fn place_from(&self, row: &T) -> usize
         ensures bound { result ≤ length self.now }
@@ -127,28 +118,6 @@ impl<T: Keyed> Sorted<T> {
         }
     }
 
-    /// Whether the row at the place has a smaller key than this one.
-    fn is_below(&self, place: usize, key: &T::Key) -> bool
-        ensures { result ≡ is_row_below T.order T.key key.now self.now place }
-    {
-        match self.as_slice().get(place) {
-            Some(row) => row.key_cmp(key).is_lt(),
-            None => false,
-        }
-    }
-
-    /// Whether the place is that of the key: the row before it has a smaller key, and the row at it has not.
-    fn is_place(&self, place: usize, key: &T::Key) -> bool
-        ensures bound { IsTrue result → place ≤ length self.now }
-        ensures place { IsTrue result → IsPlace T.order T.key key.now self.now place }
-    {
-        let rows = self.as_slice();
-        if place > rows.len() || self.is_below(place, key) {
-            return false;
-        }
-        place == 0 || self.is_below(place - 1, key)
-    }
-
     /// The row of the key, which stands at the key's place if it is there.
     fn row_at(&self, place: usize, key: &T::Key) -> Option<&T>
         requires { IsPlace T.order T.key key.now self.now place }
@@ -167,53 +136,80 @@ impl<T: Keyed> Sorted<T> {
         self.row_at(self.place(key), key)
     }
 
-    /// Whether the row at the place has this key, and so the place is that of the key.
-    fn is_at(&self, place: usize, key: &T::Key) -> bool
-        ensures bound { IsTrue result → place ≤ length self.now }
-        ensures place { IsTrue result → IsPlace T.order T.key key.now self.now place }
+    /// How the key of the row at the place compares with this one; it is greater past the end.
+    fn cmp_at(&self, place: usize, key: &T::Key) -> Ordering
+        ensures value { result ≡ cmp_at T.order T.key key.now self.now place }
+        ensures order { IsInOrder T.order T.key self.now }
     {
         match self.as_slice().get(place) {
-            Some(row) => row.key_cmp(key).is_eq(),
-            None => false,
+            Some(row) => row.key_cmp(key),
+            None => Ordering::Greater,
         }
     }
 
-    /// The place of the key: this one or the one before it, if it is one of them, else found by halving.
-    fn place_near(&self, place: usize, key: &T::Key) -> usize
-        ensures bound { result ≤ length self.now }
-        ensures place { IsPlace T.order T.key key.now self.now result }
+    /// The place of the row of the key, or the key's place if there is no such row, found by halving.
+    fn find(&self, key: &T::Key) -> Result<usize, usize>
+        ensures { IsFound T.order T.key key.now self.now result }
     {
-        if self.is_place(place, key) {
-            return place;
-        }
-        let before = place.saturating_sub(1);
-        if self.is_at(before, key) {
-            before
+        let place = self.place(key);
+        if self.cmp_at(place, key).is_eq() {
+            Ok(place)
         } else {
-            self.place(key)
+            Err(place)
         }
     }
 
-    /// The row of the key, looked for first at the place that is next, and at the one before it. Then the place behind the
-    /// row, or that of its key, is next. None is looked for by halving where each row asked for is the one before again or
-    /// stands right behind it.
-    pub fn get_next(&self, next: &mut usize, key: &T::Key) -> Option<&T>
-        ensures { option_copied result ≡ row_at T.order T.key key.now self.now }
+    /// What `find` gives, where the row at the place has a greater key or none is there. The row before it is looked at first.
+    fn find_before(&self, place: usize, key: &T::Key) -> Result<usize, usize>
+        requires order { IsInOrder T.order T.key self.now }
+        requires place { cmp_at T.order T.key key.now self.now place ≡ Greater }
+        ensures { IsFound T.order T.key key.now self.now result }
     {
-        let place = self.place_near(*next, key);
-        let row = self.row_at(place, key);
-        *next = place.saturating_add(usize::from(row.is_some()));
-        row
+        if place == 0 {
+            return Err(0);
+        }
+        match self.cmp_at(place - 1, key) {
+            Ordering::Less => Err(place),
+            Ordering::Equal => Ok(place - 1),
+            Ordering::Greater => self.find(key),
+        }
     }
 
-    /// The place of the row of the key, looked for as `get_next` does.
+    /// What `find` gives. The row at the place is looked at first, and then the one before it.
+    fn find_near(&self, place: usize, key: &T::Key) -> Result<usize, usize>
+        ensures { IsFound T.order T.key key.now self.now result }
+    {
+        match self.cmp_at(place, key) {
+            Ordering::Less => self.find(key),
+            Ordering::Equal => Ok(place),
+            Ordering::Greater => self.find_before(place, key),
+        }
+    }
+
+    /// The place of the row of the key, looked for first at the place that is next, and at the one before it. Then the place
+    /// behind the row, or that of its key, is next. None is looked for by halving where each row asked for is the one before
+    /// again or stands right behind it.
     pub fn place_next(&self, next: &mut usize, key: &T::Key) -> Option<usize>
         ensures { IsPlaceOf T.order T.key key.now self.now result }
     {
-        let place = self.place_near(*next, key);
-        let found = self.found_at(place, key);
-        *next = place.saturating_add(usize::from(found.is_some()));
-        found
+        match self.find_near(*next, key) {
+            Ok(place) => {
+                *next = place.saturating_add(1);
+                Some(place)
+            }
+            Err(place) => {
+                *next = place;
+                None
+            }
+        }
+    }
+
+    /// The row of the key, looked for as `place_next` does.
+    pub fn get_next(&self, next: &mut usize, key: &T::Key) -> Option<&T>
+        ensures { option_copied result ≡ row_at T.order T.key key.now self.now }
+    {
+        let place = self.place_next(next, key)?;
+        self.as_slice().get(place)
     }
 
     /// Whether there is a row of the key.
@@ -258,9 +254,9 @@ impl<T: Keyed> Sorted<T> {
         ensures taken { result ≡ row_at T.order T.key key.now self.old }
         ensures rest { self.new ≡ remove_row T.order T.key key.now self.old }
     {
-        match self.found_at(self.place(key), key) {
-            Some(place) => self.rows.remove_at(place),
-            None => None,
+        match self.find(key) {
+            Ok(place) => self.rows.remove_at(place),
+            Err(_) => None,
         }
     }
 }

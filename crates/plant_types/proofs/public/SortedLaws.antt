@@ -3,7 +3,7 @@ use Rattle.std.specs.{Cmp.{IsTotalOrder, tied_itself}, FinMap.Entries.{below_all
 use Rattle.std.{specs.{Option.{is_some}, Ordering.{ordering_reverse, eq_by_cmp}}, proofs.lemmas.{Bool.{ltb-false, ltb-true}}}
 use Rattle.std.proofs.Common.{◌⊎◌, inl, inr, ◌-◌, ◌||◌, drop, take, filter, option_to_list, ap, arith, subst, Bor, option_copied, Result, Ok, Err, OnOk, OnErr, IsTrue, ◌↔◌, get_or, refl, sym, ◌∙◌, is_eq, is_lt, List, None, Option, Some, T, [], cond, false, length, map, nat_lt, option_and_then, option_map, slice_get, suc, true, unwrap_or, zero, ℕ, ◌<◌, ◌∷◌, ◌≡◌, ◌≤◌, Ordering, Equal, Greater, Less, true≢false, Bool, not, ◌+◌}
 use Rattle.std.proofs.lemmas.{Option.{get_or_from_slice_get, slice_get-get_or, slice_get_past, slice_get_within}}
-use Rattle.plant_types.{specs.{KeyedRows.{IsInOrder, IsPlace, is_row_below, remove_row, row_at, rows_below, rows_from}, Options.{when}}, proofs.public.{KeyedRowLaws.{tied}}}
+use Rattle.plant_types.{specs.{KeyedRows.{IsInOrder, IsPlace, IsPlaceOf, cmp_at, remove_row, row_at, rows_below, rows_from}, Options.{when}}, proofs.public.{KeyedRowLaws.{tied}}}
 use Rattle.std.proofs.lemmas.List.{take_all}
 use Rattle.plant_types.proofs.public.Halves.{both, first, second}
 
@@ -124,19 +124,21 @@ module _ {K X : Type 0} (R : K → K → Ordering) (key : X → K) where
         by (x ∷ xs) h (suc i) (suc j) d le lt e = by xs h.1 i j d (omega arith) (omega arith) e
 
     -- a place is that of a key if the row before it is below the key, and the row at it is not
-    below_at : (rows : List X) (t : K) (p : ℕ) (d : X) → p < length rows → is_row_below R key t rows p ≡ is_lt (R (key (get_or rows p d)) t)
-    below_at rows t p d within =
-        ap (λ o. unwrap_or (option_map (λ r. is_lt (R (key r) t)) o) false) (slice_get-get_or rows p d within)
+    told_at : (rows : List X) (t : K) (p : ℕ) (d : X) → p < length rows → cmp_at R key t rows p ≡ R (key (get_or rows p d)) t
+    told_at rows t p d within = ap (λ o. unwrap_or (option_map (λ r. R (key r) t) o) Greater) (slice_get-get_or rows p d within)
 
-    pub place_is : (rows : List X) (t : K) (p : ℕ) → IsInOrder R key rows → p ≤ length rows → is_row_below R key t rows p ≡ false
-        → (p ≡ 0) ⊎ (is_row_below R key t rows (p - 1) ≡ true) → IsPlace R key t rows p
+    abbrev pub Before : List X → K → ℕ → Type 0
+    Before rows t p = (p ≡ 0) ⊎ (cmp_at R key t rows (p - 1) ≡ Less)
+
+    place_is : (rows : List X) (t : K) (p : ℕ) → IsInOrder R key rows → p ≤ length rows → cmp_at R key t rows p ≡ Greater
+        → Before rows t p → IsPlace R key t rows p
     place_is rows t p order within at before = (λ k d low high. smaller k d high before, λ k d low high. other k d low high)
       where
-        smaller : (k : ℕ) (d : X) → k < p → (p ≡ 0) ⊎ (is_row_below R key t rows (p - 1) ≡ true) → is_lt (R (key (get_or rows k d)) t) ≡ true
+        smaller : (k : ℕ) (d : X) → k < p → Before rows t p → is_lt (R (key (get_or rows k d)) t) ≡ true
         smaller k d high (inl none) = absurd (omega (arith, high, none))
         smaller k d high (inr below) =
             parted rows t order k (p - 1) d (omega (arith, high)) (omega (arith, high, within))
-            (sym (below_at rows t (p - 1) d (omega (arith, high, within))) ∙ below)
+            (ap is_lt (sym (told_at rows t (p - 1) d (omega (arith, high, within))) ∙ below))
 
         other : (k : ℕ) (d : X) → p ≤ k → k < length rows → is_lt (R (key (get_or rows k d)) t) ≡ false
         other k d low high = by (is_lt (R (key (get_or rows k d)) t)) refl
@@ -144,7 +146,8 @@ module _ {K X : Type 0} (R : K → K → Ordering) (key : X → K) where
             by : (b : Bool) → is_lt (R (key (get_or rows k d)) t) ≡ b → is_lt (R (key (get_or rows k d)) t) ≡ false
             by false e = e
             by true e =
-                absurd (true≢false (sym (parted rows t order p k d low high e) ∙ sym (below_at rows t p d (omega (arith, low, high))) ∙ at))
+                absurd (true≢false (sym (parted rows t order p k d low high e)
+                ∙ ap is_lt (sym (told_at rows t p d (omega (arith, low, high))) ∙ at)))
 
     -- where the last row is below a key, all are
     pub behind_last : (rows : List X) (t : K) (r : X) → IsInOrder R key rows → slice_get rows (length rows - 1) ≡ Some r
@@ -207,6 +210,35 @@ module _ {K X : Type 0} (R : K → K → Ordering) (key : X → K) where
         → eq_by_cmp R (key r) t ≡ false → None ≡ row_at R key t rows
     other_found rows t p order h r there same = ap (λ b. when b r) (sym same) ∙ ap (at_place t) (sym there) ∙ row_found rows t p order h
 
+    -- what the comparison with the row at a place tells
+    pub found_here : (rows : List X) (t : K) (p : ℕ) → cmp_at R key t rows p ≡ Equal → IsPlaceOf R key t rows (Some p)
+    found_here rows t p equal = by (slice_get rows p) refl equal
+      where
+        by : (o : Option X) → slice_get rows p ≡ o → unwrap_or (option_map (λ r. R (key r) t) o) Greater ≡ Equal → IsPlaceOf R key t rows (Some p)
+        by None there e = cc e
+        by (Some r) there e = (r, there, ap is_eq e)
+
+    pub none_here : (rows : List X) (t : K) (p : ℕ) → IsInOrder R key rows → IsPlace R key t rows p → is_eq (cmp_at R key t rows p) ≡ false
+        → row_at R key t rows ≡ None
+    none_here rows t p order parts other = by (slice_get rows p) refl other
+      where
+        by : (o : Option X) → slice_get rows p ≡ o → is_eq (unwrap_or (option_map (λ r. R (key r) t) o) Greater) ≡ false → row_at R key t rows ≡ None
+        by None there e = sym (none_found rows t p (ordered rows order) parts there)
+        by (Some r) there e = sym (other_found rows t p (ordered rows order) parts r there e)
+
+    within_if : (rows : List X) (t : K) (p : ℕ) → Before rows t p → p ≤ length rows
+    within_if rows t p (inl none) = omega (arith, none)
+    within_if rows t p (inr less) = by (slice_get rows (p - 1)) refl less
+      where
+        by : (o : Option X) → slice_get rows (p - 1) ≡ o → unwrap_or (option_map (λ r. R (key r) t) o) Greater ≡ Less → p ≤ length rows
+        by None there e = cc e
+        by (Some r) there e = omega (arith, slice_get_within rows (p - 1) r there)
+
+    pub none_between : (rows : List X) (t : K) (p : ℕ) → IsInOrder R key rows → cmp_at R key t rows p ≡ Greater
+        → (p ≡ 0) ⊎ (cmp_at R key t rows (p - 1) ≡ Less) → row_at R key t rows ≡ None
+    none_between rows t p order at before =
+        none_here rows t p order (place_is rows t p order (within_if rows t p before) at before) (ap is_eq at)
+
     -- the row of a key is the one that has it, wherever it stands
     pub row_there : ((a b : K) → R a b ≡ Equal → a ≡ b) → (rows : List X) (t : K) (p : ℕ) → Ordered rows → (r : X) → slice_get rows p ≡ Some r
         → eq_by_cmp R (key r) t ≡ true → Some r ≡ row_at R key t rows
@@ -219,6 +251,10 @@ module _ {K X : Type 0} (R : K → K → Ordering) (key : X → K) where
         let low : R (key x) t ≡ Less = ap (R (key x)) (sym is) ∙ after_at (key x) rows order.0 p r (slice_get_within rows p r there) in
         row_there only rows t p order.1 r there same
         ∙ sym (ap (λ v. cond (is_eq v) (Some x) (row_at R key t rows)) (turned total (key x) t low))
+
+    pub row_there_is : ((a b : K) → R a b ≡ Equal → a ≡ b) → (rows : List X) (t : K) (p : ℕ) → IsInOrder R key rows
+        → IsPlaceOf R key t rows (Some p) → slice_get rows p ≡ row_at R key t rows
+    row_there_is only rows t p order found = found.1 ∙ row_there only rows t p (ordered rows order) found.0 found.1 found.2
 
     -- the rows of a key are the one that is found
     none_passes : (t : K) (rows : List X) → After t rows → filter (λ r. eq_by_cmp R t (key r)) rows ≡ []
