@@ -1,6 +1,5 @@
-use Rattle.std.proofs.Common.{ap, slice_get, subst, sym, ◌∙◌}
+use Rattle.std.proofs.Common.{ap, slice_get, ◌∙◌}
 use Rattle.plant_types.proofs.public.SortedLaws.{get_is, row_there_is}
-use Rattle.plant_types.specs.KeyedRows.{IsInOrder}
 use Rattle.plant_types.proofs.sorted.Sorted.get_next.Goals as goal
 
 pub returns : goal.returns
