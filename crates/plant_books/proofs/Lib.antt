@@ -1,4 +1,5 @@
 pub mod public
+mod ChangedLaws
 mod ListedLaws
 mod ShelvedLaws
 mod PassingLaws

@@ -149,4 +149,21 @@ pub trait Books {
         ensures crash { LosesNoPart represents is_honest is_clean leaves_books may_leave unit.now changes.now self.old self.new }
         ensures kept { OnOk result (is_clean self.new → is_honest self.new) }
         ensures count { CountsBy stores self.old self.new result };
+
+    /// Makes the changes, as `apply` does, and may take their rows for its own.
+    fn carry_out(
+        &mut self,
+        unit: &UnitCode,
+        changes: Changes,
+        seen: Option<&UnitRows>,
+    ) -> Result<(), Fault>
+        ensures made { Makes represents self.old self.new unit.now changes result }
+        ensures unchanged { KeepsOnErr represents self.old self.new result }
+        ensures honest { WasHonest is_honest self.old self.new }
+        ensures crash { LosesNoPart represents is_honest is_clean leaves_books may_leave unit.now changes self.old self.new }
+        ensures kept { OnOk result (is_clean self.new → is_honest self.new) }
+        ensures count { CountsBy stores self.old self.new result }
+    {
+        self.apply(unit, &changes, seen)
+    }
 }

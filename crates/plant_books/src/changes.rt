@@ -5,7 +5,7 @@ ghost use Rattle.plant_types.specs.Results.{OnlyMemory};
 
 use plant_import::put_events;
 use plant_model::{Key, Row, RowEdit, UnitRow, UnitRows};
-use plant_types::{Fault, List, TryCopy};
+use plant_types::{Fault, List};
 use std::alloc::Global;
 
 /// The table of the one row.
@@ -40,31 +40,31 @@ fn put_row(alloc: Global, rows: &mut UnitRows, row: Row) -> Result<(), Fault>
 }
 
 /// Takes the row of a key out.
-fn take_out(alloc: Global, rows: &mut UnitRows, key: &Key) -> Result<(), Fault>
-    ensures ok { OnOk result (rows.new ≡ removed key.now rows.old) }
-    ensures memory { OnlyMemory result }
+fn take_out(rows: &mut UnitRows, key: Key)
+    ensures { rows.new ≡ removed key rows.old }
 {
     match key {
         Key::Grant(person, role) => {
-            let pair = (person.copy(alloc)?, *role);
-            let _removed = rows.grants.remove(&pair);
+            let _removed = rows.grants.remove(&(person, role));
         }
         Key::Shelf(tag) => {
-            let _removed = rows.shelves.remove(tag);
+            let _removed = rows.shelves.remove(&tag);
         }
     }
-    Ok(())
 }
 
 /// Makes one change of the rows.
-fn make_change(alloc: Global, rows: &mut UnitRows, change: &RowEdit) -> Result<(), Fault>
-    ensures value { OnOk result (rows.new ≡ changed change.now rows.old) }
+fn make_change(alloc: Global, rows: &mut UnitRows, change: RowEdit) -> Result<(), Fault>
+    ensures value { OnOk result (rows.new ≡ changed change rows.old) }
     ensures memory { OnlyMemory result }
 {
     match change {
-        RowEdit::Put(row) => put_row(alloc, rows, row.copy(alloc)?),
-        RowEdit::PutEvents(events) => put_events(alloc, &mut rows.events, events.as_slice()),
-        RowEdit::Remove(key) => take_out(alloc, rows, key),
+        RowEdit::Put(row) => put_row(alloc, rows, row),
+        RowEdit::PutEvents(events) => put_events(alloc, &mut rows.events, events),
+        RowEdit::Remove(key) => {
+            take_out(rows, key);
+            Ok(())
+        }
     }
 }
 
@@ -87,13 +87,13 @@ pub fn puts_event(changes: &List<RowEdit>) -> bool
 pub fn after_changes(
     alloc: Global,
     rows: UnitRows,
-    changes: &List<RowEdit>,
+    changes: List<RowEdit>,
 ) -> Result<UnitRows, Fault>
-    ensures value { IfOk result (λ after. after ≡ changed_by changes.now rows) }
+    ensures value { IfOk result (λ after. after ≡ changed_by changes rows) }
     ensures memory { OnlyMemory result }
 {
     let mut after = rows;
-    for change in changes.as_slice() {
+    for change in changes.into_vec() {
         make_change(alloc, &mut after, change)?;
     }
     Ok(after)

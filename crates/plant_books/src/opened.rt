@@ -235,7 +235,7 @@ pub fn change_unit(
     let rows = copy_of(alloc, units, unit)?.unwrap_or(UnitRows::none(alloc));
     let opened = OpenedUnit {
         unit: unit.copy(alloc)?,
-        rows: after_changes(alloc, rows, changes)?,
+        rows: after_changes(alloc, rows, changes.copy(alloc)?)?,
     };
     units.put(opened)
 }

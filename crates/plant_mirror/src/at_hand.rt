@@ -75,12 +75,12 @@ impl AtHand {
 
     /// What is at hand after the changes. None where an event is put among events that are not at hand, or where memory
     /// runs out.
-    pub fn after(self, alloc: Global, changes: &List<RowEdit>) -> Option<AtHand>
+    pub fn after(self, alloc: Global, changes: List<RowEdit>) -> Option<AtHand>
         ensures { (m : Content) (u : Name) → IsCopy (fin.get m.units) (u, self)
             → IfSome result (λ after.
-            IsCopy (fin.get (content_after m u changes.now).units) (u, after)) }
+            IsCopy (fin.get (content_after m u changes).units) (u, after)) }
     {
-        if self.misses(changes) {
+        if self.misses(&changes) {
             return None;
         }
         let AtHand { rows, has_events } = self;

@@ -1,5 +1,6 @@
 ghost use Rattle.std.specs.{Map.{lookup, lookup_entry}, Prelude.{◌≡◌, ◌≤◌, ◌+◌, [], flat_map, IfOk, IfSome, IsTrue, option_copied, unwrap_or}};
-ghost use Rattle.plant_books.specs.Contents.{shelves_there};
+ghost use Rattle.plant_books.specs.Contents.{Content, after_changes, shelves_there};
+ghost use Rattle.std.specs.FinMap.{get};
 ghost use Rattle.plant_mirror.specs.Copies.{AreCopies, There, DiffersAt, StayCopies, StayCopiesWith};
 ghost use Rattle.plant_model.specs.steps.RowChanges.{no_rows};
 ghost use Rattle.plant_types.specs.{Limits.{max_rows_at_hand}, Names.{same_name}, Results.{OnlyMemory}};
@@ -9,6 +10,7 @@ use crate::at_hand::AtHand;
 use lru::LruCache;
 use plant_alarm::Event;
 use plant_books::{MineRow, push_shelves};
+use plant_model::Changes;
 use plant_types::limits::MAX_ROWS_AT_HAND;
 use plant_types::{Fault, List, Sorted, UnitCode};
 use std::alloc::Global;
@@ -176,6 +178,19 @@ impl Copies {
         let more = copy.row_count();
         if self.has_room_for(more) {
             self.put(unit, copy, more);
+        }
+    }
+
+    /// Makes changes that were made below to what is at hand of the unit, whose rows they become.
+    pub fn follow(&mut self, alloc: Global, unit: &UnitCode, changes: Changes)
+        ensures copied { (m : Content) → AreCopies (get m.units) self.old.units.entries
+            → AreCopies (get (after_changes m unit.now changes).units) self.new.units.entries }
+        ensures limit { self.new.limit ≡ self.old.limit }
+    {
+        if let Some((unit, copy)) = self.take(unit) {
+            if let Some(copy) = copy.after(alloc, changes) {
+                self.keep(unit, copy);
+            }
         }
     }
 

@@ -345,11 +345,21 @@ impl<B: Books> Books for Mirror<B> {
         seen: Option<&UnitRows>,
     ) -> Result<(), Fault> {
         self.change_below(unit, changes, seen)?;
-        if let Some((unit, copy)) = self.copies.take(unit) {
-            if let Some(copy) = copy.after(self.alloc, changes) {
-                self.copies.keep(unit, copy);
-            }
+        match changes.copy(self.alloc) {
+            Ok(changes) => self.copies.follow(self.alloc, unit, changes),
+            Err(_) => self.copies.clear(),
         }
+        Ok(())
+    }
+
+    fn carry_out(
+        &mut self,
+        unit: &UnitCode,
+        changes: Changes,
+        seen: Option<&UnitRows>,
+    ) -> Result<(), Fault> {
+        self.change_below(unit, &changes, seen)?;
+        self.copies.follow(self.alloc, unit, changes);
         Ok(())
     }
 }

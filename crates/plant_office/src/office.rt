@@ -3,7 +3,7 @@ ghost use Rattle.plant_books.specs.{Books.{WasHonest}, Contents.{Content}, decla
 ghost use Rattle.plant_types.specs.Results.{OnlyMemory};
 ghost use Rattle.plant_model.specs.{Legality.{has_matrix, is_matrix_kind}, Verdicts.{changes_history, is_opening}};
 ghost use Rattle.plant_model.specs.steps.RowChanges.{changed, changed_by};
-ghost use Rattle.plant_model.specs.{Views.{view}, Worlds.{World, IsLegalWorld, unit_named}, declared.call.Request.TheVariants.{MyShelves, MyUnits}};
+ghost use Rattle.plant_model.specs.{Views.{view}, Worlds.{World, IsLegalWorld, unit_named}, declared.call.Request.TheVariants.{MyShelves, MyUnits, Shelves}};
 ghost use Rattle.plant_model.specs.declared.rows.UnitRows.{UnitRows};
 ghost use Rattle.plant_office.specs.{Answers.{CountsAnswer, IfSaid, OnFault, answer_as, reply_or_fault}, Lines.{line_of_mine, line_of_shelf}};
 ghost use Rattle.plant_office.specs.Enduring.{EnduresAll, EnduresSettled, books_state};
@@ -16,7 +16,7 @@ use plant_model::{
 };
 use plant_ration::ChangeKind;
 use plant_types::{Fault, List, Moment, UnitCode};
-use plant_unit::{is_read, judge, judge_open, shelf_line};
+use plant_unit::{is_read, judge, judge_open, judge_shelves, shelf_line};
 use std::alloc::Global;
 
 /// The rows that the call looked at, if it looked at a unit.
@@ -189,7 +189,7 @@ impl<B: Books> Office<B> {
             return Ok(Err(Refused::MomentBehind(last)));
         }
         let shelves = self.books.mine_shelves(&call.person, now)?;
-        let lines = shelf_lines(self.alloc, shelves.as_slice(), now)?;
+        let lines = shelf_lines(self.alloc, shelves, now)?;
         let person = call.person.copy(self.alloc)?;
         Ok(Ok(Reply::Mine {
             person,
@@ -198,8 +198,7 @@ impl<B: Books> Office<B> {
         }))
     }
 
-    /// Serves a call on a unit from the part of its rows that the books gave, and does not own: a function that owns rows is
-    /// proved for all of them at each of its ends.
+    /// Serves a call on a unit from the part of its rows that the books gave.
     fn serve_part(
         &mut self,
         unit: &UnitCode,
@@ -219,18 +218,55 @@ impl<B: Books> Office<B> {
                     return Ok(Ok(reply));
                 }
                 leave_out_same(part, &mut changes);
-                reply_if_made(self.books.apply(unit, &changes, rows_in(part)), reply)
+                reply_if_made(self.books.carry_out(unit, changes, rows_in(part)), reply)
             }
         }
     }
 
+    /// Serves a call for the shelves of a unit from that part, out of which it takes them.
+    fn serve_shelves(
+        &self,
+        unit: &UnitCode,
+        part: &mut Option<UnitPart>,
+        call: &Call,
+    ) -> Result<Result<Reply, Refused>, Fault>
+        requires { call.now.request ≡ Shelves unit.now }
+        ensures serves { (before : B) → HaveRead B.Books before self.now.books call.now part.old
+            → Serves B.Books call.now result before self.now.books }
+    {
+        note_matrix(&call.request);
+        match judge_shelves(self.alloc, part, unit, call)? {
+            Verdict::Refused(refused) => Ok(Err(refused)),
+            Verdict::Accepted(reply, _) => Ok(Ok(reply)),
+        }
+    }
+
+    /// Serves a call on a unit from that part.
+    fn serve_from(
+        &mut self,
+        unit: &UnitCode,
+        part: &mut Option<UnitPart>,
+        call: &Call,
+    ) -> Result<Result<Reply, Refused>, Fault>
+        requires named { unit_named call.now.request ≡ Some unit.now }
+        requires plain { is_opening call.now.request ≡ false }
+        ensures serves { (before : B) → HaveRead B.Books before self.old.books call.now part.old
+            → Serves B.Books call.now result before self.new.books }
+    {
+        match &call.request {
+            Request::Shelves { unit } => self.serve_shelves(unit, part, call),
+            _ => self.serve_part(unit, part, call),
+        }
+    }
+
+    /// Serves a call on a unit. It owns the part of its rows, and has few ends: at each of them the proof lets go of them all.
     fn serve_unit(&mut self, unit: &UnitCode, call: &Call) -> Result<Result<Reply, Refused>, Fault>
         requires named { unit_named call.now.request ≡ Some unit.now }
         requires plain { is_opening call.now.request ≡ false }
         ensures serves { Serves B.Books call.now result self.old.books self.new.books }
     {
-        let part = self.books.part(call)?;
-        self.serve_part(unit, &part, call)
+        let mut part = self.books.part(call)?;
+        self.serve_from(unit, &mut part, call)
     }
 
     fn serve_opening(
@@ -247,7 +283,7 @@ impl<B: Books> Office<B> {
         match judge_open(self.alloc, self.books.administrator(), taken, call)? {
             Verdict::Refused(refused) => Ok(Err(refused)),
             Verdict::Accepted(reply, changes) => {
-                reply_if_made(self.books.apply(unit, &changes, None), reply)
+                reply_if_made(self.books.carry_out(unit, changes, None), reply)
             }
         }
     }
@@ -382,27 +418,26 @@ fn latest(now: Moment, units: &[MineUnit]) -> Moment
 
 /// The line of a shelf with its unit; none where the shelf has ended: its time has passed, or it was a one-shot and its
 /// alarm returned.
-fn mine_line(alloc: Global, mine: &MineRow, now: Moment) -> Result<Option<MineLine>, Fault>
-    ensures value { IfOk result (λ line. line ≡ line_of_shelf now mine.now) }
-    ensures err { OnlyMemory result }
+fn mine_line(mine: MineRow, now: Moment) -> Option<MineLine>
+    ensures { result ≡ line_of_shelf now mine }
 {
-    let Some(line) = shelf_line(alloc, &mine.shelf, mine.last_return, now)? else {
-        return Ok(None);
-    };
-    Ok(Some(MineLine {
-        unit: mine.unit.copy(alloc)?,
-        line,
-    }))
+    let MineRow {
+        unit,
+        shelf,
+        last_return,
+    } = mine;
+    let line = shelf_line(shelf, last_return, now)?;
+    Some(MineLine { unit, line })
 }
 
 /// The lines of the shelves that have not ended at the moment.
-fn shelf_lines(alloc: Global, shelves: &[MineRow], now: Moment) -> Result<List<MineLine>, Fault>
-    ensures value { IfOk result (λ lines. lines ≡ filter_map (line_of_shelf now) shelves.now) }
+fn shelf_lines(alloc: Global, shelves: List<MineRow>, now: Moment) -> Result<List<MineLine>, Fault>
+    ensures value { IfOk result (λ lines. lines ≡ filter_map (line_of_shelf now) shelves) }
     ensures err { OnlyMemory result }
 {
     let mut lines = List::new(alloc);
-    for mine in shelves {
-        if let Some(line) = mine_line(alloc, mine, now)? {
+    for mine in shelves.into_vec() {
+        if let Some(line) = mine_line(mine, now) {
             lines.push(line)?;
         }
     }

@@ -175,26 +175,38 @@ impl<T: Keyed> Sorted<T> {
         }
     }
 
-    /// What `find` gives. The row at the place is looked at first, and then the one before it.
+    /// What `find` gives, where the row at the place has a smaller key. The row behind it is looked at first.
+    fn find_behind(&self, place: usize, key: &T::Key) -> Result<usize, usize>
+        ensures { IsFound T.order T.key key.now self.now result }
+    {
+        let behind = place.saturating_add(1);
+        if self.cmp_at(behind, key).is_eq() {
+            Ok(behind)
+        } else {
+            self.find(key)
+        }
+    }
+
+    /// What `find` gives. The row at the place is looked at first, and then the one before or behind it.
     fn find_near(&self, place: usize, key: &T::Key) -> Result<usize, usize>
         ensures { IsFound T.order T.key key.now self.now result }
     {
         match self.cmp_at(place, key) {
-            Ordering::Less => self.find(key),
+            Ordering::Less => self.find_behind(place, key),
             Ordering::Equal => Ok(place),
             Ordering::Greater => self.find_before(place, key),
         }
     }
 
-    /// The place of the row of the key, looked for first at the place that is next, and at the one before it. Then the place
-    /// behind the row, or that of its key, is next. None is looked for by halving where each row asked for is the one before
-    /// again or stands right behind it.
+    /// The place of the row of the key, looked for first at the place that is next, and then at the one before or behind it.
+    /// No row is looked for by halving where each one asked for is the one before again or stands right behind it. Next is then
+    /// the place behind the row, that of a row that was asked for again, or that of a key without a row.
     pub fn place_next(&self, next: &mut usize, key: &T::Key) -> Option<usize>
         ensures { IsPlaceOf T.order T.key key.now self.now result }
     {
         match self.find_near(*next, key) {
             Ok(place) => {
-                *next = place.saturating_add(1);
+                *next = place.saturating_add(usize::from(place >= *next));
                 Some(place)
             }
             Err(place) => {

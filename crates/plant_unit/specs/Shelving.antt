@@ -1,10 +1,10 @@
 -- What shelving an alarm changes, and by which result name it is refused (OPC 10000-9).
-use Rattle.std.specs.Prelude.{Bool, List, Option, Result, Some, [], false, not, true, ℕ, ◌&&◌, ◌∷◌}
+use Rattle.std.specs.Prelude.{Bool, List, Option, Result, Some, [], false, filter_map, not, true, ℕ, ◌&&◌, ◌∷◌}
 use Rattle.plant_alarm.specs.{Shelves.{is_unshelved}, declared.shelf.Shelf.{Shelf, TheVariants.{Clear, OneShot, Timed}}}
 use Rattle.plant_alarm.specs.declared.shelf.ShelfRefused.{ShelfRefused}
 use Rattle.plant_alarm.specs.declared.shelf.ShelfRefused.TheVariants.{ConditionAlreadyShelved, ConditionNotShelved, ShelvingTimeOutOfRange}
 use Rattle.plant_model.specs.{Facts.{Facts, returned}, Refusals.{first_refusal, over_quota}, Replies.{line_of}}
-use Rattle.plant_model.specs.steps.RowFacts.{facts_in}
+use Rattle.plant_model.specs.steps.RowFacts.{facts_in, last_return_in}
 use Rattle.plant_model.specs.{Shelves.{shelf_row_as, state_of_shelf}, declared.{call.Call.{Call}, reply.Refused.{Refused}, rows.UnitPart.{UnitPart}}}
 use Rattle.plant_model.specs.declared.reply.Refused.TheVariants.{ConditionAlreadyShelved as IsShelved, ConditionNotShelved as IsUnshelved, ShelvingTimeOutOfRange as IsOutOfRange}
 use Rattle.plant_model.specs.declared.{reply.ShelfLine.{ShelfLine}, rows.{AlarmRow.{AlarmRow}, Key.TheVariants.{Shelf as ShelfKey}}}
@@ -35,6 +35,10 @@ is_other_shelved f a s t = not (same_name a s.tag) && not (is_unshelved (state_o
 -- the line of a shelf whose alarm last returned to normal at this moment, if it holds
 abbrev pub line_at : ShelfRow → Option ℕ → ℕ → Option ShelfLine
 line_at s returned_s t = line_of s (state_of_shelf (Some s) returned_s t)
+
+-- the lines of the shelves that hold, by the alarms of their unit
+abbrev pub lines_among : List AlarmRow → List ShelfRow → ℕ → List ShelfLine
+lines_among alarms shelves t = filter_map (λ s. line_at s (last_return_in alarms s.tag) t) shelves
 
 -- an alarm is shelved at the moment
 abbrev pub is_shelved : Facts → AlarmRow → ℕ → Bool

@@ -4,13 +4,13 @@ ghost use Rattle.std.specs.Prelude.{◌≡◌, count_by, option_copied};
 ghost use Rattle.plant_types.specs.{KeyedRows.{row_at}, Names.{name_cmp}};
 ghost use Rattle.plant_alarm.specs.Shelves.{is_unshelved};
 ghost use Rattle.plant_model.specs.Facts.{is_steward_row, others_shelved, returned, shelf_now};
-ghost use Rattle.plant_model.specs.steps.RowFacts.{facts_in, shelf_tag};
+ghost use Rattle.plant_model.specs.steps.RowFacts.{facts_in, last_return_in, shelf_tag};
 ghost use Rattle.plant_model.specs.Shelves as shelves;
 ghost use Rattle.plant_unit.specs.Shelving as shelving;
 
 use plant_alarm::{Shelf, ShelfState, shelf_at};
-use plant_model::{GrantRow, ShelfRow, UnitPart, is_held_by, last_return};
-use plant_types::{Moment, Person, Role, Tag};
+use plant_model::{AlarmRow, GrantRow, ShelfRow, UnitPart, is_held_by, last_return};
+use plant_types::{Moment, Person, Role, Sorted, Tag};
 
 /// Whether the pair is held at the moment.
 pub fn is_held(part: &UnitPart, person: &Person, role: Role, now: Moment) -> bool
@@ -82,13 +82,10 @@ fn returned_at(part: &UnitPart, tag: &Tag) -> Option<Moment>
 }
 
 /// When the alarm of a tag last returned to normal, the alarm being looked for first at the place that is next.
-pub fn returned_next(part: &UnitPart, next: &mut usize, tag: &Tag) -> Option<Moment>
-    ensures { result ≡ returned (facts_in part.now) tag.now }
+pub fn returned_next(alarms: &Sorted<AlarmRow>, next: &mut usize, tag: &Tag) -> Option<Moment>
+    ensures { result ≡ last_return_in alarms.now tag.now }
 {
-    part.rows
-        .alarms
-        .get_next(next, tag)
-        .and_then(|alarm| alarm.return_s)
+    alarms.get_next(next, tag).and_then(|alarm| alarm.return_s)
 }
 
 fn is_other_shelved(part: &UnitPart, tag: &Tag, row: &ShelfRow, now: Moment) -> bool

@@ -1,7 +1,7 @@
 ghost use Rattle.std.specs.Prelude.{◌≡◌, List, IfOk, option_copied, true, false};
 ghost use Rattle.plant_types.specs.Results.{OnlyMemory};
 ghost use Rattle.plant_alarm.specs.declared.event.Event.{Event as TheEvent};
-ghost use Rattle.plant_model.specs.{Verdicts.{is_opening}, declared.call.Call.{Call}};
+ghost use Rattle.plant_model.specs.{Verdicts.{is_opening}, declared.call.{Call.{Call}, Request.TheVariants.{Shelves as ShelvesCall}}};
 ghost use Rattle.plant_model.specs.steps.RowFacts.{facts_among, facts_in, unit_read};
 ghost use Rattle.plant_unit.specs.Additions.{AreKept};
 ghost use Rattle.plant_unit.specs.Judged.{AreEventsSeen, IsJudged, IsJudgedOwn, IsOpeningFor, IsPartOf, IsVerdictOn, SaysHeld, is_import};
@@ -11,13 +11,14 @@ use crate::decisions::{approve, propose, reject, withdraw_change};
 use crate::grants::{grant, withdraw};
 use crate::imports::judge_import;
 use crate::refusals::holder_refusal;
-use crate::replies::{alarms, change, floods, record, shelves, standing, status};
+use crate::replies::{alarms, change, floods, record, shelves, shelves_among, standing, status};
 use crate::service::{place_in_service, register, remove_from_service};
 use crate::shelving::{end_shelf, shelve_for, shelve_once};
 use crate::verdicts::{answer, done};
 use plant_model::{Call, Refused, Reply, Request, UnitPart, UnitRow, Verdict};
-use plant_types::{Fault, Person};
+use plant_types::{Fault, Person, Sorted, UnitCode};
 use std::alloc::Global;
+use std::mem;
 
 /// Judges a call other than an import, whose caller is allowed to make it.
 fn judge_own(alloc: Global, unit: &UnitRow, part: &UnitPart, call: &Call) -> Result<Verdict, Fault>
@@ -129,6 +130,33 @@ pub fn judge(alloc: Global, part: Option<&UnitPart>, call: &Call) -> Result<Verd
         return Ok(Verdict::Refused(Refused::NotGranted));
     };
     judge_part(alloc, unit, part, call)
+}
+
+/// What `judge` answers to a call for the shelves of a unit. It takes the shelves out of the part, so that their words are
+/// not copied once more.
+pub fn judge_shelves(
+    alloc: Global,
+    given: &mut Option<UnitPart>,
+    unit: &UnitCode,
+    call: &Call,
+) -> Result<Verdict, Fault>
+    requires { call.now.request ≡ ShelvesCall unit.now }
+    ensures value { (h : List Call) → IsPartOf given.old h call.now
+        → IfOk result (IsVerdictOn h call.now) }
+    ensures err { OnlyMemory result }
+{
+    let Some(part) = given else {
+        return Ok(Verdict::Refused(Refused::NotGranted));
+    };
+    let Some(row) = part.rows.units.as_slice().first() else {
+        return Ok(Verdict::Refused(Refused::NotGranted));
+    };
+    if let Some(refused) = holder_refusal(row, part, call) {
+        return Ok(Verdict::Refused(refused));
+    }
+    let shelves = mem::replace(&mut part.rows.shelves, Sorted::new(alloc));
+    let said = shelves_among(alloc, &part.rows.alarms, shelves, call.moment, unit);
+    answer(alloc, said)
 }
 
 /// What is answered to an opening, whether its code is taken or not.

@@ -1,12 +1,12 @@
 //! The answers to calls that only ask.
 
-ghost use Rattle.std.specs.Prelude.{◌≡◌, ℕ};
+ghost use Rattle.std.specs.Prelude.{◌≡◌, IfOk, Ok, ℕ};
 ghost use Rattle.plant_types.specs.{Names.{Name}, Results.{Gives, OnlyMemory}};
-ghost use Rattle.plant_model.specs.{Facts.{returned}, Replies.{shelf_lines}};
 ghost use Rattle.plant_model.specs.steps.RowFacts.{facts_in};
 ghost use Rattle.plant_model.specs.declared.call.Request.TheVariants.{Alarms as AlarmsCall, ChangeOf as ChangeCall, Floods as FloodsCall, RecordOf as RecordCall, Shelves as ShelvesCall, Standing as StandingCall, Status as StatusCall};
 ghost use Rattle.plant_unit.specs.{Additions.{AreCountable, AreKept}, FromFacts.{Answers, AnswersAlways, AnswersAnyone, GivesFrom}};
-ghost use Rattle.plant_unit.specs.Shelving.{is_shelved, line_at};
+ghost use Rattle.plant_model.specs.declared.reply.Reply.TheVariants.{Shelves as ShelvesReply};
+ghost use Rattle.plant_unit.specs.Shelving.{is_shelved, line_at, lines_among};
 ghost use Rattle.plant_model.specs.Replies as replies;
 
 use crate::facts::{returned_next, state_now, state_of};
@@ -17,7 +17,7 @@ use plant_model::{
     AlarmLine, AlarmRow, Refused, Reply, ShelfLine, ShelfRow, StandingLine, StatusRow, UnitPart,
     alarm_of,
 };
-use plant_types::{Fault, List, Moment, Tag, UnitCode};
+use plant_types::{Fault, List, Moment, Sorted, Tag, TryCopy, UnitCode};
 use std::alloc::Global;
 
 /// The status of an alarm.
@@ -49,58 +49,70 @@ pub fn status(
 }
 
 /// The line of a shelf whose alarm last returned to normal at this moment; none where the shelf has ended.
-pub fn shelf_line(
-    alloc: Global,
-    row: &ShelfRow,
-    returned: Option<Moment>,
-    now: Moment,
-) -> Result<Option<ShelfLine>, Fault>
-    ensures value { Gives result (line_at row.now returned now) }
-    ensures err { OnlyMemory result }
+pub fn shelf_line(row: ShelfRow, returned: Option<Moment>, now: Moment) -> Option<ShelfLine>
+    ensures { result ≡ line_at row returned now }
 {
-    let (one_shot, left) = match state_of(Some(row), returned, now) {
-        ShelfState::Unshelved => return Ok(None),
+    let (one_shot, left) = match state_of(Some(&row), returned, now) {
+        ShelfState::Unshelved => return None,
         ShelfState::TimedShelved(left) => (false, left),
         ShelfState::OneShotShelved(left) => (true, left),
     };
-    Ok(Some(ShelfLine {
-        tag: row.tag.copy(alloc)?,
+    let ShelfRow {
+        tag,
+        one_shot: _,
+        start_s,
+        until_s: _,
+        person,
+        words,
+    } = row;
+    Some(ShelfLine {
+        tag,
         one_shot,
-        start: row.start_s,
+        start: start_s,
         left,
-        person: row.person.copy(alloc)?,
-        words: row.words.copy(alloc)?,
-    }))
+        person,
+        words,
+    })
 }
 
-/// The line of a shelf, whose alarm is looked for first at the place that is next; none where the shelf has ended.
-fn line(
+/// The lines of the shelves that hold, by the alarms of the unit: mostly one for each shelf.
+fn lines(
     alloc: Global,
-    part: &UnitPart,
-    next: &mut usize,
-    row: &ShelfRow,
+    alarms: &Sorted<AlarmRow>,
+    shelves: Sorted<ShelfRow>,
     now: Moment,
-) -> Result<Option<ShelfLine>, Fault>
-    ensures value { GivesFrom part.now result (λ f. line_at row.now (returned f row.now.tag) now) }
+) -> Result<List<ShelfLine>, Fault>
+    ensures value { IfOk result (λ lines. lines ≡ lines_among alarms.now shelves now) }
     ensures err { OnlyMemory result }
 {
-    shelf_line(alloc, row, returned_next(part, next, &row.tag), now)
-}
-
-/// The lines of the shelves that hold. A part has the alarms of its shelves, mostly one for each.
-fn lines(alloc: Global, part: &UnitPart, now: Moment) -> Result<List<ShelfLine>, Fault>
-    ensures value { GivesFrom part.now result (λ f. shelf_lines f now) }
-    ensures err { OnlyMemory result }
-{
-    let shelves = part.rows.shelves.as_slice();
     let mut lines = List::new(alloc);
     let mut next = 0;
-    for row in shelves {
-        if let Some(found) = line(alloc, part, &mut next, row, now)? {
-            lines.push(found)?;
+    for row in shelves.into_list().into_vec() {
+        let returned = returned_next(alarms, &mut next, &row.tag);
+        if let Some(line) = shelf_line(row, returned, now) {
+            lines.push(line)?;
         }
     }
     Ok(lines)
+}
+
+/// The shelves that hold at the moment, of these and by the alarms of the unit. Their words become the reply's.
+pub fn shelves_among(
+    alloc: Global,
+    alarms: &Sorted<AlarmRow>,
+    shelves: Sorted<ShelfRow>,
+    now: Moment,
+    unit: &UnitCode,
+) -> Result<Result<Reply, Refused>, Fault>
+    ensures value { IfOk result (λ said.
+        said ≡ Ok (ShelvesReply unit.now now (lines_among alarms.now shelves now))) }
+    ensures err { OnlyMemory result }
+{
+    Ok(Ok(Reply::Shelves {
+        unit: unit.copy(alloc)?,
+        at: now,
+        lines: lines(alloc, alarms, shelves, now)?,
+    }))
 }
 
 /// The shelves that hold at the moment.
@@ -110,14 +122,11 @@ pub fn shelves(
     now: Moment,
     unit: &UnitCode,
 ) -> Result<Result<Reply, Refused>, Fault>
-    ensures value { AreKept part.now → AnswersAnyone part.now now (ShelvesCall unit.now) result }
+    ensures value { AnswersAnyone part.now now (ShelvesCall unit.now) result }
     ensures err { OnlyMemory result }
 {
-    Ok(Ok(Reply::Shelves {
-        unit: unit.copy(alloc)?,
-        at: now,
-        lines: lines(alloc, part, now)?,
-    }))
+    let shelves = part.rows.shelves.copy(alloc)?;
+    shelves_among(alloc, &part.rows.alarms, shelves, now, unit)
 }
 
 /// Where the rows of the alarm that comes next are looked for first.

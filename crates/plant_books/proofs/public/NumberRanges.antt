@@ -1,15 +1,12 @@
 -- The rows of a number among rows whose numbers do not fall: where they begin and end, and those of several numbers.
-use Rattle.std.{specs.{Cmp.{ranked}, FinMap.Entries.{below_all}}, proofs.lemmas.{List.Elements.{filter_agree}, Bool.{le-ltb}}}
-use Rattle.std.specs.{List.Sorted.{IsNonDecreasingBy, IsPartitionPoint, IsPartitionedBy, IsStrictlySortedBy}, Ordering.{ordering_then}}
-use Rattle.std.proofs.Common.{Bool, List, [], ap, arith, cond, drop, false, get_or, inl, inr, length, not, refl, subst, suc, sym, take, true, zero, ℕ, ◌++◌, ◌<◌, ◌∙◌, ◌∷◌, ◌≡◌, ◌≤◌, ◌⊎◌, nat_cmp, Ordering, Equal, Greater, Less, T, filter, map, nat_le, nat_lt, ◌||◌, ◌&&◌}
+use Rattle.std.{proofs.lemmas.{List.Elements.{filter_agree}, Bool.{le-ltb}}}
+use Rattle.std.specs.{List.Sorted.{IsNonDecreasingBy, IsPartitionPoint, IsPartitionedBy, IsStrictlySortedBy}}
+use Rattle.std.proofs.Common.{Bool, List, [], ap, arith, cond, drop, false, get_or, inl, inr, length, not, refl, subst, suc, sym, take, true, zero, ℕ, ◌++◌, ◌<◌, ◌∙◌, ◌∷◌, ◌≡◌, ◌≤◌, ◌⊎◌, nat_cmp, filter, nat_le, nat_lt, ◌||◌, ◌&&◌}
 use Rattle.std.proofs.lemmas.{Bool.{cases_order, le-leb, lt-ltb, or_right, lt-leb, and_right}, List.Sorted.{IsPartitionedBy-leb, IsPartitionedBy-ltb}}
-use Rattle.plant_books.{specs.Numbered.{NumbersRise}, proofs.NumbersAmong.{among, among_more, none_among, or_none, smaller}}
+use Rattle.plant_books.{proofs.NumbersAmong.{among, among_more, none_among, or_none, smaller}}
 use Rattle.plant_import.proofs.public.Placed.{AllBelow, other, other_above}
-use Rattle.plant_model.specs.{Matrices.{band_cmp, cell_cmp}, declared.rows.BandRow.{BandRow}}
-use Rattle.plant_model.specs.steps.RowFacts.{band_key, cell_key, change_number}
-use Rattle.plant_model.specs.{declared.rows.{CellRow.{CellRow}, ChangeEntry.{ChangeEntry}}, Histories.{same_number}}
-use Rattle.plant_model.proofs.public.RowsFound.{tied_numbers, less}
-use Rattle.plant_types.{specs.KeyedRows.{IsInOrder}, proofs.public.{Orders.{same_numbers}, Halves.{first, second}}}
+use Rattle.plant_model.specs.{Histories.{same_number}}
+use Rattle.plant_model.proofs.public.RowsFound.{tied_numbers}
 
 -- ---- what stands before the place where a test changes, and what stands from it on
 

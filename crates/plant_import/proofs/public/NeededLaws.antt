@@ -40,6 +40,29 @@ all_lower rows (k ∷ ks) h =
     each_both (λ e. k.seq < e.seq) (λ e. Each (λ x. x.seq < e.seq) ks) (λ e. Each (λ x. x.seq < e.seq) (k ∷ ks))
     (λ e one others. (one, others)) rows (above_all rows k h.0) (all_lower rows ks h.1)
 
+-- no row is late beside events that all come before it
+all_pass : {X : Type 0} (p : X → Bool) (xs : List X) → length (filter p xs) ≡ length xs → Each (λ x. p x ≡ true) xs
+all_pass p [] h = tt
+all_pass {X} p (x ∷ xs) h = by (p x) refl h (all_pass p xs)
+  where
+    by : (b : Bool) → p x ≡ b → length (if b then x ∷ filter p xs else filter p xs) ≡ suc (length xs)
+        → (length (filter p xs) ≡ length xs → Each (λ y. p y ≡ true) xs) → Each (λ y. p y ≡ true) (x ∷ xs)
+    by true e h rest = (e, rest (omega (arith, h)))
+    by false e h rest = absurd (omega (arith, h, length-filter_both p (λ y. not (p y)) (λ y. refl) xs))
+
+pub none_late : (kept rows : List Event) → length (filter (is_before_all rows) kept) ≡ length kept → has_late kept rows ≡ false
+none_late kept rows h =
+    any_none (is_late kept) rows (each_weaker (λ e. Each (λ k. k.seq < e.seq) kept) (λ e. is_late kept e ≡ false) one rows
+    (all_lower rows kept (all_pass (is_before_all rows) kept h)))
+  where
+    later : (e k : Event) → k.seq < e.seq → (same_name e.tag k.tag && nat_lt e.seq k.seq) ≡ false
+    later e k lt = ap (λ b. same_name e.tag k.tag && b) (le-ltb e.seq k.seq (omega (arith, lt))) ∙ and-false (same_name e.tag k.tag)
+
+    one : (e : Event) → Each (λ k. k.seq < e.seq) kept → is_late kept e ≡ false
+    one e low =
+        ap (λ b. b && not (list_any (has_number e.seq) kept)) (any_none (λ k. same_name e.tag k.tag && nat_lt e.seq k.seq) kept
+        (each_weaker (λ k. k.seq < e.seq) (λ k. (same_name e.tag k.tag && nat_lt e.seq k.seq) ≡ false) (later e) kept low))
+
 -- the kept events are some that come before every row, and then the near ones, the first of which comes before every row too
 pub record AreLed (rows kept near : List Event) : Type 0 where
   pub pre : List Event

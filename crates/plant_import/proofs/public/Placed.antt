@@ -97,12 +97,6 @@ module _ {X : Type 0} (key : X → ℕ) where
     behind_end r xs rs h k.1,
   )
 
-  -- one more of rows that are put one after another
-  pub put_next : (old new more whole : List X) (i : ℕ) (r : X) → puts old (drop i more) ≡ whole → i < length more → r ≡ get_or more i r
-      → new ≡ put r old → puts new (drop (i + 1) more) ≡ whole
-  put_next old new more whole i r so lt is done =
-      ap (λ l. puts l (drop (i + 1) more)) done ∙ sym (ap (puts old) (drop_more more i r lt ∙ ap (λ x. x ∷ drop (i + 1) more) (sym is))) ∙ so
-
   -- rising rows that are put one by one are those rows
   pub puts_none : (rs : List X) → Rises rs → puts [] rs ≡ rs
   puts_none [] h = refl

@@ -13,6 +13,17 @@ pub filter_map_more : {X Y : Type 0} (f : X → Option Y) (xs : List X) (i : ℕ
 filter_map_more f xs i d o lt e = ap (filter_map f) (take_more xs i d lt) ∙ filter_map-append f (take i xs) _
     ∙ ap (λ ys. filter_map f (take i xs) ++ ys) (one f (get_or xs i d) o e)
 
+-- and of one whose elements are taken out of another
+pub filter_map_some : {X Y : Type 0} (f : X → Option Y) (xs : List X) (x : X) (y : Y) (made : List Y) → f x ≡ Some y → made ≡ filter_map f xs
+    → made ++ y ∷ [] ≡ filter_map f (xs ++ x ∷ [])
+filter_map_some f xs x y made e is =
+    ap (λ ys. ys ++ y ∷ []) is ∙ sym (filter_map-append f xs (x ∷ []) ∙ ap (λ ys. filter_map f xs ++ ys) (one f x (Some y) e))
+
+pub filter_map_none : {X Y : Type 0} (f : X → Option Y) (xs : List X) (x : X) (made : List Y) → f x ≡ None → made ≡ filter_map f xs
+    → made ≡ filter_map f (xs ++ x ∷ [])
+filter_map_none f xs x made e is =
+    is ∙ sym (filter_map-append f xs (x ∷ []) ∙ ap (λ ys. filter_map f xs ++ ys) (one f x None e) ∙ append-nil (filter_map f xs))
+
 -- what a push adds to what a loop has made
 pub grown : {A : Type 0} (first old new made more : List A) (xs : List A) → new ≡ old ++ xs → old ≡ first ++ made → more ≡ made ++ xs
     → new ≡ first ++ more

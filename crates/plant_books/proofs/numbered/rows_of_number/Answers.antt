@@ -1,4 +1,4 @@
-use Rattle.std.proofs.{Common.{List, ap, drop, rules, subst, sym, take, ◌∙◌, ◌≡◌, nat_le, nat_lt}, lemmas.List.Sorted.{IsPartitionPoint-from_clause}}
+use Rattle.std.proofs.{Common.{ap, drop, rules, subst, sym, take, ◌∙◌, ◌≡◌, nat_le, nat_lt}, lemmas.List.Sorted.{IsPartitionPoint-from_clause}}
 use Rattle.plant_books.{specs.Numbered.{NumbersRise}, proofs.public.NumberRanges.{Parted, cut_out, parted_below, parted_upto, those_of}}
 use Rattle.plant_books.proofs.numbered.rows_of_number.Goals as goal
 

@@ -1,5 +1,5 @@
-use Rattle.std.proofs.{Common.{[], ap, append_assoc, subst, sym, ◌++◌, ◌∙◌, ◌∷◌, ◌≡◌}, lemmas.List.{append-nil}}
-use Rattle.plant_books.{specs.Numbered.{of_numbers}, proofs.public.NumberRanges.{goes_on, those_among}}
+use Rattle.std.proofs.{Common.{[], ap, append_assoc, subst, sym, ◌++◌, ◌∙◌, ◌∷◌, ◌≡◌}}
+use Rattle.plant_books.{proofs.public.NumberRanges.{goes_on}}
 use Rattle.plant_types.{specs.KeyedRows.{IsInOrder}, proofs.public.SortedLaws.{in_order_some}}
 use Rattle.plant_books.proofs.NumbersAmong.{among}
 use Rattle.plant_books.proofs.numbered.rows_of_numbers.Goals as goal

@@ -1,6 +1,10 @@
-use Rattle.std.proofs.{Common.{arith}, lemmas.List.Folds.{list_any_at, list_any_more}}
-use Rattle.plant_import.{specs.Needed.{from_last_before}, proofs.public.NeededLaws.{late_near, near_late}}
+use Rattle.std.proofs.{Common.{arith, sym, ◌∙◌}, lemmas.List.Folds.{list_any_at, list_any_more}}
+use Rattle.plant_import.{specs.Needed.{from_last_before}, proofs.public.NeededLaws.{late_near, near_late, none_late}}
 use Rattle.plant_import.proofs.needs.has_late.Goals as goal
+
+pub returns-then-count_before-len-clause-value : goal.returns-then-count_before-len-clause-value
+returns-then-count_before-len-clause-value c =
+    sym (none_late c.args.kept.now c.args.rows.now (sym c.count_before.ensures.value ∙ c.if-count_before-len.true ∙ c.len.ensures))
 
 pub returns-then-is_late-clause-value : goal.returns-then-is_late-clause-value
 returns-then-is_late-clause-value c =

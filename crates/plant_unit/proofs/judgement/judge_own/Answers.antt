@@ -78,7 +78,7 @@ returns-in-ChangeOf-clause-value c kept =
 pub returns-in-Shelves-clause-value : goal.returns-in-Shelves-clause-value
 returns-in-Shelves-clause-value c kept =
     read_for (facts_in c.args.part.now) c.args.call.now _ c.in-Shelves.is refl c.shelves.result c.answer-in-Shelves.result
-    (c.shelves.ensures.value kept c.args.call.now.person) c.answer-in-Shelves.ensures.value
+    (c.shelves.ensures.value c.args.call.now.person) c.answer-in-Shelves.ensures.value
 
 pub returns-in-Alarms-clause-value : goal.returns-in-Alarms-clause-value
 returns-in-Alarms-clause-value c kept =

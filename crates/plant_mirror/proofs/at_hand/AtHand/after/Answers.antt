@@ -6,7 +6,7 @@ use Rattle.plant_mirror.proofs.at_hand.AtHand.after.Goals as goal
 pub returns-in-Ok : goal.returns-in-Ok
 returns-in-Ok c = λ m u h.
     let none : c.misses.result ≡ false = search rules in
-    changed_there m u c.args.changes.now c.args.self (record {
+    changed_there m u c.args.changes c.args.self (record {
       rows = c.without_reviews.result;
       has_events = c.args.self.has_events;
     }) h refl (c.without_reviews.ensures ∙ ap without_reviews (c.in-Ok.ensures.value)) (sym c.misses.ensures ∙ none)

@@ -1,41 +1,20 @@
-use Rattle.std.{specs.FinMap.{get}, proofs.Common.{subst, sym}}
+use Rattle.std.specs.FinMap.{get}
+use Rattle.std.proofs.Common.{List, subst, sym}
 use Rattle.plant_books.specs.Contents.{after_changes}
-use Rattle.plant_mirror.{specs.Copies.{IsCopy}, proofs.CopyLaws.{others_stay, taken_there}}
-use Rattle.plant_types.specs.Names.{Name}
+use Rattle.plant_mirror.specs.Copies.{AreCopies}
+use Rattle.plant_model.specs.declared.rows.RowEdit.{RowEdit}
 use Rattle.plant_mirror.proofs.mirror.MirrorBooks.apply.Goals as goal
 
-pub returns-in-Some-after-clause-made : goal.returns-in-Some-after-clause-made
-returns-in-Some-after-clause-made g c = λ m h known.
-    let u = c.args.unit.now in
-    let cs = c.args.changes.now in
-    let after = after_changes m u cs in
-    record {
-      held = c.in_ok-change_below.ensures.made m h.held known;
-      copied = λ honest.
-          let old = rw (sym c.in_ok-change_below.ensures.kept) at (h.copied (c.in_ok-change_below.ensures.honest honest)) in
-          let it = taken_there u (get m.units) c.change_below.new.self.copies.units.entries (c.in-Some.unit, c.in-Some.copy) old
-          c.in-Some.ensures.taken in
-          let rest = c.take.ensures.rest (get m.units) (get after.units) (others_stay m u cs) old in
-          let copy = c.in-Some-after.ensures m u it.1 in
-          c.keep.ensures.kept (get after.units) (subst (λ (v : Name). IsCopy (get after.units) (v, c.in-Some-after.copy)) it.0 copy) rest;
-    }
+pub returns-in-Ok-clause-made : goal.returns-in-Ok-clause-made
+returns-in-Ok-clause-made g c = λ m h known. record {
+  held = c.in_ok-change_below.ensures.made m h.held known;
+  copied = λ honest.
+      subst (λ (cs : List RowEdit). AreCopies (get (after_changes m c.args.unit.now cs).units) c.follow.new.self.units.entries) c.in-Ok.ensures.value
+      (c.follow.ensures.copied m (rw (sym c.in_ok-change_below.ensures.kept) at (h.copied (c.in_ok-change_below.ensures.honest honest))));
+}
 
-pub returns-in_default-after-clause-made : goal.returns-in_default-after-clause-made
-returns-in_default-after-clause-made g c = λ m h known.
-    let u = c.args.unit.now in
-    let cs = c.args.changes.now in
-    record {
-      held = c.in_ok-change_below.ensures.made m h.held known;
-      copied = λ honest. c.take.ensures.rest (get m.units) (get (after_changes m u cs).units) (others_stay m u cs)
-          (rw (sym c.in_ok-change_below.ensures.kept) at (h.copied (c.in_ok-change_below.ensures.honest honest)));
-    }
-
-pub returns-in_default-clause-made : goal.returns-in_default-clause-made
-returns-in_default-clause-made g c = λ m h known.
-    let u = c.args.unit.now in
-    let cs = c.args.changes.now in
-    record {
-      held = c.in_ok-change_below.ensures.made m h.held known;
-      copied = λ honest. c.take.ensures.rest (get m.units) (get (after_changes m u cs).units) (others_stay m u cs)
-          (rw (sym c.in_ok-change_below.ensures.kept) at (h.copied (c.in_ok-change_below.ensures.honest honest)));
-    }
+pub returns-in-Err-clause-made : goal.returns-in-Err-clause-made
+returns-in-Err-clause-made g c = λ m h known. record {
+  held = c.in_ok-change_below.ensures.made m h.held known;
+  copied = λ honest. subst (AreCopies (get (after_changes m c.args.unit.now c.args.changes.now).units)) (sym c.clear.ensures.none) tt;
+}

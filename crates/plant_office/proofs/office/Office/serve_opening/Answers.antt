@@ -28,28 +28,28 @@ returns-in-Accepted g c =
     let u = c.args.unit.now in
     let first = c.args.self.now.books in
     let mid = c.taken.new.self in
-    let last = c.apply.new.self in
+    let last = c.carry_out.new.self in
     record {
       serves = subst (λ (said : Result (Result Reply Refused) Fault). Serves g.B.Books call said first last) (sym c.reply_if_made.ensures)
-          (by_outcome c.apply.result c.in-Accepted.reply (λ said. Serves g.B.Books call said first last)
+          (by_outcome c.carry_out.result c.in-Accepted.reply (λ said. Serves g.B.Books call said first last)
           (λ made. Makes g.B.Books.represents mid last u c.in-Accepted.changes made × KeepsOnErr g.B.Books.represents mid last made
           × CountsBy g.B.Books.stores mid last made × OnOk made (g.B.Books.is_clean last → g.B.Books.is_honest last))
-          (c.apply.ensures.made, c.apply.ensures.unchanged, c.apply.ensures.count, c.apply.ensures.kept)
+          (c.carry_out.ensures.made, c.carry_out.ensures.unchanged, c.carry_out.ensures.count, c.carry_out.ensures.kept)
           (λ _ it. serves_changing (λ m k w legal h honest.
           let told = c.taken.ensures.same m k in
-          let early = c.apply.ensures.honest honest in
+          let early = c.carry_out.ensures.honest honest in
           let v = opening_of m w call u _ _ _ h (c.administrator.ensures m told) (c.in_ok-taken.ensures.found m k early)
           (subst (IsOpening _ _ _) c.in-Accepted.is c.in_ok-refused.ensures.value) in
           leaves w call _ (after_changes m u c.in-Accepted.changes)
           (g.B.Books.represents last) legal c.note_matrix.ensures
           (accepted_opening m w call u c.in-Accepted.reply _ h c.requires.named c.requires.opening v)
           (it.0 m told (known_opening m w call u c.in-Accepted.reply _ v)))
-          (λ honest. c.taken.ensures.honest (c.apply.ensures.honest honest)) (opening_changes call.request c.requires.opening)
+          (λ honest. c.taken.ensures.honest (c.carry_out.ensures.honest honest)) (opening_changes call.request c.requires.opening)
           (it.2 ∙ c.in_ok-taken.ensures.count)
           (record {
             read = c.taken.ensures.crash;
             same = c.taken.ensures.same;
-            writes = c.apply.ensures.crash;
+            writes = c.carry_out.ensures.crash;
             known = λ m k w legal h honest.
                 let v = opening_of m w call u _ _ _ h (c.administrator.ensures m (c.taken.ensures.same m k)) (c.in_ok-taken.ensures.found m k honest)
                 (subst (IsOpening _ _ _) c.in-Accepted.is c.in_ok-refused.ensures.value) in
@@ -60,12 +60,12 @@ returns-in-Accepted g c =
                 holds_opened m w call u c.in-Accepted.reply _ legal h c.note_matrix.ensures c.requires.named c.requires.opening v;
             legal = λ w legal. next_legal w call legal c.note_matrix.ensures;
           }) it.3)
-          (λ e it. serves_fault (Err e) e refl (λ honest. c.taken.ensures.honest (c.apply.ensures.honest honest))
+          (λ e it. serves_fault (Err e) e refl (λ honest. c.taken.ensures.honest (c.carry_out.ensures.honest honest))
           (λ m k. it.1 m (c.taken.ensures.same m k)) c.in_ok-taken.ensures.count it.2
           (record {
             read = c.taken.ensures.crash;
             same = c.taken.ensures.same;
-            writes = c.apply.ensures.crash;
+            writes = c.carry_out.ensures.crash;
             known = λ m k w legal h honest.
                 let v = opening_of m w call u _ _ _ h (c.administrator.ensures m (c.taken.ensures.same m k)) (c.in_ok-taken.ensures.found m k honest)
                 (subst (IsOpening _ _ _) c.in-Accepted.is c.in_ok-refused.ensures.value) in

@@ -40,15 +40,15 @@ returns-else-is_read g c =
     let changes = sym c.if-is_read.ensures in
     let left = c.leave_out_same.new.changes in
     let mid = c.args.self.now.books in
-    let last = c.apply.new.self in
+    let last = c.carry_out.new.self in
     record {
       serves = λ before read. subst (λ (said : Result (Result Reply Refused) Fault). Serves g.B.Books call said before last) (sym c.reply_if_made.ensures)
-          (by_outcome c.apply.result c.in-Accepted.reply (λ said. Serves g.B.Books call said before last)
+          (by_outcome c.carry_out.result c.in-Accepted.reply (λ said. Serves g.B.Books call said before last)
           (λ made. Makes g.B.Books.represents mid last u left made × KeepsOnErr g.B.Books.represents mid last made
           × CountsBy g.B.Books.stores mid last made × OnOk made (g.B.Books.is_clean last → g.B.Books.is_honest last))
-          (c.apply.ensures.made, c.apply.ensures.unchanged, c.apply.ensures.count, c.apply.ensures.kept)
+          (c.carry_out.ensures.made, c.carry_out.ensures.unchanged, c.carry_out.ensures.count, c.carry_out.ensures.kept)
           (λ _ it. serves_changing (λ m k w legal h honest.
-          let found = read.found m k (c.apply.ensures.honest honest) u c.requires.named in
+          let found = read.found m k (c.carry_out.ensures.honest honest) u c.requires.named in
           let v = on_history m w call u _ _ _ _ legal h found c.as_ref.ensures.value c.in_ok-refused.ensures.value c.in-Accepted.is in
           let known = known_call m w call u c.in-Accepted.reply _ left h changes v in
           let same = same_changes m call u c.args.part.now c.in-Accepted.changes left found c.leave_out_same.ensures in
@@ -56,11 +56,11 @@ returns-else-is_read g c =
           (g.B.Books.represents last) legal c.note_matrix.ensures
           (changing_call m w call u c.in-Accepted.reply _ h c.requires.named c.requires.plain changes v)
           (subst (g.B.Books.represents last) same (it.0 m (read.same m k) known)))
-          (λ honest. read.honest (c.apply.ensures.honest honest)) changes (it.2 ∙ read.count)
+          (λ honest. read.honest (c.carry_out.ensures.honest honest)) changes (it.2 ∙ read.count)
           (record {
             read = read.crash;
             same = read.same;
-            writes = c.apply.ensures.crash;
+            writes = c.carry_out.ensures.crash;
             known = λ m k w legal h honest.
                 let v = on_history m w call u _ _ _ _ legal h (read.found m k honest u c.requires.named) c.as_ref.ensures.value
                 c.in_ok-refused.ensures.value c.in-Accepted.is in
@@ -72,12 +72,12 @@ returns-else-is_read g c =
                 (same_changes m call u c.args.part.now c.in-Accepted.changes left found c.leave_out_same.ensures);
             legal = λ w legal. next_legal w call legal c.note_matrix.ensures;
           }) it.3)
-          (λ e it. serves_fault (Err e) e refl (λ honest. read.honest (c.apply.ensures.honest honest))
+          (λ e it. serves_fault (Err e) e refl (λ honest. read.honest (c.carry_out.ensures.honest honest))
           (λ m k. it.1 m (read.same m k)) read.count it.2
           (record {
             read = read.crash;
             same = read.same;
-            writes = c.apply.ensures.crash;
+            writes = c.carry_out.ensures.crash;
             known = λ m k w legal h honest.
                 let v = on_history m w call u _ _ _ _ legal h (read.found m k honest u c.requires.named) c.as_ref.ensures.value
                 c.in_ok-refused.ensures.value c.in-Accepted.is in
