@@ -162,17 +162,6 @@ pub fn events_after(
     joined(alloc, kept, &rising)
 }
 
-/// Puts the events among the kept ones, one after another.
-fn put_each(kept: &mut Sorted<Event>, more: List<Event>) -> Result<(), Fault>
-    ensures value { OnOk result (kept.new ≡ with_events kept.old more) }
-    ensures err { OnlyMemory result }
-{
-    for event in more.into_vec() {
-        kept.put(event)?;
-    }
-    Ok(())
-}
-
 /// Puts events, in any order, among the kept ones. Its time is that of the new events where these rise and come after
 /// all others, else that of going over the kept events once.
 pub fn put_events(alloc: Global, kept: &mut Sorted<Event>, more: List<Event>) -> Result<(), Fault>
@@ -180,8 +169,8 @@ pub fn put_events(alloc: Global, kept: &mut Sorted<Event>, more: List<Event>) ->
     ensures err { OnlyMemory result }
 {
     let events = more.as_slice();
-    if rise(events) && count_before(kept, events) == kept.len() {
-        return put_each(kept, more);
+    if rise(events) && count_before(kept, events) == kept.as_slice().len() {
+        return kept.append(more);
     }
     *kept = events_after(alloc, kept, events)?;
     Ok(())

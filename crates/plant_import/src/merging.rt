@@ -38,7 +38,7 @@ pub fn merge<T: Keyed<Key = Tag>>(
         (λ merged. IfOk merged (λ m. m.repeated + length m.fresh ≡ length file.now)) }
     ensures err { OnlyMemory result }
 {
-    let mut fresh = List::new(alloc);
+    let mut fresh = List::with_capacity(alloc, file.len())?;
     let mut rising = tree_for(alloc, file);
     let mut repeated = 0;
     let mut next = 0;

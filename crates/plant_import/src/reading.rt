@@ -13,6 +13,9 @@ use plant_types::limits::MAX_FILE_ROWS;
 use plant_types::{Fault, List, Moment, Tag};
 use std::alloc::Global;
 
+/// The bytes of the shortest row, with the end of its line.
+const SHORTEST_ROW: usize = 29;
+
 /// The rows of a file, or its first fault.
 pub type FileRead = Result<List<Event>, BadFile>;
 
@@ -36,7 +39,12 @@ pub fn read_file(alloc: Global, bytes: &[u8]) -> Result<FileRead, Fault>
     if !is_header(&first) {
         return Ok(Err(no_header));
     }
-    read_rows(alloc, reader)
+    read_rows(alloc, reader, most_rows(bytes))
+}
+
+/// How many rows are read of a file at most.
+fn most_rows(bytes: &[u8]) -> usize {
+    (bytes.len() / SHORTEST_ROW).min(MAX_FILE_ROWS as usize)
 }
 
 fn is_header(row: &ByteRecord) -> bool
@@ -49,13 +57,18 @@ fn is_header(row: &ByteRecord) -> bool
         && field(row, 3) == b"event".as_slice()
 }
 
-/// The events of the rows below the header, or their first fault. It reads no further than that.
-fn read_rows(alloc: Global, mut reader: Reader<&[u8]>) -> Result<FileRead, Fault>
+/// The events of the rows below the header, for so many of which there is room at first, or their first fault. It reads no
+/// further than that.
+fn read_rows(
+    alloc: Global,
+    mut reader: Reader<&[u8]>,
+    capacity: usize,
+) -> Result<FileRead, Fault>
     ensures value { IfOk result (λ read. (text : List ℕ) → (header : List (List ℕ))
         → HasRead reader.entry text (header ∷ []) → AreRowsRead text header read) }
     ensures err { OnlyMemory result }
 {
-    let mut events = List::new(alloc);
+    let mut events = List::with_capacity(alloc, capacity)?;
     let mut row = ByteRecord::new(alloc);
     let mut place = 1;
     while next_record(&mut reader, &mut row)? {

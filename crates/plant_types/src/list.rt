@@ -1,4 +1,4 @@
-ghost use Rattle.std.specs.Prelude.{◌≡◌, ◌↔◌, [], ◌∷◌, ◌++◌, length, insert, remove, slice_get, slice_set, IsTrue, OnOk, OnErr};
+ghost use Rattle.std.specs.Prelude.{◌≡◌, ◌↔◌, [], ◌∷◌, ◌++◌, length, insert, remove, slice_get, slice_set, IfOk, IsTrue, OnOk, OnErr};
 ghost use Rattle.plant_types.specs.Results.{OnlyMemory};
 
 use crate::Fault;
@@ -27,6 +27,16 @@ impl<T: Drop> List<T> {
         List {
             rows: Vec::new(alloc),
         }
+    }
+
+    /// The empty list, with room for so many values.
+    pub fn with_capacity(alloc: Global, capacity: usize) -> Result<Self, Fault>
+        ensures none { IfOk result (λ list. list ≡ []) }
+        ensures memory { OnlyMemory result }
+    {
+        Ok(List {
+            rows: Vec::with_capacity(alloc, capacity)?,
+        })
     }
 
     /// The list of these values.
@@ -71,6 +81,16 @@ impl<T: Drop> List<T> {
         ensures memory { OnlyMemory result }
     {
         Ok(self.rows.push(row)?)
+    }
+
+    /// Moves the values of another list to the end. If memory runs out, the list is unchanged.
+    pub fn append(&mut self, more: List<T>) -> Result<(), Fault>
+        ensures ok { OnOk result (self.new ≡ self.old ++ more) }
+        ensures err { OnErr result (self.new ≡ self.old) }
+        ensures memory { OnlyMemory result }
+    {
+        let mut more = more.rows;
+        Ok(self.rows.append(&mut more)?)
     }
 
     /// Puts a value before the one at that place, counted from 0; at the end if the place is past it.

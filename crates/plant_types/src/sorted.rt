@@ -1,4 +1,4 @@
-ghost use Rattle.std.specs.Prelude.{◌≡◌, ◌↔◌, ◌-◌, ◌≤◌, [], length, is_some, option_copied, slice_get, IsOk, IsTrue, OnOk, OnErr, IfOk, IfErr};
+ghost use Rattle.std.specs.Prelude.{◌≡◌, ◌↔◌, ◌-◌, ◌≤◌, ◌++◌, [], length, is_some, option_copied, slice_get, IsOk, IsTrue, OnOk, OnErr, IfOk, IfErr};
 ghost use Rattle.plant_types.specs.KeyedRows.{IsFound, IsInOrder, IsPlace, IsPlaceFor, IsPlaceOf, cmp_at, put_row, remove_row, row_at, rows_below, rows_from};
 ghost use Rattle.std.specs.declared.cmp.Ordering.TheVariants.{Greater};
 ghost use Rattle.plant_types.specs.Results.{OnlyMemory};
@@ -147,7 +147,7 @@ impl<T: Keyed> Sorted<T> {
         }
     }
 
-    /// The place of the row of the key, or the key's place if there is no such row, found by halving.
+    /// The place of the row of the key, or a place without it if there is no such row, found by halving.
     fn find(&self, key: &T::Key) -> Result<usize, usize>
         ensures { IsFound T.order T.key key.now self.now result }
     {
@@ -199,8 +199,8 @@ impl<T: Keyed> Sorted<T> {
     }
 
     /// The place of the row of the key, looked for first at the place that is next, and then at the one before or behind it.
-    /// No row is looked for by halving where each one asked for is the one before again or stands right behind it. Next is then
-    /// the place behind the row, that of a row that was asked for again, or that of a key without a row.
+    /// Next becomes the place behind the row, stays at a row that was asked for again, and is the key's own place where no row
+    /// has it. So rows that are asked for one behind another, or again, are found without halving.
     pub fn place_next(&self, next: &mut usize, key: &T::Key) -> Option<usize>
         ensures { IsPlaceOf T.order T.key key.now self.now result }
     {
@@ -259,6 +259,17 @@ impl<T: Keyed> Sorted<T> {
             }
             Err(place) => self.rows.insert_at(place, row),
         }
+    }
+
+    /// Moves rows to the end that are known to come after all others, in order. Nothing is tested. If memory runs out, the
+    /// rows are unchanged.
+    pub fn append(&mut self, more: List<T>) -> Result<(), Fault>
+        requires { IsInOrder T.order T.key (self.old ++ more) }
+        ensures ok { OnOk result (self.new ≡ self.old ++ more) }
+        ensures err { OnErr result (self.new ≡ self.old) }
+        ensures memory { OnlyMemory result }
+    {
+        self.rows.append(more)
     }
 
     /// Takes out the row of the key.

@@ -2,16 +2,16 @@
 use Rattle.std.specs.BTreeMap.{BTreeMap, Updates, get}
 use Rattle.std.specs.{Cmp.{eq_by_cmp_equiv, Lexicographic.{nat_list_cmp_total}}, List.{list_any, Sorted.{IsPartitionPoint}}}
 use Rattle.std.{specs.{Ordering.{eq_by_cmp}, Set.{unique_keys}}, proofs.lemmas.Bool.{le-ltb, lt-ltb, ltb-false, ltb-true}}
-use Rattle.std.proofs.lemmas.{Bool.Decides.{nat_tests}, List.{length-drop, length-take-le, drop_more, take-append-drop, take_more}}
+use Rattle.std.proofs.lemmas.{Bool.Decides.{nat_tests}, List.{length-drop, length-take-le, append-nil, drop_more, take-append-drop, take_more}}
 use Rattle.std.proofs.{lemmas.List.{Filters.{length-filter_both}, Folds.{list_any-append}}, Math.Bool.{and-false, or-false, or-true}}
 use Rattle.std.proofs.Common.{add-one, ap, arith, drop, get_or, refl, subst, suc, sym, take, zero, ◌∙◌, ◌⊎◌, inl, inr, Bool, List, None, Option, [], cond, false, filter, if◌then◌else◌, length, nat_lt, not, option_map, true, ℕ, ◌&&◌, ◌++◌, ◌+◌, ◌-◌, ◌<◌, ◌∷◌, ◌≡◌, ◌≤◌, ◌||◌, Ok, Result, Some, unwrap_or, nat_cmp}
 use Rattle.plant_alarm.specs.declared.event.Event.{Event}
 use Rattle.plant_import.specs.declared.{bad_file.BadFile.{BadFile}, merging.Merged.{Merged}}
 use Rattle.plant_import.specs.Merging.{IsRising, clashes, first_fault, fresh, merge, merged_or, out_of_order, same_event}
 use Rattle.plant_import.specs.Needed.{from_last_before, has_late, is_before_all, is_late, is_overtaken, needed}
-use Rattle.plant_import.specs.Numbers.{event_number, has_number, is_other, new_numbers, numbers_of}
+use Rattle.plant_import.specs.Numbers.{event_number, has_number, is_other, new_numbers, numbers_of, with_events}
 use Rattle.plant_import.{specs.{Reached.{AreReached}, Reading.{bad}}, proofs.public.Counted.{same_fault}}
-use Rattle.plant_import.proofs.public.{Nearest.{order_below, other_number}, Placed.{Rises, other, rises_of}}
+use Rattle.plant_import.proofs.public.{Nearest.{order_below, other_number}, Placed.{EachBehind, Rises, other, puts_after, puts_none, rises_of}}
 use Rattle.plant_import.proofs.public.Risings.{Before, Rising, in_number_order, is_rising, rising_of}
 use Rattle.plant_import.proofs.public.EachLaws.{Each, any_led, any_none, any_same, each_back, each_both, each_filter, each_from_all, each_front}
 use Rattle.plant_import.proofs.public.EachLaws.{each_of, each_weaker, filter_front, filter_parts, pairs_before, pairs_drop, pairs_weaker, parted_each}
@@ -62,6 +62,18 @@ none_late kept rows h =
     one e low =
         ap (λ b. b && not (list_any (has_number e.seq) kept)) (any_none (λ k. same_name e.tag k.tag && nat_lt e.seq k.seq) kept
         (each_weaker (λ k. k.seq < e.seq) (λ k. (same_name e.tag k.tag && nat_lt e.seq k.seq) ≡ false) (later e) kept low))
+
+-- rows in order are put at the end where the others all come before them
+pub put_at_end : (kept rows : List Event) → length (filter (is_before_all rows) kept) ≡ length kept → Rises event_number rows
+    → with_events kept rows ≡ kept ++ rows
+put_at_end kept rows h rises =
+    ap (λ l. with_events l rows) (sym (append-nil kept))
+    ∙ puts_after event_number rows kept [] (behind rows (all_lower rows kept (all_pass (is_before_all rows) kept h)))
+    ∙ ap (λ l. kept ++ l) (puts_none event_number rows rises)
+  where
+    behind : (es : List Event) → Each (λ e. Each (λ k. k.seq < e.seq) kept) es → EachBehind event_number kept es
+    behind [] f = tt
+    behind (e ∷ es) f = (f.0, behind es f.1)
 
 -- the kept events are some that come before every row, and then the near ones, the first of which comes before every row too
 pub record AreLed (rows kept near : List Event) : Type 0 where

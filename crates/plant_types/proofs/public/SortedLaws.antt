@@ -210,7 +210,7 @@ module _ {K X : Type 0} (R : K → K → Ordering) (key : X → K) where
         → eq_by_cmp R (key r) t ≡ false → None ≡ row_at R key t rows
     other_found rows t p order h r there same = ap (λ b. when b r) (sym same) ∙ ap (at_place t) (sym there) ∙ row_found rows t p order h
 
-    -- what the comparison with the row at a place tells
+    -- by how the row at a place compares, it has the key, or no row has it
     pub found_here : (rows : List X) (t : K) (p : ℕ) → cmp_at R key t rows p ≡ Equal → IsPlaceOf R key t rows (Some p)
     found_here rows t p equal = by (slice_get rows p) refl equal
       where

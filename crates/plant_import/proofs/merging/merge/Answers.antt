@@ -11,11 +11,11 @@ use Rattle.plant_import.proofs.merging.merge.Goals as goal
 pub loop-i-init : goal.loop-i-init
 loop-i-init g c =
     record {
-      count = rw c.new-fresh.ensures refl;
+      count = rw c.in_ok-fresh.ensures.none refl;
       so = λ rising. (
         [],
-        rw c.new-fresh.ensures (stand_none c.tree_for-rising.result c.args.file.now c.tree_for-rising.ensures),
-        rw c.new-fresh.ensures
+        rw c.in_ok-fresh.ensures.none (stand_none c.tree_for-rising.result c.args.file.now c.tree_for-rising.ensures),
+        rw c.in_ok-fresh.ensures.none
             (so_none (map g.T.Keyed.key c.args.alarms.now) c.args.now c.args.kept.now),
       );
     }
