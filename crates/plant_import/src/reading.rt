@@ -59,11 +59,7 @@ fn is_header(row: &ByteRecord) -> bool
 
 /// The events of the rows below the header, for so many of which there is room at first, or their first fault. It reads no
 /// further than that.
-fn read_rows(
-    alloc: Global,
-    mut reader: Reader<&[u8]>,
-    capacity: usize,
-) -> Result<FileRead, Fault>
+fn read_rows(alloc: Global, mut reader: Reader<&[u8]>, capacity: usize) -> Result<FileRead, Fault>
     ensures value { IfOk result (λ read. (text : List ℕ) → (header : List (List ℕ))
         → HasRead reader.entry text (header ∷ []) → AreRowsRead text header read) }
     ensures err { OnlyMemory result }
