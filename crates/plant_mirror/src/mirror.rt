@@ -167,8 +167,6 @@ impl<B: Books> Mirror<B> {
     }
 
     /// Brings to hand what the call looks at, where it is not there yet.
-    // Out of line, as a call on rows at hand would pay for the room of its locals.
-    #[inline(never)]
     fn prepare(&mut self, unit: &UnitCode, call: &Call) -> Result<(), Fault>
         ensures leaves { Leaves B.Books result self.old self.new }
     {
@@ -222,8 +220,6 @@ impl<B: Books> Mirror<B> {
     }
 
     /// The part of a call on this unit: from what is at hand, if that serves the call.
-    // Out of line, as a call on rows at hand would pay for the room of its locals.
-    #[inline(never)]
     fn part_of(&mut self, unit: &UnitCode, call: &Call) -> Result<Option<UnitPart>, Fault>
         ensures found { (m : Content) → Mirrors B.Books self.old m → B.is_honest self.new.books
             → unit_named call.now.request ≡ Some unit.now

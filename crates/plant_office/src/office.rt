@@ -162,8 +162,6 @@ impl<B: Books> Office<B> {
         Ok(lines)
     }
 
-    // Out of line, as a call on one unit would pay for the room of its locals.
-    #[inline(never)]
     fn my_units(&mut self, call: &Call) -> Result<Result<Reply, Refused>, Fault>
         requires { call.now.request ≡ MyUnits }
         ensures serves { Serves B.Books call.now result self.old.books self.new.books }
@@ -179,8 +177,6 @@ impl<B: Books> Office<B> {
         }
     }
 
-    // Out of line, as a call on one unit would pay for the room of its locals.
-    #[inline(never)]
     fn my_shelves(&mut self, call: &Call) -> Result<Result<Reply, Refused>, Fault>
         requires { call.now.request ≡ MyShelves }
         ensures serves { Serves B.Books call.now result self.old.books self.new.books }
@@ -273,8 +269,6 @@ impl<B: Books> Office<B> {
         self.serve_from(unit, &mut part, call)
     }
 
-    // Out of line, as a call on one unit would pay for the room of its locals.
-    #[inline(never)]
     fn serve_opening(
         &mut self,
         unit: &UnitCode,

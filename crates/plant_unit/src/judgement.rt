@@ -1,12 +1,12 @@
 ghost use Rattle.std.specs.Prelude.{◌≡◌, List, IfOk, option_copied, true, false};
 ghost use Rattle.plant_types.specs.Results.{OnlyMemory};
 ghost use Rattle.plant_alarm.specs.declared.event.Event.{Event as TheEvent};
-ghost use Rattle.plant_model.specs.{Verdicts.{is_opening}, declared.call.{Call.{Call}, Request.TheVariants.{Shelves as ShelvesCall}}};
+ghost use Rattle.plant_model.specs.{Verdicts.{is_opening, is_read}, declared.call.{Call.{Call}, Request.TheVariants.{Shelves as ShelvesCall}}};
 ghost use Rattle.plant_model.specs.steps.RowFacts.{facts_among, facts_in, unit_read};
-ghost use Rattle.plant_unit.specs.Additions.{AreKept};
+ghost use Rattle.plant_unit.specs.{Additions.{AreKept}, FromFacts.{Answers}};
 ghost use Rattle.plant_unit.specs.Judged.{AreEventsSeen, IsJudged, IsJudgedOwn, IsOpeningFor, IsPartOf, IsVerdictOn, SaysHeld, is_import};
 
-use crate::changes::opening_changes;
+use crate::changes::{is_read, opening_changes};
 use crate::decisions::{approve, propose, reject, withdraw_change};
 use crate::grants::{grant, withdraw};
 use crate::imports::judge_import;
@@ -20,11 +20,17 @@ use plant_types::{Fault, Person, Sorted, UnitCode};
 use std::alloc::Global;
 use std::mem;
 
-/// Judges a call other than an import, whose caller is allowed to make it.
-fn judge_own(alloc: Global, unit: &UnitRow, part: &UnitPart, call: &Call) -> Result<Verdict, Fault>
+/// Judges a call other than an import that changes something, and whose caller is allowed to make it.
+fn judge_change(
+    alloc: Global,
+    unit: &UnitRow,
+    part: &UnitPart,
+    call: &Call,
+) -> Result<Verdict, Fault>
     requires row { unit_read part.now.rows ≡ unit.now }
     requires plain { is_opening call.now.request ≡ false }
     requires no_import { is_import call.now.request ≡ false }
+    requires changes { is_read call.now.request ≡ false }
     ensures value { AreKept part.now → IfOk result (IsJudgedOwn (facts_in part.now) call.now) }
     ensures err { OnlyMemory result }
 {
@@ -81,18 +87,68 @@ fn judge_own(alloc: Global, unit: &UnitRow, part: &UnitPart, call: &Call) -> Res
         Request::Reject { number, .. } => {
             done(alloc, unit, now, reject(alloc, part, call, *number))
         }
-        Request::Status { tag, .. } => answer(alloc, status(alloc, part, now, tag)),
-        Request::RecordOf { tag, .. } => answer(alloc, record(alloc, part, tag)),
-        Request::ChangeOf { number, .. } => answer(alloc, change(alloc, part, *number)),
-        Request::Shelves { unit } => answer(alloc, shelves(alloc, part, now, unit)),
-        Request::Alarms { unit } => answer(alloc, alarms(alloc, part, now, unit)),
-        Request::Standing { unit } => answer(alloc, standing(alloc, part, now, unit)),
-        Request::Floods { unit, begin, until } => {
-            answer(alloc, floods(alloc, part, unit, *begin, *until))
-        }
-        // Judged elsewhere: openings, imports, and what names no unit.
-        Request::OpenUnit { .. } | Request::Import { .. } | Request::MyUnits | Request::MyShelves =>
-            { answer(alloc, Ok(Ok(Reply::Done))) }
+        // Judged elsewhere: openings, imports, and what only asks.
+        Request::OpenUnit { .. }
+        | Request::Import { .. }
+        | Request::Status { .. }
+        | Request::RecordOf { .. }
+        | Request::ChangeOf { .. }
+        | Request::Shelves { .. }
+        | Request::Alarms { .. }
+        | Request::Standing { .. }
+        | Request::Floods { .. }
+        | Request::MyUnits
+        | Request::MyShelves => answer(alloc, Ok(Ok(Reply::Done))),
+    }
+}
+
+/// What is answered to a call that only asks, by one who is allowed to ask.
+fn answer_to(alloc: Global, part: &UnitPart, call: &Call) -> Result<Result<Reply, Refused>, Fault>
+    requires reads { is_read call.now.request ≡ true }
+    ensures value { AreKept part.now → Answers part.now call.now.person call.now.moment call.now.request result }
+    ensures err { OnlyMemory result }
+{
+    let now = call.moment;
+    match &call.request {
+        Request::Status { tag, .. } => status(alloc, part, now, tag),
+        Request::RecordOf { tag, .. } => record(alloc, part, tag),
+        Request::ChangeOf { number, .. } => change(alloc, part, *number),
+        Request::Shelves { unit } => shelves(alloc, part, now, unit),
+        Request::Alarms { unit } => alarms(alloc, part, now, unit),
+        Request::Standing { unit } => standing(alloc, part, now, unit),
+        Request::Floods { unit, begin, until } => floods(alloc, part, unit, *begin, *until),
+        // Judged elsewhere: what changes something, and what names no unit.
+        Request::OpenUnit { .. }
+        | Request::Grant { .. }
+        | Request::Withdraw { .. }
+        | Request::Register { .. }
+        | Request::TimedShelve { .. }
+        | Request::OneShotShelve { .. }
+        | Request::Unshelve { .. }
+        | Request::RemoveFromService { .. }
+        | Request::PlaceInService { .. }
+        | Request::Propose { .. }
+        | Request::WithdrawChange { .. }
+        | Request::Approve { .. }
+        | Request::Reject { .. }
+        | Request::Import { .. }
+        | Request::MyUnits
+        | Request::MyShelves => Ok(Ok(Reply::Done)),
+    }
+}
+
+/// Judges a call other than an import, whose caller is allowed to make it.
+fn judge_own(alloc: Global, unit: &UnitRow, part: &UnitPart, call: &Call) -> Result<Verdict, Fault>
+    requires row { unit_read part.now.rows ≡ unit.now }
+    requires plain { is_opening call.now.request ≡ false }
+    requires no_import { is_import call.now.request ≡ false }
+    ensures value { AreKept part.now → IfOk result (IsJudgedOwn (facts_in part.now) call.now) }
+    ensures err { OnlyMemory result }
+{
+    if is_read(&call.request) {
+        answer(alloc, answer_to(alloc, part, call))
+    } else {
+        judge_change(alloc, unit, part, call)
     }
 }
 
