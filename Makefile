@@ -9,7 +9,7 @@ build:
 	scripts/build
 
 # The gate: the schema in examples/, the lists in docs/WORKED.md and what the pages name, then every proof, the must-fail edits, the tests,
-# and the programs, and the proved program on the worked examples. A toolchain that has rt ci --anew does not do again what an earlier run
+# and the programs, and the proved program on the commands and the worked examples. A toolchain that has rt ci --anew does not do again what an earlier run
 # on this machine passed on the same files, unless with ANEW=--anew.
 test:
 	scripts/check-schema
@@ -18,6 +18,7 @@ test:
 	rt ci $(ANEW)
 	$(MAKE) --no-print-directory conform
 
-# The program that the gate proved, on the worked examples.
+# The program that the gate proved, on the commands and the worked examples.
 conform:
+	scripts/try-commands
 	scripts/conform --seed 1 crates/shelfoffice/out/shelfoffice
