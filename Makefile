@@ -9,8 +9,8 @@ build:
 	scripts/build
 
 # The gate: the schema in examples/, the lists in docs/WORKED.md and what the pages name, then every proof, the must-fail edits, the tests,
-# and the programs, and the proved program on the commands and the worked examples. A toolchain that has rt ci --anew does not do again what an earlier run
-# on this machine passed on the same files, unless with ANEW=--anew.
+# and the programs, and the proved program on the commands and the worked examples. A toolchain that has rt ci --anew does not do again
+# what an earlier run on this machine passed on the same files, unless with ANEW=--anew.
 test:
 	scripts/check-schema
 	scripts/list-worked

@@ -1,4 +1,4 @@
-"""Makes a file of schema 1, in which PT-101 is shelved until eleven, the shelf of LT-2 is over, and a record and a matrix were proposed.
+"""Makes a file of schema 1, in which PT-101 is shelved until eleven and has a record, the shelf of LT-2 is over, and a matrix is proposed.
 
     older.py [--log] FILE [STATEMENT..]
 

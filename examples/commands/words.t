@@ -111,7 +111,7 @@ Input that ends within a request, cannot be read, or whose answers cannot be wri
   [6]
   $ shelfoffice --admin root 2>/dev/full </dev/null
 
-A migration needs a name for the new file, and listens nowhere, so its words are fewer:
+A migration needs the administrator and a name for the new file. Its other words are read too, though it listens nowhere:
 
   $ shelfoffice --admin root --migrate words.db
   migrate: no db
