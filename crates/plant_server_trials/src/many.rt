@@ -1,8 +1,7 @@
 //! Many connections at once over real sockets. A client sends all that it will before it is served, so that clients and
 //! office run in one thread.
 
-use crate::commands::is_text;
-use crate::sockets::{BEGUN, answers, client, exchanges, whole_client};
+use crate::sockets::{BEGUN, answers, client, exchanges, is_text, whole_client};
 use plant_books::Plain;
 use plant_examples::{BASE, LOOKED_AT, SHELVED};
 use plant_lines::{Halted, Reports, serve_lines};

@@ -1,7 +1,7 @@
 //! The command over a port. It writes its lines to a writer that connects the clients at the first of them, which says
 //! where the port listens: so clients and office run in one thread.
 
-use crate::commands::is_text;
+use crate::sockets::is_text;
 use plant_examples::{BASE, Exchanges, LOOKED_AT, SHELVED, numbered};
 use plant_line::Service;
 use plant_lines_trials::Failing;

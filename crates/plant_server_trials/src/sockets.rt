@@ -1,7 +1,6 @@
 //! Connections over real sockets. A client sends its whole stream and closes its sending side before it is served, so
 //! that client and office run in one thread.
 
-use crate::commands::{is_text, said_to};
 use plant_books::Plain;
 use plant_examples::{BASE, Exchanges, LOOKED_AT, SHELVED, add_request, numbered, push_all};
 use plant_office::{Books, Office};
@@ -13,6 +12,10 @@ use std::io::{Read, Write};
 use std::net::{Shutdown, SocketAddr, TcpStream};
 use std::process::Abort;
 use std::time::Duration;
+
+pub(crate) fn is_text(bytes: &Vec<u8>, text: &str) -> bool {
+    bytes.as_slice() == text.as_bytes()
+}
 
 /// The exchanges of these texts.
 pub(crate) fn exchanges(rt: &(impl Abort + AllocGlobal), texts: &[&str]) -> Exchanges {
@@ -203,27 +206,4 @@ fn gives_up_a_client_that_takes_no_answer(rt: HostRuntime) {
     assert!(rt; is_text(&log, "connection 1 WriteFailed\nconnection 2 Closed\n"));
     assert!(rt; answers(&rt, rt.alloc(), next).as_slice() == asked.answers.as_bytes());
     drop(greedy);
-}
-
-/// The command line for a port and a store.
-fn line_for(rt: &(impl Abort + AllocGlobal), port: usize, store: &str) -> String {
-    let begin = "shelfoffice --admin root --port ";
-    numbered(rt.alloc(), begin, port, store).expect(rt, "memory")
-}
-
-/// A taken port is reported only after the store was opened.
-#[test]
-fn needs_a_free_port(rt: HostRuntime) {
-    let (_port, address) = listening(&rt, &rt, None);
-    let number = address.port();
-    for (store, status, errors) in [
-        ("", 8, "net: failed\n"),
-        (" --clients 2", 8, "net: failed\n"),
-        (" --db no-folder/plant.db", 3, "store: fault\n"),
-    ] {
-        let refused = said_to(&rt, &rt, &line_for(&rt, usize::from(number), store));
-        assert_eq!(rt; refused.status, status);
-        assert!(rt; refused.output.is_empty());
-        assert!(rt; is_text(&refused.errors, errors));
-    }
 }

@@ -1,4 +1,5 @@
-//! Stores of schema 1 that are migrated, and what is refused.
+//! Stores of schema 1 that are migrated, and what is handed back where they are not. `examples/commands/migrations.t` has the
+//! files that are refused.
 
 ghost use Rattle.std.specs.Prelude.{false, IfSome};
 ghost use Rattle.plant_statements.specs.Reading.{HasNoTransaction};
@@ -141,35 +142,6 @@ fn leaves_a_closed_file_as_it_is(rt: HostRuntime) {
     assert!(rt; behind.0.len() < 56);
 }
 
-/// What makes another database of a store of schema 1.
-const OTHERS: [&str; 6] = [
-    "UPDATE office SET schema_no = 2",
-    "UPDATE office SET schema_no = 0",
-    "UPDATE office SET admin = 'ste'",
-    "UPDATE office SET id = 2",
-    "DELETE FROM office",
-    "DROP TABLE office",
-];
-
-#[test]
-fn refuses_what_is_no_store_of_schema_1(rt: HostRuntime) {
-    let alloc = rt.alloc();
-    for statement in OTHERS.iter() {
-        let other = older(&rt, alloc, statement);
-        let back = refused(&rt, alloc, other, blank(&rt, alloc), b"root");
-        assert!(rt;
-            matches!(back.fault, StoreFault::NotThisStore),
-            "{statement}"
-        );
-        assert!(rt; count_of_tables(&back.new) == 0, "{statement}");
-    }
-    let newer = opened(&rt, alloc).close();
-    let back = refused(&rt, alloc, newer, blank(&rt, alloc), b"root");
-    assert!(rt; matches!(back.fault, StoreFault::NotThisStore));
-    let back = refused(&rt, alloc, blank(&rt, alloc), blank(&rt, alloc), b"root");
-    assert!(rt; matches!(back.fault, StoreFault::NotThisStore));
-}
-
 #[test]
 fn refuses_another_person_and_hands_all_back(rt: HostRuntime) {
     let alloc = rt.alloc();
@@ -230,40 +202,6 @@ fn refuses_a_database_with_one_of_the_tables(rt: HostRuntime) {
             "{statement}"
         );
         assert!(rt; count_of_tables(&back.new) == 1, "{statement}");
-    }
-}
-
-/// Statements after which some row of a store of schema 1 can't be read, or a table is missing.
-const SPOILED: [&str; 16] = [
-    "UPDATE units SET unit = 'u1' WHERE unit = 'U1'",
-    "UPDATE units SET last_s = -1 WHERE unit = 'U2'",
-    "UPDATE units SET matrix_rev = 4294967296 WHERE unit = 'U2'",
-    "UPDATE grants SET role_no = 7 WHERE person = 'vic'",
-    "UPDATE grants SET person = '' WHERE person = 'vic'",
-    "UPDATE alarms SET state_no = 0 WHERE tag = 'PT-101'",
-    "UPDATE shelves SET words = '' WHERE tag = 'PT-101'",
-    "UPDATE bands SET limit_s = -300 WHERE matrix_no = 2",
-    "UPDATE cells SET cell_no = 5 WHERE matrix_no = 2",
-    "UPDATE events SET kind_no = 7 WHERE seq = 3",
-    "UPDATE records SET rev = -1",
-    "UPDATE changes SET state_no = 5 WHERE number = 2",
-    "DROP TABLE units",
-    "DROP TABLE grants",
-    "DROP TABLE records",
-    "DROP TABLE changes",
-];
-
-#[test]
-fn copies_nothing_of_a_store_that_is_spoiled(rt: HostRuntime) {
-    let alloc = rt.alloc();
-    for statement in SPOILED.iter() {
-        let spoiled = older(&rt, alloc, statement);
-        let back = refused(&rt, alloc, spoiled, blank(&rt, alloc), b"root");
-        assert!(rt;
-            matches!(back.fault, StoreFault::Fault(Fault::Store)),
-            "{statement}"
-        );
-        assert!(rt; count_of_tables(&back.new) == 0, "{statement}");
     }
 }
 

@@ -1,15 +1,9 @@
-//! Which databases are opened, and files that are opened again.
+//! Which databases are opened.
 
-ghost use Rattle.std.specs.Prelude.{false};
-ghost use Rattle.plant_statements.specs.Reading.{HasNoTransaction};
-
-use crate::fixtures::{changes, counts, made_by, opened, person, rows, unit};
+use crate::fixtures::{counts, made_by, opened, person, rows};
 use plant_books::Books;
-use plant_reopen::reopen;
 use plant_store::{StoreFault, Tables};
 use plant_types::Fault;
-use sqlite::{Alter, Connection, FileStore, Files, Options};
-use sqlite_disk::{Disk, Memory};
 use std::alloc::Global;
 use std::process::Abort;
 
@@ -103,61 +97,4 @@ fn makes_no_second_store(rt: HostRuntime) {
         rt.panic("tables are there")
     };
     assert!(rt; matches!(back.fault, StoreFault::Fault(Fault::Store)));
-}
-
-/// The same books with one unit more.
-fn with_unit<B: Books + Drop>(rt: &impl Abort, alloc: Global, mut books: B) -> B {
-    let unit = unit(rt, alloc, b"U1");
-    books
-        .apply(&unit, &changes(rt, alloc), None)
-        .expect(rt, "changes");
-    books
-}
-
-/// New books in this database, with one unit. In words of any store: each call in those of two files takes the prover
-/// long.
-fn made_with_unit<S: Alter + Drop>(rt: &impl Abort, alloc: Global, conn: Connection<S>) -> Tables<S>
-    requires { HasNoTransaction conn }
-{
-    let books = Tables::create(alloc, conn, person(rt, alloc, b"root")).ok();
-    with_unit(rt, alloc, books.expect(rt, "books"))
-}
-
-/// Whether the unit is there, in books that are there.
-fn is_taken<B: Books + Drop>(rt: &impl Abort, alloc: Global, books: Option<B>) -> bool {
-    let mut books = books.expect(rt, "books again");
-    books.taken(&unit(rt, alloc, b"U1")).expect(rt, "an answer")
-}
-
-/// Whether the unit is there after the books are closed and opened again.
-fn is_there_again<D: Disk + Drop>(
-    rt: &impl Abort,
-    alloc: Global,
-    books: Tables<FileStore<D>>,
-) -> bool {
-    let root = person(rt, alloc, b"root");
-    is_taken(rt, alloc, reopen(alloc, books, root, Options::new(7)))
-}
-
-/// Whether a unit that is kept in these files is found again.
-fn is_found_again<D: Disk + Drop>(
-    rt: &impl Abort,
-    alloc: Global,
-    conn: Connection<FileStore<D>>,
-) -> bool
-    requires { HasNoTransaction conn }
-{
-    is_there_again(rt, alloc, made_with_unit(rt, alloc, conn))
-}
-
-#[test]
-fn finds_again_what_was_kept_in_files(rt: HostRuntime) {
-    let files = Files {
-        log: Memory::new(rt.alloc()),
-        db: Memory::new(rt.alloc()),
-    };
-    let Ok(conn) = Connection::open_files(rt.alloc(), files, Options::new(7)) else {
-        rt.panic("no connection")
-    };
-    assert!(rt; is_found_again(&rt, rt.alloc(), conn));
 }

@@ -147,7 +147,7 @@ impl<T: Keyed> Sorted<T> {
         }
     }
 
-    /// The place of the row of the key, or a place without it if there is no such row, found by halving.
+    /// The place of the row of the key, else a place where it does not stand, found by halving.
     fn find(&self, key: &T::Key) -> Result<usize, usize>
         ensures { IsFound T.order T.key key.now self.now result }
     {
