@@ -62,25 +62,36 @@ fn shelved<S: Alter + Drop>(rt: &(impl Abort + AllocGlobal), conn: Connection<S>
     after_all_at_hand(rt, books, &[BASE, SHELVED, LOOKED_AT], "first")
 }
 
-/// Books whose files can be closed and opened again.
-trait Reopened: Books + Drop {
-    fn reopened(self, rt: &(impl Abort + AllocGlobal)) -> Self;
+/// The same books, closed and opened again.
+fn reopened<D: Disk + Drop>(
+    rt: &(impl Abort + AllocGlobal),
+    books: Tables<FileStore<D>>,
+) -> Tables<FileStore<D>> {
+    let root = root(rt.alloc()).expect(rt, "a person");
+    let again = reopen(rt.alloc(), books, root, Options::new(7));
+    again.expect(rt, "books again")
 }
 
-impl<D: Disk + Drop> Reopened for Tables<FileStore<D>> {
-    fn reopened(self, rt: &(impl Abort + AllocGlobal)) -> Self {
-        let root = root(rt.alloc()).expect(rt, "a person");
-        let again = reopen(rt.alloc(), self, root, Options::new(7));
-        again.expect(rt, "books again")
-    }
+/// The office goes on from the first shelf.
+fn goes_on<B: Books + Drop>(rt: &(impl Abort + AllocGlobal), books: B) -> B {
+    after_all_at_hand(rt, books, &[LOOKED_AT, GOES_ON], "again")
 }
 
-/// The first shelf is found again in the files of these books, twice, and the office goes on from there. The second time it
-/// has ended, with rows at hand and without.
-fn finds_the_shelf_again<B: Reopened>(rt: &(impl Abort + AllocGlobal), books: B) {
-    let books = after_all_at_hand(rt, books.reopened(rt), &[LOOKED_AT, GOES_ON], "again");
-    let books = after_all_at_hand(rt, books.reopened(rt), &[UNSHELVED], "once more");
+/// The first shelf has ended, with rows at hand and without.
+fn has_ended<B: Books + Drop>(rt: &(impl Abort + AllocGlobal), books: B) {
+    let books = after_all_at_hand(rt, books, &[UNSHELVED], "once more");
     drop(after_all(rt, books, &[UNSHELVED], "without rows at hand"));
+}
+
+/// In these files the first shelf is found again, twice, and the office goes on from there.
+fn finds_the_shelf_again<D: Disk + Drop>(
+    rt: &(impl Abort + AllocGlobal),
+    conn: Connection<FileStore<D>>,
+)
+    requires { HasNoTransaction conn }
+{
+    let books = goes_on(rt, reopened(rt, shelved(rt, conn)));
+    has_ended(rt, reopened(rt, books));
 }
 
 #[test]
@@ -92,5 +103,5 @@ fn finds_the_first_shelf_again(rt: HostRuntime) {
     let Ok(conn) = Connection::open_files(rt.alloc(), files, Options::new(7)) else {
         rt.panic("no connection")
     };
-    finds_the_shelf_again(&rt, shelved(&rt, conn));
+    finds_the_shelf_again(&rt, conn);
 }
