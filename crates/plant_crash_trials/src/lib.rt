@@ -1,8 +1,12 @@
-//! What is left of an office, as tests alone: disks that stop at some call, and offices whose files are closed and
-//! opened again.
+//! What is left of an office whose store fails it, as tests alone: statements that may take only so many steps, disks on
+//! which a sync fails or that stop at some call, and files that are closed and opened again.
 #![tactic(auto)]
 
 #[cfg(test)]
 mod crashes;
 #[cfg(test)]
+mod interruptions;
+#[cfg(test)]
 mod reopenings;
+#[cfg(test)]
+mod syncs;
