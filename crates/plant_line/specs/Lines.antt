@@ -1,10 +1,16 @@
 -- What the options of the program's command line ask for.
-use Rattle.std.specs.Prelude.{Bool, true, false, codes, List, [], ℕ, None, Option, Result, Some, ◌≡◌, ◌-◌, ◌^◌}
-use Rattle.std.specs.Prelude.{option_map, string_bytes, unwrap_or}
+use Rattle.std.specs.Prelude.{Bool, true, false, codes, List, [], ℕ, None, Err, Ok, Option, Result, Some, ◌≡◌, ◌-◌, ◌^◌}
+use Rattle.std.specs.Prelude.{IsSome, option_map, string_bytes, unwrap_or}
 use Rattle.clap.specs.Matches.{ReadsOne, first_value, found_of, one_text}
+use Rattle.clap.specs.declared.builder.action.ArgAction.TheVariants.{Set, SetTrue}
+use Rattle.clap.specs.declared.builder.value_parser.ValueParser.TheVariants.{Unsigned}
+use Rattle.clap.specs.declared.error.Error.{Error}
+use Rattle.clap.specs.declared.error.kind.ErrorKind.TheVariants.{OutOfMemory}
 use Rattle.clap.specs.declared.parser.matches.ArgMatches.{ArgMatches}
+use Rattle.clap.specs.{Simple.{App, matches_of, new_app, new_rule, on_top, with_rule}, Takes.{takes}, Values.{kind_of}, Walk.{Rule, rows_of}}
 use Rattle.plant_types.specs.Text.{person_of}
-use Rattle.plant_line.specs.declared.words.{Line.{Line}, Service.{Service}, Task.{Task, TheVariants.{Migrate, Serve}}}
+use Rattle.plant_line.specs.declared.words.LineError.TheVariants.{Memory, NoDb, NotAPerson, Text}
+use Rattle.plant_line.specs.declared.words.{Line.{Line}, LineError.{LineError}, Service.{Service}, Task.{Task, TheVariants.{Migrate, Serve}}}
 
 -- How a port is served: how many connections in all (1 if not given), how many of them at once (1), and after how many
 -- silent seconds each is given up (never). With `forever` there are 2^64 - 1 in all, more than any machine serves, but
@@ -76,3 +82,71 @@ pub record IsLineOf {E : Type 0} (gives_port gives : List ℕ → Result ℕ E �
   pub service : Option Service
   pub service_is : IsServiceOf gives_port gives options service
   pub task : IsTaskOf (said options (codes "migrate")) (said options (codes "db")) service line.task
+
+-- ---- the options as they are declared
+
+-- the option of this name, which takes one text
+abbrev pub text_rule : List ℕ → Rule
+text_rule name = record (new_rule name) { long = Some name; action = Some Set; value_names = 1 }
+
+-- the same with a number from 1 on
+abbrev pub number_rule : List ℕ → ℕ → Rule
+number_rule name most = record (text_rule name) { parser = Some (Unsigned 1 most) }
+
+-- `--forever`, a flag that has rules on others
+abbrev pub forever_rule : Rule
+forever_rule = record (new_rule (codes "forever")) { long = Some (codes "forever"); action = Some SetTrue; is_free = false }
+
+abbrev pub with_files : App → App
+with_files app =
+    with_rule (with_rule (with_rule app (record (text_rule (codes "admin")) { required = true })) (text_rule (codes "db")))
+    (text_rule (codes "migrate"))
+
+abbrev pub with_service : App → App
+with_service app =
+    with_rule (with_rule (with_rule (with_rule (with_rule app (number_rule (codes "port") 65535))
+    (number_rule (codes "connections") 1000)) (number_rule (codes "clients") 1000)) forever_rule)
+    (number_rule (codes "idle") 3600)
+
+abbrev pub with_version : App → App
+with_version app = on_top (λ s. record s { has_version = true }) app
+
+-- the program's command, for clap
+abbrev pub office : App
+office = with_service (with_files (with_version (new_app (codes "shelfoffice"))))
+
+-- these are the options that clap finds in the words
+abbrev pub AreOptionsIn : List (List ℕ) → ArgMatches → Type 0
+AreOptionsIn words options = rows_of (found_of options) ≡ matches_of office words
+
+-- why these are no line: the administrator's name is not a person's, or an older file is named and no file of the tables
+abbrev pub IsNoLineOf : List ℕ → Option (List ℕ) → Option (List ℕ) → LineError → Type 0
+IsNoLineOf name old db NotAPerson = person_of name ≡ None
+IsNoLineOf name old db NoDb = IsSome old × (db ≡ None)
+IsNoLineOf name old db Memory = Unit {0}
+IsNoLineOf name old db (Text text is_error) = ⊥
+
+abbrev pub IsNoLine : ArgMatches → LineError → Type 0
+IsNoLine options error = IsNoLineOf (unwrap_or (said options (codes "admin")) []) (said options (codes "migrate"))
+    (said options (codes "db")) error
+
+-- The words are refused with this error: by clap, with its text, only where it does not take them.
+abbrev pub IsRefusedAs : List (List ℕ) → LineError → Type 0
+IsRefusedAs words (Text text is_error) = takes office words ≡ false
+IsRefusedAs words NotAPerson = (options : ArgMatches) × AreOptionsIn words options × IsNoLine options NotAPerson
+IsRefusedAs words NoDb = (options : ArgMatches) × AreOptionsIn words options × IsNoLine options NoDb
+IsRefusedAs words Memory = Unit {0}
+
+-- the words are read as this line, or refused
+abbrev pub IsReadAs : {E : Type 0} → (List ℕ → Result ℕ E → Type 0) → (List ℕ → Result ℕ E → Type 0) → List (List ℕ)
+    → Result Line LineError → Type 0
+IsReadAs gives_port gives words (Ok line) =
+    (options : ArgMatches) × AreOptionsIn words options × IsLineOf gives_port gives options line
+IsReadAs gives_port gives words (Err error) = IsRefusedAs words error
+
+-- an error of clap is told by its text, but that memory ran out
+abbrev pub IsTold : Error → LineError → Type 0
+IsTold error (Text text is_error) = ¬ (kind_of error ≡ OutOfMemory)
+IsTold error NotAPerson = ⊥
+IsTold error NoDb = ⊥
+IsTold error Memory = Unit {0}

@@ -1,6 +1,7 @@
-ghost use Rattle.std.specs.Prelude.{◌≡◌, [], None, Some, Err, IfOk, IfErr, IfSome, codes};
+ghost use Rattle.std.specs.Prelude.{◌≡◌, [], None, Some, Err, IfOk, IfErr, IfSome, IsSome, List, Option, codes, false, map, ℕ};
 ghost use Rattle.std.specs.Prelude.{option_copied, option_map, string_bytes, unwrap_or};
-ghost use Rattle.plant_line.specs.Lines.{IsLineOf, IsServiceOf, IsTaskOf, said};
+ghost use Rattle.plant_line.specs.Lines.{IsLineOf, IsNoLine, IsNoLineOf, IsReadAs, IsServiceOf, IsTaskOf, IsTold, said};
+ghost use Rattle.clap.specs.Words.{app_of, rule_of};
 ghost use Rattle.plant_line.specs.Lines as lines;
 ghost use Rattle.plant_types.specs.Text as names;
 
@@ -25,7 +26,9 @@ pub enum LineError {
     Memory,
 }
 
-fn text_of(alloc: Global, error: &Error) -> LineError {
+fn text_of(alloc: Global, error: &Error) -> LineError
+    ensures { IsTold error.now result }
+{
     if error.kind() == ErrorKind::OutOfMemory {
         return LineError::Memory;
     }
@@ -85,8 +88,8 @@ pub struct Line {
 fn person_of(alloc: Global, name: &[u8]) -> Result<Person, LineError>
     ensures named { IfOk result (λ person. names.person_of name.now ≡ Some person) }
     ensures outside { names.person_of name.now ≡ None → result ≡ Err LineError.NotAPerson }
-    ensures refused { IfErr result (λ e. e ≡ LineError.NotAPerson
-        → names.person_of name.now ≡ None) }
+    ensures refused { IfErr result (λ e. (old db : Option (List ℕ))
+        → IsNoLineOf name.now old db e) }
 {
     match Person::read(alloc, name) {
         Ok(Some(person)) => Ok(person),
@@ -118,7 +121,7 @@ fn task_of(
     ensures serves { old ≡ None → result ≡ Ok (Task.Serve db service) }
     ensures migrates { IfSome old (λ o. IfSome db (λ n. result ≡ Ok (Task.Migrate o n))) }
     ensures refused { IfSome old (λ _. db ≡ None → result ≡ Err LineError.NoDb) }
-    ensures no_db { IfErr result (λ e. e ≡ LineError.NoDb) }
+    ensures no_db { IfErr result (λ e. (e ≡ LineError.NoDb) × IsSome old × (db ≡ None)) }
 {
     match (old, db) {
         (None, db) => Ok(Task::Serve { db, service }),
@@ -185,7 +188,10 @@ fn number_arg<'a>(
     value_name: &'a str,
     most: u64,
     help: &'a str,
-) -> Arg<'a> {
+) -> Arg<'a>
+    ensures rule { rule_of result ≡ lines.number_rule name.entry.now most }
+    ensures local { result.global ≡ false }
+{
     Arg::new(alloc, name)
         .long(name)
         .value_name(value_name)
@@ -194,7 +200,10 @@ fn number_arg<'a>(
         .action(ArgAction::Set)
 }
 
-fn file_arg<'a>(alloc: Global, name: &'a str, value_name: &'a str, help: &'a str) -> Arg<'a> {
+fn file_arg<'a>(alloc: Global, name: &'a str, value_name: &'a str, help: &'a str) -> Arg<'a>
+    ensures rule { rule_of result ≡ lines.text_rule name.entry.now }
+    ensures local { result.global ≡ false }
+{
     Arg::new(alloc, name)
         .long(name)
         .value_name(value_name)
@@ -203,7 +212,9 @@ fn file_arg<'a>(alloc: Global, name: &'a str, value_name: &'a str, help: &'a str
 }
 
 /// Each option is added as it is made: one that waited beside the others would be dropped at each failure between.
-fn store_args<'a>(alloc: Global, command: Command<'a>) -> Result<Command<'a>, AllocError> {
+fn store_args<'a>(alloc: Global, command: Command<'a>) -> Result<Command<'a>, AllocError>
+    ensures { IfOk result (λ r. app_of r ≡ lines.with_files (app_of command.entry)) }
+{
     command
         .arg(file_arg(
             alloc,
@@ -226,7 +237,10 @@ fn store_args<'a>(alloc: Global, command: Command<'a>) -> Result<Command<'a>, Al
         ))
 }
 
-fn forever_arg<'a>(alloc: Global) -> Result<Arg<'a>, AllocError> {
+fn forever_arg<'a>(alloc: Global) -> Result<Arg<'a>, AllocError>
+    ensures rule { IfOk result (λ r. rule_of r ≡ lines.forever_rule) }
+    ensures local { IfOk result (λ r. r.global ≡ false) }
+{
     Arg::new(alloc, "forever")
         .long("forever")
         .help("Serves connections until the program is stopped or its store fails")
@@ -235,7 +249,9 @@ fn forever_arg<'a>(alloc: Global) -> Result<Arg<'a>, AllocError> {
         .conflicts_with("connections")
 }
 
-fn service_args<'a>(alloc: Global, command: Command<'a>) -> Result<Command<'a>, AllocError> {
+fn service_args<'a>(alloc: Global, command: Command<'a>) -> Result<Command<'a>, AllocError>
+    ensures { IfOk result (λ r. app_of r ≡ lines.with_service (app_of command.entry)) }
+{
     let command = command
         .arg(number_arg(
             alloc,
@@ -284,7 +300,9 @@ const STATUSES: &str = "Exit statuses:
   7  out of memory, or an argument is not UTF-8
   8  listening or accepting failed";
 
-fn office_command<'a>(alloc: Global) -> Result<Command<'a>, AllocError> {
+fn office_command<'a>(alloc: Global) -> Result<Command<'a>, AllocError>
+    ensures { IfOk result (λ r. app_of r ≡ lines.office) }
+{
     let command = Command::new(alloc, "shelfoffice")
         .version(VERSION)
         .about(ABOUT)
@@ -303,8 +321,8 @@ fn line_from(
 ) -> Result<Line, LineError>
     ensures admin { IfOk result (λ line. names.person_of name.now ≡ Some line.admin) }
     ensures outside { names.person_of name.now ≡ None → result ≡ Err LineError.NotAPerson }
-    ensures refused { IfErr result (λ e. e ≡ LineError.NotAPerson
-        → names.person_of name.now ≡ None) }
+    ensures refused { IfErr result
+        (IsNoLineOf name.now (option_copied old.entry) (option_copied db.entry)) }
     ensures task { IfOk result (λ line.
         IsTaskOf (option_copied old.entry) (option_copied db.entry) service line.task) }
 {
@@ -319,6 +337,7 @@ fn line_from(
 fn asked_of(alloc: Global, matches: &ArgMatches<'_>) -> Result<Line, LineError>
     ensures asked { IfOk result (IsLineOf ⟦<u16 as FromStr>⟧.from_str_gives
         ⟦<u64 as FromStr>⟧.from_str_gives matches.now) }
+    ensures refused { IfErr result (IsNoLine matches.now) }
     ensures outside { names.person_of (unwrap_or (said matches.now (codes "admin")) []) ≡ None
         → result ≡ Err LineError.NotAPerson }
 {
@@ -332,8 +351,13 @@ fn asked_of(alloc: Global, matches: &ArgMatches<'_>) -> Result<Line, LineError>
 }
 
 /// What the program's words ask for, the program's own name first.
-pub fn line_of<S: AsStr>(alloc: Global, words: &[S]) -> Result<Line, LineError> {
-    let command = office_command(alloc).map_err(|_| LineError::Memory)?;
+pub fn line_of<S: AsStr>(alloc: Global, words: &[S]) -> Result<Line, LineError>
+    ensures { IsReadAs ⟦<u16 as FromStr>⟧.from_str_gives ⟦<u64 as FromStr>⟧.from_str_gives
+        (map S.text words.now) result }
+{
+    let Ok(command) = office_command(alloc) else {
+        return Err(LineError::Memory);
+    };
     match command.try_get_matches_from(words) {
         Ok(matches) => asked_of(alloc, &matches),
         Err(error) => Err(text_of(alloc, &error)),

@@ -1,18 +1,20 @@
 -- What one line does, and what that is among all.
 use Rattle.std.proofs.Common.{◌≡◌, ◌+◌, slice_get, slice_set, ℕ, List, [], ◌∷◌, ◌++◌, Option, Some, None, drop, refl, sym, ap, subst, ◌∙◌, append-nil}
-use Rattle.std.proofs.Common.{take}
+use Rattle.std.proofs.Common.{take, Bool, false, true, ◌≤◌, length, arith, eq-eqb, cond}
 use Rattle.std.{specs.{Io.KnownBytes.{Appends}, List.{remove}}}
 use Rattle.plant_books.specs.declared.books.Books as books
-use Rattle.plant_wire.specs.{Causes.{cause_text}, Marks.{nothing, last_text, mark_text}, Over.{RanOn}}
+use Rattle.plant_wire.specs.{Causes.{cause_text}, Marks.{Last, Mark, begun, breaking, calls_of, last_marks, last_text, malformed, mark_text, nothing, said}, Over.{RanOn}}
 use Rattle.plant_wire.specs.Step.{AnswersBroken, AnswersOne, AnswersPart}
+use Rattle.plant_wire.specs.Session.{IsIdle}
+use Rattle.plant_call.specs.declared.causes.Cause.{Cause}
 use Rattle.plant_wire.specs.declared.{reads.End.{End, TheVariants.{BrokenInput, Fault}}, step.Stop.{Stop}}
 use Rattle.plant_wire.specs.declared.step.Stop.TheVariants as stops
 use Rattle.plant_connections.specs.Connections.{line_of}
 use Rattle.plant_lines.specs.Events.{Event, IsToldBy, Log, Logs, Shows, answered, answers_in, broke, calls_in, came, closed, ended}
-use Rattle.plant_lines.specs.Events.{left, opened, port_in, seen_by, stopped, who}
-use Rattle.plant_lines.specs.Stages.{AreOpenLines, Goes, IsOpen, MayClose, Moves, Stage, end_by, end_for, served, ending, stage_by, stage_in}
-use Rattle.plant_lines.specs.Happens.{Happened, Made, Moved, Passed, Turned, Went}
-use Rattle.plant_lines.proofs.{Held.{lifted, lifted_closed, lifted_opened, lifted_refused}, Leading.{logs_then, makes_none, shows_untold}}
+use Rattle.plant_lines.specs.Events.{all_calls, arrivals, left, marks_of, opened, port_in, seen_by, stopped, who}
+use Rattle.plant_lines.specs.Stages.{AreOpenLines, Goes, IsOpen, Leads, MayClose, Moves, Stage, end_by, end_for, served, ending, stage_by, stage_in}
+use Rattle.plant_lines.specs.Happens.{Answers, Happened, IsTurnOf, Made, Moved, Passed, Turned, Went}
+use Rattle.plant_lines.proofs.{Held.{lifted, lifted_closed, lifted_opened, lifted_refused}, Leading.{logs_then, makes_none, shows_untold}, Waited.{idle_stage}}
 use Rattle.plant_lines.specs.declared.lines.Line.{Line}
 
 own_goes : (k : ℕ) (s s' : Stage) (e : Event) → who e ≡ k → Moves s e s' → Goes k s e s'
@@ -32,33 +34,42 @@ went_none : (l l' : Line) → l'.number ≡ l.number → stage_in l' ≡ stage_i
 went_none l l' same stays = record { own = tt; same = same; untold = refl; leads = stays }
 
 module _ (seen seen' : Option (List Event)) (l l' : Line) (same : l'.number ≡ l.number) where
-  pub moved_none : Logs seen seen' [] → stage_in l' ≡ stage_in l → Moved seen seen' l l'
-  moved_none logged stays = record { events = []; quiet = tt; logged = logged; went = went_none l l' same stays }
+  pub moved_none : (reads : Bool) → Logs seen seen' [] → stage_in l' ≡ stage_in l → Moved seen seen' l l' reads
+  moved_none reads logged stays = record {
+    events = [];
+    quiet = tt;
+    arrives = record { one = omega arith; none = λ _. refl };
+    logged = logged;
+    went = went_none l l' same stays;
+  }
 
   pub moved_came : (bytes : List ℕ) → Logs seen seen' (came l.number bytes ∷ []) → IsOpen l.unread.items l.pending.text.items → l.end ≡ None
-      → stage_in l' ≡ served (l.unread.items ++ bytes) [] → Moved seen seen' l l'
+      → stage_in l' ≡ served (l.unread.items ++ bytes) [] → Moved seen seen' l l' true
   moved_came bytes logged idle is after = record {
     events = came l.number bytes ∷ [];
     quiet = (refl, refl, tt);
+    arrives = record { one = omega arith; none = λ (no : true ≡ false). cc };
     logged = logged;
     went = went_one l l' (came l.number bytes) same refl refl (rw is (idle, after));
   }
 
   pub moved_ended : Logs seen seen' (ended l.number ∷ []) → IsOpen l.unread.items l.pending.text.items → l.end ≡ None
-      → stage_in l' ≡ ending (end_for l.unread.items) [] → Moved seen seen' l l'
+      → stage_in l' ≡ ending (end_for l.unread.items) [] → Moved seen seen' l l' true
   moved_ended logged idle is after = record {
     events = ended l.number ∷ [];
     quiet = (refl, refl, tt);
+    arrives = record { one = omega arith; none = λ (no : true ≡ false). cc };
     logged = logged;
     went = went_one l l' (ended l.number) same refl refl (rw is (idle, after));
   }
 
   -- there was no memory for the bytes that came
   pub moved_lost : (bytes : List ℕ) → Logs seen seen' (came l.number bytes ∷ []) → IsOpen l.unread.items l.pending.text.items → l.end ≡ None
-      → stage_in l' ≡ ending Fault [] → Moved seen seen' l l'
+      → stage_in l' ≡ ending Fault [] → Moved seen seen' l l' true
   moved_lost bytes logged idle is after = record {
     events = came l.number bytes ∷ stopped l.number nothing 0 stops.Fault ∷ [];
     quiet = (refl, refl, (refl, refl, tt));
+    arrives = record { one = omega arith; none = λ (no : true ≡ false). cc };
     logged = logged;
     went = record {
       own = (refl, (refl, tt));
@@ -81,65 +92,125 @@ module _ (seen seen' : Option (List Event)) (l l' : Line) (same : l'.number ≡ 
   left_moves u p rest bytes (Some e) split = (rest, split, refl)
 
   pub moved_left : (bytes rest : List ℕ) → Logs seen seen' (left l.number bytes ∷ []) → l.pending.text.items ≡ bytes ++ rest
-      → stage_in l' ≡ stage_by l.unread.items rest l.end → Moved seen seen' l l'
+      → stage_in l' ≡ stage_by l.unread.items rest l.end → Moved seen seen' l l' false
   moved_left bytes rest logged split after = record {
     events = left l.number bytes ∷ [];
     quiet = (refl, refl, tt);
+    arrives = record { one = omega arith; none = λ _. refl };
     logged = logged;
     went = went_one l l' (left l.number bytes) same refl refl
         (subst (λ (s : Stage). Moves (stage_in l) (left l.number bytes) s) (sym after)
         (left_moves l.unread.items l.pending.text.items rest bytes l.end split));
   }
 
+-- no request was answered, and none could be
+turn_none : (l : Line) (serves : Bool) → (serves ≡ true → (u : List ℕ) → stage_in l ≡ served u [] → IsIdle u) → IsTurnOf l false serves []
+turn_none l serves idle = record { own = tt; once = omega arith; answers = λ is u at busy none v leads. busy (idle is u at); quiet = λ _. tt; arrives = record { one = omega arith; none = λ _. refl } }
+
+few_calls : (ms : List Mark) → length ms ≤ 1 → length (calls_of ms ++ []) ≤ 1
+few_calls [] few = omega arith
+few_calls (said call answer ∷ []) few = omega arith
+few_calls (malformed cause ∷ []) few = omega arith
+few_calls (m ∷ n ∷ ms) few = absurd (omega arith)
+
+one_last : (last : Last) → length (last_marks last) ≤ 1
+one_last nothing = omega arith
+one_last (begun m) = omega arith
+one_last (breaking cause) = omega arith
+
+marked : (k : ℕ) (mark : Mark) → marks_of k (answered k mark ∷ []) ≡ [] → ⊥
+marked k mark none =
+    let some : mark ∷ [] ≡ [] = ap (λ b. cond b (mark ∷ []) [] ++ []) (sym (eq-eqb k k refl)) ∙ none in
+    cc
+
+-- after the cause that breaks its stream, or an answer that stopped, a connection is served no more
+ends_broken : (k : ℕ) (u v : List ℕ) (cause : Cause) (s : Stage) → s ≡ served u [] → Leads k s (broke k cause ∷ []) (served v []) → ⊥
+ends_broken k u v cause s at (mid, goes, is) =
+    let moved = subst (λ (x : Stage). Moves x (broke k cause) mid) at (goes.own refl) in
+    let no : served v [] ≡ ending BrokenInput (cause_text cause) = is ∙ moved.2 in
+    cc
+
+ends_stopped : (k : ℕ) (u v : List ℕ) (last : Last) (part : ℕ) (stop : Stop) (s : Stage) → s ≡ served u []
+    → Leads k s (stopped k last part stop ∷ []) (served v []) → ⊥
+ends_stopped k u v last part stop s at (mid, goes, is) =
+    let moved = subst (λ (x : Stage). Moves x (stopped k last part stop) mid) at (goes.own refl) in
+    let no : served v [] ≡ ending (end_by stop) (take part (last_text last)) = is ∙ moved.3 in
+    cc
+
 module _ {B : Type 0} (b : books.Ghosts B) (x y : B) (honest : b.is_honest y → b.is_honest x) (l l' : Line) (same : l'.number ≡ l.number) where
-  -- no request was answered
-  pub made_waiting : RanOn b x y [] [] → stage_in l' ≡ stage_in l → Made b x y l l'
-  made_waiting ran stays = record { events = []; unseen = refl; makes = record { ran = ran; honest = honest }; went = went_none l l' same stays }
+  -- no request was answered, since none is whole
+  pub made_waiting : RanOn b x y [] [] → stage_in l' ≡ stage_in l → IsIdle l.unread.items → Made b x y l l' true
+  made_waiting ran stays idle = record {
+    events = [];
+    unseen = refl;
+    makes = record { ran = ran; honest = honest };
+    went = went_none l l' same stays;
+    one = turn_none l true (λ _ u is. idle_stage l.unread.items l.pending.text.items l.end u (λ _ _. idle) is);
+  }
 
   made_one : (e : Event) → who e ≡ l.number → (port_in e ≡ []) → IsToldBy e []
-      → RanOn b x y (calls_in e) (answers_in e) → Moves (stage_in l) e (stage_in l') → Made b x y l l'
-  made_one e is unseen untold ran moves = record {
+      → RanOn b x y (calls_in e) (answers_in e) → Moves (stage_in l) e (stage_in l') → length (all_calls (e ∷ [])) ≤ 1 → Answers l (e ∷ [])
+      → length (arrivals (e ∷ [])) ≡ 0
+      → Made b x y l l' true
+  made_one e is unseen untold ran moves few answers calm = record {
     events = e ∷ [];
     unseen = append-nil (port_in e) ∙ unseen;
     makes = (y, record { ran = ran; honest = honest }, makes_none b y);
     went = went_one l l' e same is untold moves;
+    one = record { own = (is, tt); once = few; answers = λ _. answers; quiet = λ no. cc; arrives = record { one = omega arith; none = λ _. calm } };
   }
 
   module _ (is : l.end ≡ None) (empty : l.pending.text.items ≡ []) where
     -- one was
     pub made_answered : (n : ℕ) (after : List ℕ) → AnswersOne l.unread.items (Some l.pending.text.items) (Some after) (RanOn b x y) n
-        → stage_in l' ≡ served (drop n l.unread.items) after → Made b x y l l'
+        → stage_in l' ≡ served (drop n l.unread.items) after → Made b x y l l' true
     made_answered n after a now =
         let text : after ≡ mark_text a.mark = a.writes ∙ ap (λ (t : List ℕ). t ++ mark_text a.mark) empty in
         made_one (answered l.number a.mark) refl refl refl a.served (rw is (empty, (n, a.stands, now ∙ ap (served (drop n l.unread.items)) text)))
+        (few_calls (a.mark ∷ []) (omega arith)) (λ u at busy none. absurd (marked l.number a.mark none)) refl
 
     -- the cause was that breaks the stream
     pub made_broke : (after : List ℕ) → AnswersBroken l.unread.items (Some l.pending.text.items) (Some after) (RanOn b x y)
-        → stage_in l' ≡ ending BrokenInput after → Made b x y l l'
+        → stage_in l' ≡ ending BrokenInput after → Made b x y l l' true
     made_broke after a now =
         let text : after ≡ cause_text a.cause = a.writes ∙ ap (λ (t : List ℕ). t ++ cause_text a.cause) empty in
         made_one (broke l.number a.cause) refl refl refl a.served (rw is (empty, a.stands, now ∙ ap (ending BrokenInput) text))
+        (omega arith) (λ u at busy none v leads. ends_broken l.number u v a.cause (stage_in l) at leads) refl
 
     -- an answer stopped
     pub made_stopped : (stop : Stop) (after : List ℕ) → AnswersPart l.unread.items (Some l.pending.text.items) (Some after) (RanOn b x y) stop
-        → stage_in l' ≡ ending (end_by stop) after → Made b x y l l'
+        → stage_in l' ≡ ending (end_by stop) after → Made b x y l l' true
     made_stopped stop after a now =
         let text : after ≡ take a.part (last_text a.last) = a.writes ∙ ap (λ (t : List ℕ). t ++ take a.part (last_text a.last)) empty in
         made_one (stopped l.number a.last a.part stop) refl refl refl a.served (rw is (empty, a.stands, a.why, now ∙ ap (ending (end_by stop)) text))
+        (few_calls (last_marks a.last) (one_last a.last)) (λ u at busy none v leads. ends_stopped l.number u v a.last a.part stop (stage_in l) at leads) refl
 
-pub made_none : {B : Type 0} (b : books.Ghosts B) (x : B) (l : Line) → Made b x x l l
-made_none b x l = record { events = []; unseen = refl; makes = makes_none b x; went = went_none l l refl refl }
+pub made_none : {B : Type 0} (b : books.Ghosts B) (x : B) (l : Line) (serves : Bool)
+    → (serves ≡ true → (u : List ℕ) → stage_in l ≡ served u [] → IsIdle u) → Made b x x l l serves
+made_none b x l serves idle = record {
+  events = [];
+  unseen = refl;
+  makes = makes_none b x;
+  went = went_none l l refl refl;
+  one = turn_none l serves idle;
+}
 
 -- one line, among all
 pub happened_line : {B : Type 0} (b : books.Ghosts B) (x y : B) (s t : Log) (log : Option (List ℕ)) (count : ℕ)
-    (ls : List Line) (at : ℕ) (l l' : Line) → AreOpenLines count ls → slice_get ls at ≡ Some l → Turned b x y s t l l'
+    (ls : List Line) (at : ℕ) (l l' : Line) (reads serves : Bool) → AreOpenLines count ls → slice_get ls at ≡ Some l → Turned b x y s t l l' reads serves
     → Happened b x y (seen_by s log) (seen_by t log) count count ls (slice_set ls at l')
-happened_line b x y s t log count ls at l l' ok is p = record {
+happened_line b x y s t log count ls at l l' reads serves ok is p = record {
   events = p.events;
   shown = shows_untold s t log p.events p.logged p.went.untold;
   makes = p.makes;
   leads = lifted count ls at l l' p.events ok is p.went.same p.went.own p.went.leads;
 }
+
+pub events_line : {B : Type 0} (b : books.Ghosts B) (x y : B) (s t : Log) (log : Option (List ℕ)) (count : ℕ)
+    (ls : List Line) (at : ℕ) (l l' : Line) (reads serves : Bool) (ok : AreOpenLines count ls) (is : slice_get ls at ≡ Some l)
+    (p : Turned b x y s t l l' reads serves) → (happened_line b x y s t log count ls at l l' reads serves ok is p).events ≡ p.events
+unfolding happened_line
+events_line b x y s t log count ls at l l' reads serves ok is p = refl
 
 -- what the log of lines gets for a close
 shows_closed : (s t : Option (List Event)) (log log' : Option (List ℕ)) (k : ℕ) (end : End) (part : ℕ)
@@ -154,32 +225,38 @@ shows_closed s t log log' k end part logged written = record {
 pub passed_closed : (s t : Option (List Event)) (log log' : Option (List ℕ)) (count : ℕ) (ls : List Line) (at : ℕ) (l : Line) (end : End)
     → AreOpenLines count ls → slice_get ls at ≡ Some l
     → MayClose l end → Logs s t (closed l.number end ∷ []) → (part : ℕ) × Appends log log' (take part (line_of (l.number + 1) end))
-    → Passed (seen_by s log) (seen_by t log') count count ls (remove ls at)
+    → Passed false (seen_by s log) (seen_by t log') count count ls (remove ls at)
 passed_closed s t log log' count ls at l end ok is may logged (part, written) = record {
   events = closed l.number end ∷ [];
   quiet = (refl, refl, tt);
+  one = (l.number, (refl, tt));
+  arrives = record { one = omega arith; none = λ _. refl };
   shown = shows_closed s t log log' l.number end part logged written;
   leads = lifted_closed count ls at l end ok is may;
 }
 
 pub passed_opened : (s t : Option (List Event)) (log : Option (List ℕ)) (count : ℕ) (ls : List Line) (l : Line) → AreOpenLines count ls
     → l.number ≡ count → stage_in l ≡ served [] []
-    → Logs s t (opened count ∷ []) → Passed (seen_by s log) (seen_by t log) count (count + 1) ls (ls ++ l ∷ [])
+    → Logs s t (opened count ∷ []) → Passed true (seen_by s log) (seen_by t log) count (count + 1) ls (ls ++ l ∷ [])
 passed_opened s t log count ls l ok is new logged = record {
   events = opened count ∷ [];
   quiet = (refl, refl, tt);
+  one = (count, (refl, tt));
+  arrives = record { one = omega arith; none = λ (no : true ≡ false). cc };
   shown = shows_untold s t log (opened count ∷ []) logged ([], [], refl, refl, refl);
   leads = lifted_opened count ls l ok is new;
 }
 
 pub passed_refused : (s t u : Option (List Event)) (log log' : Option (List ℕ)) (count : ℕ) (ls : List Line) → AreOpenLines count ls
     → Logs s t (opened count ∷ []) → Logs t u (closed count Fault ∷ []) → (part : ℕ) × Appends log log' (take part (line_of (count + 1) Fault))
-    → Passed (seen_by s log) (seen_by u log') count (count + 1) ls ls
+    → Passed true (seen_by s log) (seen_by u log') count (count + 1) ls ls
 passed_refused s t u log log' count ls ok first second (part, written) =
     let line = take part (line_of (count + 1) Fault) in
     record {
       events = opened count ∷ closed count Fault ∷ [];
       quiet = (refl, refl, (refl, refl, tt));
+      one = (count, (refl, (refl, tt)));
+      arrives = record { one = omega arith; none = λ (no : true ≡ false). cc };
       shown = record {
         logged = logs_then s t u (opened count ∷ []) (closed count Fault ∷ []) first second;
         text = line;

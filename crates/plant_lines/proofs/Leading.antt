@@ -1,5 +1,5 @@
 -- Events one after another.
-use Rattle.std.proofs.Common.{◌≡◌, ℕ, List, [], ◌∷◌, ◌++◌, Option, Some, None, refl, sym, ap, subst, ◌∙◌, append_assoc, append-nil}
+use Rattle.std.proofs.Common.{arith, false, ◌≡◌, ℕ, Bool, List, [], ◌∷◌, ◌++◌, Option, Some, None, refl, sym, ap, subst, ◌∙◌, append_assoc, append-nil}
 use Rattle.std.{proofs.{KnownBytes.{Appends-nil, Appends-trans}, lemmas.Grind.{flat_map-append}}}
 use Rattle.plant_model.specs.declared.{call.Call.{Call}, reply.Answer.{Answer}}
 use Rattle.plant_books.specs.declared.books.Books as books
@@ -8,7 +8,7 @@ use Rattle.plant_wire.proofs.public.Running.{ran_none, ran_joins}
 use Rattle.plant_lines.specs.Books.{AreQuiet, IsMoment, Makes, MakesEach}
 use Rattle.plant_lines.specs.Events.{AreTold, Event, Logs, Seen, Shows, all_answers, all_calls, answers_in, at_ports, calls_in, port_in, seen_by}
 use Rattle.plant_lines.specs.Stages.{Leads, Stage, stage_in, stage_of}
-use Rattle.plant_lines.specs.Happens.{AreOf, Happened, Made, Moved, Passed, Turned, Went}
+use Rattle.plant_lines.specs.Happens.{AreOf, Happened, IsTurnOf, Made, Moved, Passed, Turned, Went}
 use Rattle.plant_lines.specs.Faults.{reporting}
 use Rattle.plant_lines.specs.declared.lines.Line.{Line}
 use Rattle.plant_office.specs.declared.office.Faults.{Faults}
@@ -136,15 +136,35 @@ module _ {B : Type 0} {b : books.Ghosts B} {x y : B} {s t : Seen} {n m : ℕ} {k
   pub happened_honest : Happened b x y s t n m ks ls → b.is_honest y → b.is_honest x
   happened_honest p = (each_all b x y p.events p.makes).honest
 
-module _ {B : Type 0} {b : books.Ghosts B} {x : B} {s t : Seen} {n m : ℕ} {ks ls : List Line} where
-  pub happened_passed : Passed s t n m ks ls → Happened b x x s t n m ks ls
+module _ {B : Type 0} {b : books.Ghosts B} {x : B} {s t : Seen} {n m : ℕ} {ks ls : List Line} {comes : Bool} where
+  pub happened_passed : Passed comes s t n m ks ls → Happened b x x s t n m ks ls
   happened_passed p = record { events = p.events; shown = p.shown; makes = each_quiet b x p.events p.quiet; leads = p.leads }
 
-pub passed_none : (s : Seen) (count : ℕ) (ls : List Line) → Passed s s count count ls ls
-passed_none s count ls = record {
+-- the events of these
+pub events_then : {B : Type 0} {b : books.Ghosts B} {x y z : B} {s t u : Seen} {n m o : ℕ} {ks ls ms : List Line}
+    (p : Happened b x y s t n m ks ls) (q : Happened b y z t u m o ls ms) → (happened_then p q).events ≡ p.events ++ q.events
+unfolding happened_then
+events_then p q = refl
+
+pub events_passed : {B : Type 0} (b : books.Ghosts B) (x : B) {s t : Seen} {n m : ℕ} {ks ls : List Line} {comes : Bool} (p : Passed comes s t n m ks ls)
+    → (happened_passed {b = b} {x = x} p).events ≡ p.events
+unfolding happened_passed
+events_passed b x p = refl
+
+pub events_none : {B : Type 0} (b : books.Ghosts B) (x : B) (s : Seen) (n : ℕ) (ls : List Line)
+    → (happened_none {b = b} {x = x} {s = s} {n = n} {ls = ls}).events ≡ []
+unfolding happened_none
+events_none b x s n ls = refl
+
+-- nothing happened
+pub passed_none : (comes : Bool) (a a' : Option (List Event)) (log : Option (List ℕ)) (count : ℕ) (ls : List Line) → Logs a a' []
+    → Passed comes (seen_by a log) (seen_by a' log) count count ls ls
+passed_none comes a a' log count ls logged = record {
   events = [];
   quiet = tt;
-  shown = record { logged = logs_none s.ports; text = []; told = refl; written = Appends-nil s.log };
+  one = (0, tt);
+  arrives = record { one = omega arith; none = λ _. refl };
+  shown = shows_untold a a' log [] logged refl;
   leads = λ k. refl;
 }
 
@@ -152,7 +172,20 @@ passed_none s count ls = record {
 pub happened_waited : {B : Type 0} {b : books.Ghosts B} {x y : B} {s : Seen} {n m : ℕ} {ks ls : List Line} (a a' : Option (List Event))
     (log : Option (List ℕ)) → Happened b x y s (seen_by a log) n m ks ls → Logs a a' [] → Happened b x y s (seen_by a' log) n m ks ls
 happened_waited a a' log p logged =
-    happened_then p (happened_passed (record { events = []; quiet = tt; shown = shows_untold a a' log [] logged refl; leads = λ k. refl }))
+    happened_then p (happened_passed {comes = false} (record {
+      events = [];
+      quiet = tt;
+      one = (0, tt);
+      arrives = record { one = omega arith; none = λ _. refl };
+      shown = shows_untold a a' log [] logged refl;
+      leads = λ k. refl;
+    }))
+
+pub events_waited : {B : Type 0} {b : books.Ghosts B} {x y : B} {s : Seen} {n m : ℕ} {ks ls : List Line} (a a' : Option (List Event))
+    (log : Option (List ℕ)) (p : Happened b x y s (seen_by a log) n m ks ls) (logged : Logs a a' [])
+    → (happened_waited a a' log p logged).events ≡ p.events
+unfolding happened_waited happened_then happened_passed
+events_waited a a' log p logged = append-nil p.events
 
 -- one line
 pub went_then : (es fs : List Event) (l m n : Line) → Went es l m → Went fs m n → Went (es ++ fs) l n
@@ -166,31 +199,38 @@ went_then es fs l m n p q = record {
 }
 
 module _ {B : Type 0} (b : books.Ghosts B) where
-  pub turned_moved : (x : B) (s t : Option (List Event)) (l m : Line) → Moved s t l m → Turned b x x s t l m
-  turned_moved x s t l m p = record { events = p.events; logged = p.logged; makes = each_quiet b x p.events p.quiet; went = p.went }
-
-  pub turned_made : (x y : B) (s : Option (List Event)) (l m : Line) → Made b x y l m → Turned b x y s s l m
-  turned_made x y s l m p = record {
-    events = p.events;
-    logged = subst (λ (es : List Event). Logs s s es) (sym p.unseen) (logs_none s);
-    makes = p.makes;
-    went = p.went;
+  -- a read of the line, an answer and a write
+  pub turned_all : (x y : B) (s t u : Option (List Event)) (l m n o : Line) (reads serves : Bool) (p : Moved s t l m reads)
+      (made : Made b x y m n serves) (q : Moved t u n o false) → IsTurnOf l reads serves (p.events ++ (made.events ++ q.events))
+      → Turned b x y s u l o reads serves
+  turned_all x y s t u l m n o reads serves p made q one = record {
+    events = p.events ++ (made.events ++ q.events);
+    logged = logged_then s t u p.events (made.events ++ q.events) p.logged
+        (logged_then t t u made.events q.events (subst (λ (es : List Event). Logs t t es) (sym made.unseen) (logs_none t)) q.logged);
+    makes = each_then b x x y p.events (made.events ++ q.events) (each_quiet b x p.events p.quiet)
+        (each_then b x y y made.events q.events made.makes (each_quiet b y q.events q.quiet));
+    went = went_then p.events (made.events ++ q.events) l m o p.went (went_then made.events q.events m n o made.went q.went);
+    one = one;
   }
 
-  pub turned_then : (x y z : B) (s t u : Option (List Event)) (l m n : Line) → Turned b x y s t l m → Turned b y z t u m n → Turned b x z s u l n
-  turned_then x y z s t u l m n p q = record {
-    events = p.events ++ q.events;
-    logged = logged_then s t u p.events q.events p.logged q.logged;
-    makes = each_then b x y z p.events q.events p.makes q.makes;
-    went = went_then p.events q.events l m n p.went q.went;
+  -- a read that failed
+  pub turned_short : (x : B) (s t : Option (List Event)) (l m : Line) (reads serves : Bool) (p : Moved s t l m reads) → IsTurnOf l reads serves p.events
+      → Turned b x x s t l m reads serves
+  turned_short x s t l m reads serves p one = record {
+    events = p.events;
+    logged = p.logged;
+    makes = each_quiet b x p.events p.quiet;
+    went = p.went;
+    one = one;
   }
 
   -- faults of the line were reported
-  pub turned_reported : (x y : B) (s t : Option (List Event)) (l m : Line) (faults : Faults) → Turned b x y s t l m
-      → Turned b x y s t l (reporting m faults)
-  turned_reported x y s t l m faults p = record {
+  pub turned_reported : (x y : B) (s t : Option (List Event)) (l m : Line) (faults : Faults) (reads serves : Bool) → Turned b x y s t l m reads serves
+      → Turned b x y s t l (reporting m faults) reads serves
+  turned_reported x y s t l m faults reads serves p = record {
     events = p.events;
     logged = p.logged;
     makes = p.makes;
     went = record { own = p.went.own; same = p.went.same; untold = p.went.untold; leads = p.went.leads };
+    one = p.one;
   }

@@ -1,5 +1,9 @@
 pub mod public
 mod Leading
+mod Waited
+mod Paced
+mod OneTurn
+mod Rounds
 mod Held
 mod Moments
 mod Ends

@@ -1,17 +1,18 @@
 -- All of a service.
-use Rattle.std.proofs.Common.{ℕ, List, [], subst}
+use Rattle.std.proofs.Common.{ℕ, List, [], refl, subst}
 use Rattle.plant_books.specs.declared.books.Books as books
 use Rattle.plant_model.specs.declared.{call.Call.{Call}, reply.Answer.{Answer}}
-use Rattle.plant_lines.specs.Accounts.{AreSent, AreServed, Outcome, HasOpened}
-use Rattle.plant_lines.specs.{Events.{Event, Seen, all_answers, all_calls}, Happens.{Happened}, Stages.{Leads, Stage, fresh, stage_of}}
-use Rattle.plant_lines.proofs.{Apart.{apart_from}, Ends.{ends_each}, Held.{none_yet}, Leading.{each_all, happened_none, moment}}
+use Rattle.plant_lines.specs.Accounts.{AreSent, AreServed, AtEachMoment, HasOpened, Outcome}
+use Rattle.plant_lines.specs.{Fairness.{IsFair, IsSteady}, Held.{IsUnderWay}}
+use Rattle.plant_lines.specs.{Events.{Event, Seen, all_answers, all_calls}, Stages.{Leads, Stage, fresh, stage_of}}
+use Rattle.plant_lines.proofs.{Apart.{apart_from}, Ends.{ends_each}, Held.{none_yet}, Leading.{each_all, moment}, Rounds.{way_start}}
 use Rattle.plant_lines.proofs.Moments.{at_each_moment}
 use Rattle.plant_lines.specs.declared.lines.Line.{Line}
 
 module _ {ran : List Call → List Answer → Type 0} {n : ℕ} {r : Outcome} where
   abbrev pub sent_from : (events : List Event) (count : ℕ) (ls : List Line) → ran (all_calls events) (all_answers events)
-      → ((k : ℕ) → Leads k fresh events (stage_of k count ls)) → HasOpened n count ls r → AreSent ran n r
-  sent_from events count ls made goes stops = record {
+      → ((k : ℕ) → Leads k fresh events (stage_of k count ls)) → AtEachMoment IsFair events → AtEachMoment IsSteady events → HasOpened n count ls r → AreSent ran n r
+  sent_from events count ls made goes fair steady stops = record {
     events = events;
     count = count;
     held = ls;
@@ -19,17 +20,20 @@ module _ {ran : List Call → List Answer → Type 0} {n : ℕ} {r : Outcome} wh
     answered = λ k. at_each_moment k events (stage_of k count ls) (goes k);
     goes = goes;
     ends = ends_each events (λ k. stage_of k count ls) goes;
+    fair = fair;
+    steady = steady;
     stops = stops;
   }
 
 module _ {B : Type 0} {b : books.Ghosts B} {x y : B} {s t : Seen} {n count : ℕ} {ls : List Line} {r : Outcome} where
-  pub served_from : Happened b x y s t 0 count [] ls → HasOpened n count ls r → AreServed b x y s t n r
-  served_from h stops =
+  pub served_from : IsUnderWay b x y s t count ls → HasOpened n count ls r → AreServed b x y s t n r
+  served_from w stops =
+      let h = w.happened in
       let goes : (k : ℕ) → Leads k fresh h.events (stage_of k count ls) = λ k. subst (λ (a : Stage). Leads k a h.events (stage_of k count ls))
       (none_yet k) (h.leads k) in
       let all = each_all b x y h.events h.makes in
       record {
-        sent = sent_from h.events count ls all.ran goes stops;
+        sent = sent_from h.events count ls all.ran goes w.kept.fair w.kept.steady stops;
         shown = h.shown;
         moments = λ es fs is. moment b x y h.events es fs is h.makes;
         apart = λ m held w legal holds t. apart_from w h.events (all.ran.run m held w legal holds t).isolated;
@@ -38,4 +42,4 @@ module _ {B : Type 0} {b : books.Ghosts B} {x y : B} {s t : Seen} {n count : ℕ
 -- none came
 module _ {B : Type 0} {b : books.Ghosts B} {x : B} {s : Seen} {n : ℕ} {r : Outcome} where
   pub served_none : HasOpened n 0 [] r → AreServed b x x s s n r
-  served_none stops = served_from happened_none stops
+  served_none stops = served_from (way_start [] refl) stops

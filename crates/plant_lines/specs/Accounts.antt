@@ -7,7 +7,7 @@ use Rattle.plant_call.specs.Front.{Parsed}
 use Rattle.plant_office.specs.{Runs.{AreIsolated, world_after}, Served.{Holds}}
 use Rattle.plant_wire.specs.{Marks.{Mark, marked_item, mark_text, out_of}, Over.{RanOn}, Session.{EndsAs}}
 use Rattle.plant_wire.specs.declared.reads.End.{End}
-use Rattle.plant_lines.specs.Books.{IsMoment}
+use Rattle.plant_lines.specs.{Books.{IsMoment}, Fairness.{IsFair, IsSteady}}
 use Rattle.plant_lines.specs.Events.{Event, Seen, Shows, all_answers, all_calls, answers_for, answers_in, calls_for}
 use Rattle.plant_lines.specs.Events.{calls_in, came_to, closed, cut_of, has_ended, marks_of, sent_to}
 use Rattle.plant_lines.specs.Stages.{Leads, fresh, stage_of}
@@ -76,6 +76,8 @@ pub record AreSent (ran : List Call → List Answer → Type 0) (n : ℕ) (r : O
   pub answered : (k : ℕ) → AtEachMoment (IsAnsweredFor k) events
   pub goes : (k : ℕ) → Leads k fresh events (stage_of k count held)
   pub ends : EndsEach events
+  pub fair : AtEachMoment IsFair events
+  pub steady : AtEachMoment IsSteady events
   pub stops : HasOpened n count held r
 
 -- From one state of the books and of what is seen to another: the calls are one run of the books, and the ports and the

@@ -112,6 +112,17 @@ answers_in (stopped k last part stop) = answers_of (last_marks last)
 answers_in (left k bytes) = []
 answers_in (closed k end) = []
 
+-- what comes from outside: a connection, bytes of one, or the end of one
+abbrev pub arrivals_in : Event → List ℕ
+arrivals_in (opened k) = k ∷ []
+arrivals_in (came k bytes) = k ∷ []
+arrivals_in (ended k) = k ∷ []
+arrivals_in (answered k mark) = []
+arrivals_in (broke k cause) = []
+arrivals_in (stopped k last part stop) = []
+arrivals_in (left k bytes) = []
+arrivals_in (closed k end) = []
+
 -- what the ports see of an event
 abbrev pub port_in : Event → List Event
 port_in (opened k) = opened k ∷ []
@@ -152,6 +163,9 @@ all_calls es = flat_map calls_in es
 
 abbrev pub all_answers : List Event → List Answer
 all_answers es = flat_map answers_in es
+
+abbrev pub arrivals : List Event → List ℕ
+arrivals es = flat_map arrivals_in es
 
 abbrev pub at_ports : List Event → List Event
 at_ports es = flat_map port_in es

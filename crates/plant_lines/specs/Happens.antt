@@ -1,15 +1,34 @@
 -- What is done at connections: by one line, and by all.
-use Rattle.std.specs.Prelude.{◌≡◌, ℕ, List, [], ◌∷◌}
+use Rattle.std.specs.Prelude.{◌≡◌, ◌≤◌, ℕ, Bool, false, true, List, [], ◌∷◌, length}
+use Rattle.plant_wire.specs.Session.{IsIdle}
 use Rattle.plant_books.specs.declared.books.Books.{Ghosts}
 use Rattle.plant_lines.specs.Books.{AreQuiet, MakesEach}
-use Rattle.plant_lines.specs.Events.{AreTold, Event, Log, Logs, Seen, Shows, at_ports, who}
-use Rattle.plant_lines.specs.Stages.{Leads, stage_in, stage_of}
+use Rattle.plant_lines.specs.Events.{AreTold, Event, Log, Logs, Seen, Shows, all_calls, arrivals, at_ports, marks_of, who}
+use Rattle.plant_lines.specs.Stages.{Leads, served, stage_in, stage_of}
 use Rattle.plant_lines.specs.declared.lines.Line.{Line}
 
 -- these events are of the connection k
 abbrev pub AreOf : ℕ → List Event → Type 0
 AreOf k [] = Unit {0}
 AreOf k (e ∷ es) = (who e ≡ k) × AreOf k es
+
+-- if a request could be answered on the line, one was, or the line is served no more
+abbrev pub Answers : Line → List Event → Type 0
+Answers l events = (unread : List ℕ) → stage_in l ≡ served unread [] → (IsIdle unread → ⊥) → marks_of l.number events ≡ []
+    → (v : List ℕ) → Leads l.number (stage_in l) events (served v []) → ⊥
+
+-- at most one thing came, and none if the line was not to be read
+pub record Arrives (reads : Bool) (events : List Event) : Type 0 where
+  pub one : length (arrivals events) ≤ 1
+  pub none : reads ≡ false → length (arrivals events) ≡ 0
+
+-- it had one turn: at most one call was made, it was answered if it was to be, and else no call was made
+pub record IsTurnOf (l : Line) (reads serves : Bool) (events : List Event) : Type 0 where
+  pub own : AreOf l.number events
+  pub once : length (all_calls events) ≤ 1
+  pub answers : serves ≡ true → Answers l events
+  pub quiet : serves ≡ false → AreQuiet events
+  pub arrives : Arrives reads events
 
 -- one line went by these events, none of which is in the log of lines
 pub record Went (events : List Event) (before after : Line) : Type 0 where
@@ -19,25 +38,28 @@ pub record Went (events : List Event) (before after : Line) : Type 0 where
   pub leads : Leads before.number (stage_in before) events (stage_in after)
 
 -- its ports were asked, and no call was made
-pub record Moved (s t : Log) (before after : Line) : Type 0 where
+pub record Moved (s t : Log) (before after : Line) (reads : Bool) : Type 0 where
   pub events : List Event
   pub quiet : AreQuiet events
+  pub arrives : Arrives reads events
   pub logged : Logs s t (at_ports events)
   pub went : Went events before after
 
 -- the office was asked, and nothing came or left
-pub record Made {B : Type 0} (b : Ghosts B) (from to : B) (before after : Line) : Type 0 where
+pub record Made {B : Type 0} (b : Ghosts B) (from to : B) (before after : Line) (serves : Bool) : Type 0 where
   pub events : List Event
   pub unseen : at_ports events ≡ []
   pub makes : MakesEach b from events to
   pub went : Went events before after
+  pub one : IsTurnOf before false serves events
 
 -- both, one after another
-pub record Turned {B : Type 0} (b : Ghosts B) (from to : B) (s t : Log) (before after : Line) : Type 0 where
+pub record Turned {B : Type 0} (b : Ghosts B) (from to : B) (s t : Log) (before after : Line) (reads serves : Bool) : Type 0 where
   pub events : List Event
   pub logged : Logs s t (at_ports events)
   pub makes : MakesEach b from events to
   pub went : Went events before after
+  pub one : IsTurnOf before reads serves events
 
 -- All of it, where n had come and m have, and these lines were held and are: the events are what the ports saw and what
 -- the office did, all calls one after another, whatever the connection, and each connection goes by its own events
@@ -48,9 +70,11 @@ pub record Happened {B : Type 0} (b : Ghosts B) (x y : B) (s t : Seen) (n m : �
   pub makes : MakesEach b x events y
   pub leads : (k : ℕ) → Leads k (stage_of k n ls) events (stage_of k m ms)
 
--- the same, where no call was made
-pub record Passed (s t : Seen) (n m : ℕ) (ls ms : List Line) : Type 0 where
+-- the same at one connection, where no call was made
+pub record Passed (comes : Bool) (s t : Seen) (n m : ℕ) (ls ms : List Line) : Type 0 where
   pub events : List Event
   pub quiet : AreQuiet events
+  pub one : (k : ℕ) × AreOf k events
+  pub arrives : Arrives comes events
   pub shown : Shows s t events
   pub leads : (k : ℕ) → Leads k (stage_of k n ls) events (stage_of k m ms)

@@ -2,7 +2,9 @@ pub mod Events
 pub mod Stages
 pub mod Books
 pub mod Happens
+pub mod Fairness
 pub mod Accounts
+pub mod Paces
 pub mod Held
 pub mod PortSteps
 pub mod Prompt

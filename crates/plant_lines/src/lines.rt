@@ -152,7 +152,7 @@ fn end_at(stop: Stop) -> End
 pub(crate) fn read_line<P: Ports>(ports: &mut P, chunk: &mut [u8], line: &mut Line) -> bool
     requires room { least_room ≤ length chunk.old }
     requires waits { WaitsBelow line.old.unread.items line.old.wanted }
-    ensures moved { Moved (P.seen ports.old) (P.seen ports.new) line.old line.new }
+    ensures moved { Moved (P.seen ports.old) (P.seen ports.new) line.old line.new true }
     ensures waits { WaitsBelow line.new.unread.items line.new.wanted }
     ensures failed { result ≡ false → MayClose line.new ends.ReadFailed }
     ensures kept { length chunk.new ≡ length chunk.old }
@@ -179,7 +179,7 @@ pub(crate) fn read_line<P: Ports>(ports: &mut P, chunk: &mut [u8], line: &mut Li
 /// One write of the answer that waits to leave. Whether the line goes on.
 pub(crate) fn write_line<P: Ports>(alloc: Global, ports: &mut P, line: &mut Line) -> bool
     requires waits { WaitsBelow line.old.unread.items line.old.wanted }
-    ensures moved { Moved (P.seen ports.old) (P.seen ports.new) line.old line.new }
+    ensures moved { Moved (P.seen ports.old) (P.seen ports.new) line.old line.new false }
     ensures waits { WaitsBelow line.new.unread.items line.new.wanted }
     ensures failed { result ≡ false → MayClose line.new ends.WriteFailed }
 {
@@ -218,7 +218,7 @@ pub(crate) fn serve_line<B: Books>(
     office: &mut Office<B>,
 )
     requires waits { WaitsBelow line.old.unread.items line.old.wanted }
-    ensures made { Made B.Books office.old.books office.new.books line.old line.new }
+    ensures made { Made B.Books office.old.books office.new.books line.old line.new true }
     ensures waits { WaitsBelow line.new.unread.items line.new.wanted }
     ensures settled { IsSettled line.new }
 {
@@ -246,7 +246,7 @@ pub(crate) fn serve_line<B: Books>(
 fn read_if<P: Ports>(reads: bool, ports: &mut P, chunk: &mut [u8], line: &mut Line) -> bool
     requires room { least_room ≤ length chunk.old }
     requires waits { WaitsBelow line.old.unread.items line.old.wanted }
-    ensures moved { Moved (P.seen ports.old) (P.seen ports.new) line.old line.new }
+    ensures moved { Moved (P.seen ports.old) (P.seen ports.new) line.old line.new reads }
     ensures waits { WaitsBelow line.new.unread.items line.new.wanted }
     ensures failed { result ≡ false → MayClose line.new ends.ReadFailed }
     ensures kept { length chunk.new ≡ length chunk.old }
@@ -267,7 +267,7 @@ fn serve_if<B: Books>(
     office: &mut Office<B>,
 )
     requires waits { WaitsBelow line.old.unread.items line.old.wanted }
-    ensures made { Made B.Books office.old.books office.new.books line.old line.new }
+    ensures made { Made B.Books office.old.books office.new.books line.old line.new serves }
     ensures waits { WaitsBelow line.new.unread.items line.new.wanted }
 {
     if serves {
@@ -295,7 +295,7 @@ pub(crate) fn turn_line<P: Ports, B: Books>(
 ) -> Option<End>
     requires waits { WaitsBelow line.old.unread.items line.old.wanted }
     ensures turned { Turned B.Books office.old.books office.new.books (P.seen ports.old) (P.seen ports.new) line.old
-        line.new }
+        line.new asked.reads asked.serves }
     ensures waits { WaitsBelow line.new.unread.items line.new.wanted }
     ensures may { IfSome result (λ end. MayClose line.new end) }
 {
@@ -360,7 +360,7 @@ pub(crate) fn turn_and_report<P: Ports, B: Books, E: Write>(
 ) -> Option<End>
     requires waits { WaitsBelow line.old.unread.items line.old.wanted }
     ensures turned { Turned B.Books office.old.books office.new.books (P.seen ports.old) (P.seen ports.new) line.old
-        line.new }
+        line.new asked.reads asked.serves }
     ensures waits { WaitsBelow line.new.unread.items line.new.wanted }
     ensures may { IfSome result (λ end. MayClose line.new end) }
 {

@@ -2,8 +2,8 @@ ghost use Rattle.std.specs.Prelude.{◌≡◌, ◌<◌, Err, IfSome, IsTrue, len
 ghost use Rattle.std.specs.Bool.{OnTrue};
 ghost use Rattle.plant_books.specs.Books.{WasHonest};
 ghost use Rattle.plant_lines.specs.declared.lines.Line.{Line};
-ghost use Rattle.plant_lines.specs.{Accounts.{AreServed}, Events.{seen_by}, Happens.{Happened, Passed}};
-ghost use Rattle.plant_lines.specs.{Held.{IsHeld, Turns}, Prompt.{ArePrompt}, Stages.{AreOpenLines, MayClose}};
+ghost use Rattle.plant_lines.specs.{Accounts.{AreServed}, Events.{seen_by}, Happens.{Passed}};
+ghost use Rattle.plant_lines.specs.{Held.{IsHeld, IsRound, Turns, TurnsAt}, Prompt.{ArePrompt}, Stages.{AreOpenLines, MayClose}};
 
 use crate::desk::Desk;
 use crate::lines::{Asked, Line, turn_and_report};
@@ -69,11 +69,12 @@ fn close_line<P: Ports, W: Write>(
     requires within { at < length held.old.lines.items }
     requires held { IsHeld held.old }
     requires may { (line : Line) → slice_get held.old.lines.items at ≡ Some line → MayClose line end }
-    ensures passed { Passed (seen_by (P.seen ports.old) (W.contents log.old))
+    ensures passed { Passed false (seen_by (P.seen ports.old) (W.contents log.old))
         (seen_by (P.seen ports.new) (W.contents log.new))
         held.old.count held.new.count held.old.lines.items held.new.lines.items }
     ensures held { IsHeld held.new }
     ensures same { held.new.n ≡ held.old.n }
+    ensures count { held.new.count ≡ held.old.count }
     ensures others { held.new.lines.items ≡ remove held.old.lines.items at }
 {
     let number = held.lines[at].number;
@@ -95,8 +96,8 @@ fn turn_at<P: Ports, B: Books, W: Write, E: Write>(
 ) -> bool
     requires within { at < length held.old.lines.items }
     requires held { IsHeld held.old }
-    ensures { Turns B.Books P.Ports W.Write office.old.books office.new.books ports.old ports.new
-        reports.old reports.new held.old held.new result }
+    ensures { TurnsAt B.Books P.Ports W.Write office.old.books office.new.books ports.old ports.new
+        reports.old reports.new held.old held.new at asked.reads asked.serves result }
 {
     let asks = held.reports;
     let line = &mut held.lines[at];
@@ -118,7 +119,7 @@ fn give_up<P: Ports, W: Write>(
 )
     requires within { at < length held.old.lines.items }
     requires held { IsHeld held.old }
-    ensures passed { Passed (seen_by (P.seen ports.old) (W.contents log.old))
+    ensures passed { Passed false (seen_by (P.seen ports.old) (W.contents log.old))
         (seen_by (P.seen ports.new) (W.contents log.new))
         held.old.count held.new.count held.old.lines.items held.new.lines.items }
     ensures held { IsHeld held.new }
@@ -133,7 +134,7 @@ fn give_up<P: Ports, W: Write>(
 /// Accepts a connection, and counts it.
 fn accept<P: Ports, W: Write>(alloc: Global, ports: &mut P, log: &mut W, held: &mut Held)
     requires { IsHeld held.old }
-    ensures passed { Passed (seen_by (P.seen ports.old) (W.contents log.old))
+    ensures passed { Passed true (seen_by (P.seen ports.old) (W.contents log.old))
         (seen_by (P.seen ports.new) (W.contents log.new))
         held.old.count held.new.count held.old.lines.items held.new.lines.items }
     ensures held { IsHeld held.new }
@@ -163,7 +164,7 @@ fn serve_turn<P: Ports, B: Books, W: Write, E: Write>(
     office: &mut Office<B>,
 )
     requires { IsHeld held.old }
-    ensures happened { Happened B.Books office.old.books office.new.books
+    ensures round { IsRound held.old.count B.Books office.old.books office.new.books
         (seen_by (P.seen ports.old) (W.contents reports.old.log)) (seen_by (P.seen ports.new) (W.contents reports.new.log))
         held.old.count held.new.count held.old.lines.items held.new.lines.items }
     ensures held { IsHeld held.new }
@@ -194,7 +195,7 @@ fn turn_of<P: Ports, B: Books, W: Write, E: Write>(
 ) -> bool
     requires { IsHeld held.old }
     ensures { Turns B.Books P.Ports W.Write office.old.books office.new.books ports.old ports.new
-        reports.old reports.new held.old held.new result }
+        reports.old reports.new held.old held.new asked.serves result }
 {
     match place_of(&held.lines, number) {
         Some(at) => turn_at(desk, ports, reports, held, at, asked, office),
@@ -215,7 +216,7 @@ fn step<P: Ports, B: Books, W: Write, E: Write>(
 ) -> bool
     requires { IsHeld held.old }
     ensures { Turns B.Books P.Ports W.Write office.old.books office.new.books ports.old ports.new
-        reports.old reports.new held.old held.new result }
+        reports.old reports.new held.old held.new serves result }
 {
     match ready {
         Ready::Came => {
@@ -272,7 +273,7 @@ fn turn<P: Ports, B: Books, W: Write, E: Write>(
 ) -> bool
     requires held { IsHeld held.old }
     requires prompt { busy ≡ false → ArePrompt held.old.lines.items }
-    ensures happened { Happened B.Books office.old.books office.new.books
+    ensures round { IsRound 0 B.Books office.old.books office.new.books
         (seen_by (P.seen ports.old) (W.contents reports.old.log)) (seen_by (P.seen ports.new) (W.contents reports.new.log))
         held.old.count held.new.count held.old.lines.items held.new.lines.items }
     ensures held { IsHeld held.new }

@@ -8,6 +8,7 @@ mod AgreeLaws
 mod ShelfLaws
 mod KeyLaws
 mod OwnLaws
+mod SplitLaws
 mod WorkedShelves
 mod WorkedGrants
 mod WorkedService

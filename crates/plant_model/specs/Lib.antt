@@ -20,4 +20,5 @@ pub mod Views
 pub mod Openings
 pub mod ImportLaw
 pub mod Laws
+pub mod Splits
 pub mod steps

@@ -4,6 +4,7 @@ ghost use Rattle.plant_model.specs.ImportLaw.{ImportsAgree};
 ghost use Rattle.plant_model.specs.Laws.{AllShelvesEndByReturns, UnseenCallsChangeNothing, CodesAreTheAdministrators, EqualViewsEqualAnswers, CallsToSeenUnits, FirstWorldsAreLegal, OthersCallsCanGo, NextWorldsAreLegal, WithoutEndsStandingIsHolding, QuotaOf2000RefusesNothing, ShelvesEndByReturns};
 ghost use Rattle.plant_model.specs.steps.Keys.{PutsOverWhatIsSeen};
 ghost use Rattle.plant_model.specs.Openings.{HistoriesAreOwn};
+ghost use Rattle.plant_model.specs.Splits.{ListsAreMerged, ListsAreMergedOfMany, OnlyAPartKnowsItsCodes, OtherCallsChangeNoPart, OtherUnitsMakeNoDifference, PartsAnswerTheirCalls, PartsRunAsTheWhole};
 
 /// Isolation: what one person sees of two worlds.
 pub fn two_worlds()
@@ -17,6 +18,17 @@ pub fn two_worlds()
 #[tactic(auto, using(crate::proofs::PurgeLaws::others_calls_can_go))]
 pub fn purged()
     ensures { OthersCallsCanGo }
+{}
+
+/// Splitting: an office of some of the units answers the calls on them as the whole one does.
+pub fn split_office()
+    ensures own { PartsAnswerTheirCalls }
+    ensures elsewhere { OtherCallsChangeNoPart }
+    ensures runs { PartsRunAsTheWhole }
+    ensures others { OtherUnitsMakeNoDifference }
+    ensures lists { ListsAreMerged }
+    ensures many { ListsAreMergedOfMany }
+    ensures codes { OnlyAPartKnowsItsCodes }
 {}
 
 /// The histories of a world without units are legal, and a call leaves legal histories legal.

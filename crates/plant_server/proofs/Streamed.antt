@@ -53,6 +53,8 @@ module _ (ran also : List Call → List Answer → Type 0)
     answered = s.answered;
     goes = s.goes;
     ends = s.ends;
+    fair = s.fair;
+    steady = s.steady;
     stops = s.stops;
   }
 

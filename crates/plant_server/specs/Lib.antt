@@ -1,3 +1,5 @@
 pub mod Files
 pub mod Statuses
 pub mod Crashes
+pub mod Promise
+pub mod Parts

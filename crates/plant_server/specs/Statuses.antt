@@ -1,14 +1,13 @@
 -- The exit statuses of the program.
-use Rattle.std.specs.Prelude.{if◌then◌else◌, Bool, true, false, IsTrue, nat_lt, List, ℕ, ◌≡◌, ◌⊎◌}
+use Rattle.std.specs.Prelude.{if◌then◌else◌, Bool, true, false, IsTrue, nat_lt, List, ℕ, ◌≡◌}
 use Rattle.std.specs.Prelude.{Err, None, Ok, Option, Result, Some}
 use Rattle.plant_model.specs.declared.{call.Call.{Call}, reply.Answer.{Answer}}
 use Rattle.plant_wire.specs.{Session.{IsSession}, declared.reads.End.{End}}
 use Rattle.plant_wire.specs.declared.reads.End.TheVariants.{BrokenInput, Closed, Fault, ReadFailed, WriteFailed}
 use Rattle.plant_connections.specs.declared.while_open.Stopped.{Stopped}
 use Rattle.plant_connections.specs.declared.while_open.Stopped.TheVariants as stopped
-use Rattle.plant_line.specs.declared.words.{LineError.{LineError}, Service.{Service}, Task.{Task}}
+use Rattle.plant_line.specs.declared.words.{LineError.{LineError}, Service.{Service}}
 use Rattle.plant_line.specs.declared.words.LineError.TheVariants.{Memory, NoDb, NotAPerson, Text}
-use Rattle.plant_line.specs.declared.words.Task.TheVariants.{Migrate, Serve}
 use Rattle.plant_lines.specs.Accounts.{AreSent, Outcome}
 use Rattle.plant_lines.specs.declared.serving.Halted.TheVariants as halted
 use Rattle.plant_server.specs.declared.statuses.ExitStatus.{ExitStatus}
@@ -55,8 +54,8 @@ served_at_once (Err halted.Ports) = statuses.NetFailed
 served_at_once (Err halted.Shut) = statuses.NoBooks
 
 -- an older file was migrated, or not
-abbrev pub status_of_migration : Result (Unit {0}) StoreFault → ExitStatus
-status_of_migration (Ok u) = statuses.Done
+abbrev pub status_of_migration : {A : Type 0} → Result A StoreFault → ExitStatus
+status_of_migration (Ok made) = statuses.Done
 status_of_migration (Err e) = statuses.NoBooks
 
 -- what may be true of the office: of its calls, with their answers
@@ -72,14 +71,6 @@ abbrev pub IsStreamed : Bytes → Bytes → Bytes → Bytes → OfCalls → Exit
 IsStreamed unread unread_after written written_after ran n =
     (end : End) × (ended : Bool) × IsSession unread unread_after ended written written_after ran end
     × (n ≡ exit_status_of end)
-
--- whatever the office did
-abbrev pub Whatever : List Call → List Answer → Type 0
-Whatever calls answers = Unit {0}
-
--- whatever became of its store
-abbrev pub Anyhow : Type 0
-Anyhow = Unit {0}
 
 -- The connections of a port were served one after the other, or not all of them. Of those it says only what the office
 -- did for all of them together. How many there were is said by `serve_listener`; what came over a socket no contract
@@ -117,30 +108,3 @@ HasServed ran lost None unread unread_after written written_after n =
     IsStreamed unread unread_after written written_after ran n
 HasServed ran lost (Some service) unread unread_after written written_after n =
     AreOfPort (is_at_once service) ran lost service n
-
--- an older file was to be migrated
-abbrev pub IsOfMigration : ExitStatus → Type 0
-IsOfMigration n = (outcome : Result (Unit {0}) StoreFault) × (n ≡ status_of_migration outcome)
-
--- What a line's words ask for was done, or no books were opened for it. A migration reads no request; which files it is
--- of is not said here, nor which books were served: what became of them is said by `serve_opened` and `serve_file`.
-abbrev pub IsFollowed : Task → Bytes → Bytes → Bytes → Bytes → ExitStatus → Type 0
-IsFollowed (Serve db service) unread unread_after written written_after n =
-    (n ≡ statuses.NoBooks) ⊎ HasServed Whatever Anyhow service unread unread_after written written_after n
-IsFollowed (Migrate old new) unread unread_after written written_after n = (unread_after ≡ unread) × IsOfMigration n
-
--- the words are refused, or ask for help, or what they ask for was done
-abbrev pub IsObeyed : Bytes → Bytes → Bytes → Bytes → ExitStatus → Type 0
-IsObeyed unread unread_after written written_after n =
-    ((e : LineError) × (n ≡ status_of_line e))
-    ⊎ ((task : Task) × IsFollowed task unread unread_after written written_after n)
-
--- The program exits with this number: of its streams all that is said is that there are some over which this is so.
-pub record IsExit (number : ℕ) : Type 0 where
-  pub status : ExitStatus
-  pub unread : Bytes
-  pub unread_after : Bytes
-  pub written : Bytes
-  pub written_after : Bytes
-  pub obeyed : IsObeyed unread unread_after written written_after status
-  pub number_is : number ≡ code status

@@ -1,17 +1,18 @@
-ghost use Rattle.std.specs.{Duration.{as_nanos}, Prelude.{◌≡◌, ◌⊎◌, ◌+◌, ◌*◌, [], List, option_map}};
-ghost use Rattle.std.specs.Prelude.{Err, IfErr, IfOk, IfSome, IsSomeAnd, IsTrue, OnOk};
+ghost use Rattle.std.specs.{Duration.{as_nanos}, Prelude.{◌≡◌, ◌⊎◌, ◌+◌, ◌*◌, [], List, Result, map, option_map}};
+ghost use Rattle.std.specs.Prelude.{Err, IsTrue, OnOk, true, false};
 ghost use Rattle.plant_books.specs.Books.{WasHonest};
-ghost use Rattle.plant_model.specs.declared.{call.Call.{Call}, reply.Answer.{Answer}};
+ghost use Rattle.plant_line.specs.Lines.{IsReadAs};
+ghost use Rattle.plant_line.specs.declared.words.{Line.{Line}, LineError.{LineError}};
+ghost use Rattle.plant_model.specs.{Worlds.{empty_world}, declared.{call.Call.{Call}, reply.Answer.{Answer}}};
+ghost use Rattle.sqlite_std_file.specs.File.{IsFresh};
 ghost use Rattle.sqlite_store.specs.FileStore.{view};
 ghost use Rattle.sqlite_trees.specs.View.{IsClean};
 ghost use Rattle.sqlite_wal.specs.Files.{image_at};
-ghost use Rattle.plant_books.specs.Contents.{Content};
-ghost use Rattle.plant_model.specs.Worlds.{IsLegalWorld, World};
-ghost use Rattle.plant_office.specs.Served.{Holds};
-ghost use Rattle.plant_server.specs.{Crashes.{IsWhole, LeavesOutcomes}, Files.{HoldBooks}};
+ghost use Rattle.plant_office.specs.Enduring.{books_state};
+ghost use Rattle.plant_server.specs.Crashes.{IsWhole};
+ghost use Rattle.plant_server.specs.{Parts.{IsAtHand, IsClosing, left_of}, Promise.{AreAnsweredBy, Begins, FilesServed, IsDone, IsKept, IsMigration, IsObeyed, IsRefusal, IsServed, IsUnserved, place_of, streams_of}};
 ghost use Rattle.plant_lines.specs.Accounts.{AreSent};
-ghost use Rattle.plant_server.specs.Statuses.{AreOfPort, HasServed, IsExit, IsFollowed, IsObeyed, IsOfMigration};
-ghost use Rattle.plant_server.specs.Statuses.{Anyhow, IsStreamed, Whatever, is_at_once};
+ghost use Rattle.plant_server.specs.Statuses.{AreOfPort, HasServed, IsStreamed, is_at_once};
 ghost use Rattle.plant_server.specs.declared.statuses.ExitStatus.TheVariants.{NoBooks};
 ghost use Rattle.plant_wire.specs.Over.{RanOn};
 ghost use Rattle.plant_server.specs.Statuses as statuses;
@@ -19,7 +20,8 @@ ghost use Rattle.plant_server.specs.Statuses as statuses;
 use crate::books::in_memory;
 use crate::files::in_file;
 use crate::migrations::migrate_file;
-use crate::remains::{close_left, leave};
+use crate::places::Located;
+use crate::remains::{Left, close_left, leave};
 use crate::sockets::Port;
 use crate::statuses::ExitStatus;
 use plant_connections::{Listener, Stopped, end_name, say, serve_connections, serve_while_open};
@@ -31,13 +33,14 @@ use plant_ports::{Limits, Sockets};
 use plant_store::{StoreFault, Tables};
 use plant_types::Person;
 use plant_types::limits::MAX_ROWS_AT_HAND;
-use plant_wire::{End, Failed, FromRead, Inlet, Outlet, ToWrite, session};
-use sqlite::{Alter, FileFrom, FileStore, Start, Unknown};
+use plant_wire::{End, Failed, Inlet, Outlet, session};
+use sqlite::{Alter, File, FileFrom, FileStore, Leftover, Start};
 use sqlite_disk::Disk;
 use std::alloc::Global;
 use std::convert::AsStr;
-use std::io::{Read, Write};
+use std::io::Write;
 use std::net::SocketAddr;
+use std::str::FromStr;
 use std::time::Duration;
 
 /// The status for the end of a session.
@@ -346,11 +349,9 @@ fn serve_books<S: Alter + Drop, I: Inlet, O: Outlet + Write, E: Write>(
     outlet: &mut O,
     errors: &mut E,
 ) -> (ExitStatus, Tables<S>)
-    ensures ran { HasServed (RanOn ⟦<Tables<S> as Books>⟧ books result.1)
+    ensures { HasServed (RanOn ⟦<Tables<S> as Books>⟧ books result.1)
         (¬ ⟦<Tables<S> as Books>⟧.is_honest result.1) service
         (I.remaining inlet.old) (I.remaining inlet.new)
-        (O.written outlet.old) (O.written outlet.new) result.0 }
-    ensures served { HasServed Whatever Anyhow service (I.remaining inlet.old) (I.remaining inlet.new)
         (O.written outlet.old) (O.written outlet.new) result.0 }
 {
     match Copies::new(rt.alloc(), MAX_ROWS_AT_HAND) {
@@ -362,40 +363,81 @@ fn serve_books<S: Alter + Drop, I: Inlet, O: Outlet + Write, E: Write>(
     }
 }
 
-/// Serves the books that were opened, and gives the status and the books after it. Where none were, it looks no
-/// further: a port is listened on only for books that are there.
-fn serve_opened<S: Alter + Drop, I: Inlet, O: Outlet + Write, E: Write>(
+/// Serves new books in memory, and gives the status.
+fn serve_memory<I: Inlet, O: Outlet + Write, E: Write>(
     rt: &HostRuntime,
-    opened: Result<Tables<S>, StoreFault>,
+    admin: Person,
     service: Option<Service>,
     inlet: &mut I,
     outlet: &mut O,
     errors: &mut E,
-) -> (ExitStatus, Option<Tables<S>>)
-    ensures ran { IfOk opened (λ books. IsSomeAnd result.1 (λ after.
-        HasServed (RanOn ⟦<Tables<S> as Books>⟧ books after) (¬ ⟦<Tables<S> as Books>⟧.is_honest after) service
-        (I.remaining inlet.old) (I.remaining inlet.new)
-        (O.written outlet.old) (O.written outlet.new) result.0)) }
-    ensures served { IfOk opened (λ _. HasServed Whatever Anyhow service
-        (I.remaining inlet.old) (I.remaining inlet.new)
-        (O.written outlet.old) (O.written outlet.new) result.0) }
-    ensures unready { IfErr opened (λ _. result.0 ≡ NoBooks) }
+) -> ExitStatus
+    ensures { let s = streams_of I.Inlet O.Outlet inlet.old inlet.new outlet.old outlet.new in
+        IsUnserved s result
+        ⊎ IsServed (AreAnsweredBy (empty_world admin)) ⊥ service s result }
 {
-    match opened {
+    match in_memory(rt.alloc(), admin) {
         Ok(books) => {
-            let (status, books) = serve_books(rt, books, service, inlet, outlet, errors);
-            (status, Some(books))
+            let (status, _) = serve_books(rt, books, service, inlet, outlet, errors);
+            status
         }
-        Err(fault) => (report_unopened(errors, &fault), None),
+        Err(fault) => report_unopened(errors, &fault),
     }
 }
 
-/// Serves the books of a file, and gives the status and the store as serving left it. Where the file held the rows of a
-/// world, and the disk has returned what was written, whatever a crash now leaves of the files is books: those after
-/// all calls that were confirmed, or after these and one that was answered by a fault. The same is true at each moment
-/// of the serving, read as the end of the serving over a disk that fails from then on. If the service ended because a
+/// Closes the files that serving left, and says if the log stays beside the file. Where it does not, the file alone
+/// holds what a crash could leave before.
+fn close_and_say<D: Disk + Drop, N: Disk + Drop>(
+    store: FileStore<D>,
+    errors: &mut impl Write,
+) -> Left<D, N>
+    requires { IsClean (view store) → IsWhole store }
+    ensures { IsClosing store result }
+{
+    match close_left(store) {
+        Ok(files) => Left::Closed(files),
+        Err((_, store)) => {
+            say(errors, b"store: log not copied\n");
+            Left::Unclosed(store)
+        }
+    }
+}
+
+/// Serves the books of files, closes these, and gives the status and what is left. If the service ended because a
 /// failure had shut the store, the store is shut.
-pub fn serve_file<S: Start, I: Inlet, O: Outlet + Write, E: Write>(
+fn serve_kept<D: Disk + Drop, N: Disk + Drop, I: Inlet, O: Outlet + Write, E: Write>(
+    rt: &HostRuntime,
+    books: Tables<FileStore<D>>,
+    service: Option<Service>,
+    inlet: &mut I,
+    outlet: &mut O,
+    errors: &mut E,
+) -> (ExitStatus, Left<D, N>)
+    ensures { FilesServed (IsAtHand (books_state ⟦<Tables<FileStore<D>> as Books>⟧ books)) service
+        (streams_of I.Inlet O.Outlet inlet.old inlet.new outlet.old outlet.new)
+        result.0 result.1 }
+{
+    let (status, served) = serve_books(rt, books, service, inlet, outlet, errors);
+    let left = close_and_say(leave(served), errors);
+    (status, left)
+}
+
+/// What is left of files of which no books were opened.
+fn refused<D: Disk, N: Disk>(rest: Option<Leftover<D>>) -> Left<D, N>
+    ensures { result ≡ left_of rest }
+{
+    match rest {
+        None => Left::Nothing,
+        Some(rest) => Left::Refused(rest),
+    }
+}
+
+/// Serves the books of a file, and gives the status and what is left of the file. Where it held the rows of a world,
+/// and the disk has returned what was written, whatever a crash now leaves of it is books: those after all calls that
+/// were confirmed, or after these and one that was answered by a fault. The same is true at each moment of the serving,
+/// read as the end of the serving over a disk that fails from then on. Where no books are opened, it looks no further: a
+/// port is listened on only for books that are there, and the file is as it was.
+pub fn serve_file<F: Start + Located, I: Inlet, O: Outlet + Write, E: Write>(
     rt: &HostRuntime,
     path: &str,
     admin: Person,
@@ -403,40 +445,22 @@ pub fn serve_file<S: Start, I: Inlet, O: Outlet + Write, E: Write>(
     inlet: &mut I,
     outlet: &mut O,
     errors: &mut E,
-    start: S,
-) -> (ExitStatus, Option<FileStore<FileFrom<S>>>)
-    ensures crash { (m : Content) → HoldBooks (image_at S.Start) m → m.admin ≡ admin
-        → (w : World) → IsLegalWorld w → Holds m w
-        → IfSome result.1 (λ store. IsClean (view store)
-        → HasServed (LeavesOutcomes store w) (¬ IsTrue (view store).is_open) service
-        (I.remaining inlet.old) (I.remaining inlet.new)
-        (O.written outlet.old) (O.written outlet.new) result.0) }
-    ensures whole { IfSome result.1 (λ store. IsClean (view store) → IsWhole store) }
-    ensures served { (result.0 ≡ NoBooks)
-        ⊎ HasServed Whatever Anyhow service (I.remaining inlet.old) (I.remaining inlet.new)
-        (O.written outlet.old) (O.written outlet.new) result.0 }
+    start: F,
+) -> (ExitStatus, Left<FileFrom<F>, File>)
+    ensures { let place = place_of F.Located.path (image_at F.Start) in
+        let s = streams_of I.Inlet O.Outlet inlet.old inlet.new outlet.old outlet.new in
+        (IsUnserved s result.0 × IsRefusal (λ files. IsFresh true files.log × IsFresh false files.db)
+        place path.now result.1)
+        ⊎ FilesServed (Begins place path.now admin) service s result.0 result.1 }
 {
     match in_file(rt, path, admin, start) {
-        Ok(books) => {
-            let (status, served) = serve_books(rt, books, service, inlet, outlet, errors);
-            (status, Some(leave(served)))
-        }
-        Err((fault, _)) => (report_unopened(errors, &fault), None),
+        Ok(books) => serve_kept(rt, books, service, inlet, outlet, errors),
+        Err((fault, rest)) => (report_unopened(errors, &fault), refused(rest)),
     }
 }
 
-/// Closes the files that serving left, and says if the log stays beside the file. Where it does not, the file alone
-/// holds what a crash could leave before.
-fn close_and_say<D: Disk + Drop>(store: FileStore<D>, errors: &mut impl Write)
-    requires { IsClean (view store) → IsWhole store }
-{
-    if close_left(store).is_err() {
-        say(errors, b"store: log not copied\n");
-    }
-}
-
-/// Serves the books of a file, or new books in memory, and gives the status.
-fn serve<I: Inlet, O: Outlet + Write, E: Write>(
+/// Serves the books of a file, or new books in memory, and gives the status and what is left of the file.
+fn serve<F: Start + Located, I: Inlet, O: Outlet + Write, E: Write>(
     rt: &HostRuntime,
     admin: Person,
     db: Option<String>,
@@ -444,88 +468,85 @@ fn serve<I: Inlet, O: Outlet + Write, E: Write>(
     inlet: &mut I,
     outlet: &mut O,
     errors: &mut E,
-) -> ExitStatus
-    ensures { (result ≡ NoBooks)
-        ⊎ HasServed Whatever Anyhow service (I.remaining inlet.old) (I.remaining inlet.new)
-        (O.written outlet.old) (O.written outlet.new) result }
+    start: F,
+) -> (ExitStatus, Left<FileFrom<F>, File>)
+    ensures { IsDone (λ files. IsFresh true files.log × IsFresh false files.db) ⟦<File as Disk>⟧
+        (place_of F.Located.path (image_at F.Start)) admin (Task.Serve db service)
+        (streams_of I.Inlet O.Outlet inlet.old inlet.new outlet.old outlet.new)
+        result.0 result.1 }
 {
     match db {
         None => {
-            let opened = in_memory(rt.alloc(), admin);
-            let (status, _) = serve_opened(rt, opened, service, inlet, outlet, errors);
-            status
+            let status = serve_memory(rt, admin, service, inlet, outlet, errors);
+            (status, Left::Nothing)
         }
-        Some(path) => {
-            let (status, left) = serve_file(
-                rt,
-                path.as_str(),
-                admin,
-                service,
-                inlet,
-                outlet,
-                errors,
-                Unknown,
-            );
-            if let Some(store) = left {
-                close_and_say(store, errors);
-            }
-            status
-        }
+        Some(path) => serve_file(
+            rt,
+            path.as_str(),
+            admin,
+            service,
+            inlet,
+            outlet,
+            errors,
+            start,
+        ),
     }
 }
 
 /// Says whether the older file was migrated, and gives the status.
-fn report_migration(
+fn report_migration<T>(
     output: &mut impl Write,
     errors: &mut impl Write,
-    outcome: Result<(), StoreFault>,
+    made: &Result<T, StoreFault>,
 ) -> ExitStatus
-    ensures { result ≡ statuses.status_of_migration outcome }
+    ensures { result ≡ statuses.status_of_migration made.now }
 {
-    match outcome {
-        Ok(()) => {
+    match made {
+        Ok(_) => {
             say(output, b"migrated\n");
             ExitStatus::Done
         }
-        Err(fault) => report_unopened(errors, &fault),
+        Err(fault) => report_unopened(errors, fault),
     }
 }
 
-/// Migrates an older file to a new one, and gives the status.
-fn migrate_and_say(
+/// Migrates an older file to a new one, and gives the status and what is left of both.
+fn migrate_and_say<F: Start + Located>(
     rt: &HostRuntime,
     admin: Person,
     old: &str,
     new: &str,
     output: &mut impl Write,
     errors: &mut impl Write,
-) -> ExitStatus
-    ensures { IsOfMigration result }
+    start: F,
+) -> (ExitStatus, Left<FileFrom<F>, File>)
+    ensures { IsMigration ⟦<File as Disk>⟧ (place_of F.Located.path (image_at F.Start)) old.now admin
+        result.0 result.1 }
 {
-    let (_, made) = migrate_file(rt, old, new, admin, Unknown);
-    let outcome = match made {
-        Ok(_) => Ok(()),
-        Err(fault) => Err(fault),
-    };
-    report_migration(output, errors, outcome)
+    let (old, made) = migrate_file(rt, old, new, admin, start);
+    let status = report_migration(output, errors, &made);
+    (status, Left::Migrated(old, made))
 }
 
-/// Does what the command line asks for, and gives the status.
-fn run<I: Inlet, O: Outlet + Write, E: Write>(
+/// Does what the command line asks for, and gives the status and what is left of files.
+fn run<F: Start + Located, I: Inlet, O: Outlet + Write, E: Write>(
     rt: &HostRuntime,
     line: Line,
     inlet: &mut I,
     outlet: &mut O,
     errors: &mut E,
-) -> ExitStatus
-    ensures { IsFollowed line.task (I.remaining inlet.old) (I.remaining inlet.new)
-        (O.written outlet.old) (O.written outlet.new) result }
+    start: F,
+) -> (ExitStatus, Left<FileFrom<F>, File>)
+    ensures { IsDone (λ files. IsFresh true files.log × IsFresh false files.db) ⟦<File as Disk>⟧
+        (place_of F.Located.path (image_at F.Start)) line.admin line.task
+        (streams_of I.Inlet O.Outlet inlet.old inlet.new outlet.old outlet.new)
+        result.0 result.1 }
 {
     let Line { admin, task } = line;
     match task {
-        Task::Serve { db, service } => serve(rt, admin, db, service, inlet, outlet, errors),
+        Task::Serve { db, service } => serve(rt, admin, db, service, inlet, outlet, errors, start),
         Task::Migrate { old, new } => {
-            migrate_and_say(rt, admin, old.as_str(), new.as_str(), outlet, errors)
+            migrate_and_say(rt, admin, old.as_str(), new.as_str(), outlet, errors, start)
         }
     }
 }
@@ -560,20 +581,26 @@ fn report_line_error(
     }
 }
 
-/// Does what the words ask for, or says why they are refused, and gives the status.
-fn obey<S: AsStr, I: Inlet, O: Outlet + Write, E: Write>(
+/// Does what the words ask for, or says why they are refused, and gives the status and what is left of files.
+fn obey<S: AsStr, F: Start + Located, I: Inlet, O: Outlet + Write, E: Write>(
     rt: &HostRuntime,
     words: &[S],
     inlet: &mut I,
     outlet: &mut O,
     errors: &mut E,
-) -> ExitStatus
-    ensures { IsObeyed (I.remaining inlet.old) (I.remaining inlet.new)
-        (O.written outlet.old) (O.written outlet.new) result }
+    start: F,
+) -> (ExitStatus, Left<FileFrom<F>, File>)
+    ensures { (line : Result Line LineError)
+        × IsReadAs ⟦<u16 as FromStr>⟧.from_str_gives ⟦<u64 as FromStr>⟧.from_str_gives
+        (map S.text words.now) line
+        × IsObeyed (λ files. IsFresh true files.log × IsFresh false files.db) ⟦<File as Disk>⟧
+        (place_of F.Located.path (image_at F.Start)) line
+        (streams_of I.Inlet O.Outlet inlet.old inlet.new outlet.old outlet.new)
+        result.0 result.1 }
 {
     match line_of(rt.alloc(), words) {
-        Ok(line) => run(rt, line, inlet, outlet, errors),
-        Err(error) => report_line_error(outlet, errors, &error),
+        Ok(line) => run(rt, line, inlet, outlet, errors, start),
+        Err(error) => (report_line_error(outlet, errors, &error), Left::Nothing),
     }
 }
 
@@ -584,17 +611,23 @@ fn obey<S: AsStr, I: Inlet, O: Outlet + Write, E: Write>(
 /// was to serve all connections that come; 4, 5, 6 or 7 where the session over the streams ended by broken input, a
 /// failed read, a failed write, or for lack of memory, and 7 where memory ran out as the command line was read or
 /// before any of many connections was accepted; 8 where listening on the port or accepting a connection failed.
-pub fn command<S: AsStr, I: Read + Drop, O: Write + Drop, E: Write + Drop>(
+///
+/// `Promise` says in full what is answered, and what the files hold then and after a crash at any moment. For that,
+/// `start` stands for what the files at a path hold as they are opened, and what is left of them is handed back.
+pub fn command<S: AsStr, F: Start + Located, I: Inlet, O: Outlet + Write, E: Write>(
     rt: &HostRuntime,
     words: &[S],
-    input: I,
-    output: O,
-    mut errors: E,
-) -> u8
-    ensures { IsExit result }
+    inlet: &mut I,
+    outlet: &mut O,
+    errors: &mut E,
+    start: F,
+) -> (u8, Left<FileFrom<F>, File>)
+    ensures { IsKept ⟦<u16 as FromStr>⟧.from_str_gives ⟦<u64 as FromStr>⟧.from_str_gives
+        (λ files. IsFresh true files.log × IsFresh false files.db) ⟦<File as Disk>⟧
+        (place_of F.Located.path (image_at F.Start)) (map S.text words.now)
+        (streams_of I.Inlet O.Outlet inlet.old inlet.new outlet.old outlet.new)
+        result.0 result.1 }
 {
-    let mut inlet = FromRead::new(input);
-    let mut outlet = ToWrite::new(output);
-    let status = obey(rt, words, &mut inlet, &mut outlet, &mut errors);
-    status.code()
+    let (status, left) = obey(rt, words, inlet, outlet, errors, start);
+    (status.code(), left)
 }

@@ -16,6 +16,7 @@ ghost use Rattle.plant_store.specs.{Opened.{KeepsIfOk, WasOffice}, Opening.{IsTh
 ghost use Rattle.plant_server.specs.Files as files;
 
 use crate::openings::open_at;
+use crate::places::Located;
 use crate::remains::close_whole;
 use plant_store::{StoreFault, Tables};
 use plant_types::{Fault, Person};
@@ -51,21 +52,21 @@ pub type NotOpened<S> = (StoreFault, Option<Leftover<FileFrom<S>>>);
 /// The database at this path. If there is none, a new one is made, with a checksum in each page in the form of SQLite's
 /// extension cksumvfs. A database that is there keeps its form. Where it is not opened, its files are not written over:
 /// a crash leaves of them what it could leave before, in the engine's words `LeavesFiles`.
-pub fn connect<S: Start>(
+pub fn connect<S: Start + Located>(
     rt: &HostRuntime,
     path: &str,
     start: S,
 ) -> Result<Connection<FileStore<FileFrom<S>>>, NotOpened<S>>
     ensures mode { IfOk result (λ conn. HasNoTransaction conn) }
     ensures opened { IfOk result (λ conn. HasCleanDisk (file_state conn) → IsOpened conn) }
-    ensures found { IfOk result (λ conn. HasCleanDisk (file_state conn)
+    ensures found { IfOk result (λ conn. path.now ≡ S.Located.path → HasCleanDisk (file_state conn)
         → FindsIn (image_at S.Start) (file_state conn)) }
-    ensures sums { IfOk result (λ conn. HasCleanDisk (file_state conn)
+    ensures sums { IfOk result (λ conn. path.now ≡ S.Located.path → HasCleanDisk (file_state conn)
         → IsBlankAs true (image_at S.Start) → (view conn.store).has_sums ≡ true) }
     ensures refused { IfErr result (λ e. (error : EngineError)
         × IsTrue (is_open_error error) × (e.0 ≡ files.fault_by_error error)) }
     ensures left { IfErr result (λ e. IfSome e.1 (λ left. (opened : _)
-        × IsFresh true opened.log × IsFresh false opened.db
+        × (path.now ≡ S.Located.path → IsFresh true opened.log × IsFresh false opened.db)
         × (IsCleanLeft left → LeavesFiles opened left))) }
 {
     match open_at(rt, path, start) {
@@ -96,21 +97,21 @@ fn open_books<S: Alter + Drop>(
 
 /// The books of a database that is there. Where its files held books with some content, that is what these hold; of any
 /// other database none are opened but where it is this person's office.
-fn open_file<S: Start>(
+fn open_file<S: Start + Located>(
     rt: &HostRuntime,
     path: &str,
     admin: Person,
     start: S,
 ) -> Result<Tables<FileStore<FileFrom<S>>>, NotOpened<S>>
     ensures own { IfOk result (λ books. (books.0.1 ≡ admin) × (books.1 ≡ 0)) }
-    ensures kept { (m : Content) → HoldBooks (image_at S.Start) m
+    ensures kept { path.now ≡ S.Located.path → (m : Content) → HoldBooks (image_at S.Start) m
         → IfOk result (λ books. Represents (file_state books.0.0) m) }
-    ensures crash { (m : Content) → HoldBooks (image_at S.Start) m
+    ensures crash { path.now ≡ S.Located.path → (m : Content) → HoldBooks (image_at S.Start) m
         → IfOk result (λ books. LeavesOnly (file_state books.0.0) m) }
-    ensures office { (db : Database) → HoldDatabase (image_at S.Start) db
+    ensures office { path.now ≡ S.Located.path → (db : Database) → HoldDatabase (image_at S.Start) db
         → IfOk result (λ books. IsHonest (file_state books.0.0) → IsThisOffice admin db) }
     ensures left { IfErr result (λ e. IfSome e.1 (λ left. (opened : _)
-        × IsFresh true opened.log × IsFresh false opened.db
+        × (path.now ≡ S.Located.path → IsFresh true opened.log × IsFresh false opened.db)
         × (IsCleanLeft left → LeavesFiles opened left))) }
 {
     let conn = connect(rt, path, start)?;
@@ -284,21 +285,21 @@ fn make_if_missing(rt: &HostRuntime, path: &str, admin: &Person) -> Result<(), S
 /// The books of the file at this path, which is made where neither it nor its log is there. A start that is cut off
 /// leaves nothing of this name or a file that the next start opens. Where a file is not opened, its error has what is
 /// left of it: it was not written over.
-pub fn in_file<S: Start>(
+pub fn in_file<S: Start + Located>(
     rt: &HostRuntime,
     path: &str,
     admin: Person,
     start: S,
 ) -> Result<Tables<FileStore<FileFrom<S>>>, NotOpened<S>>
     ensures own { IfOk result (λ books. (books.0.1 ≡ admin) × (books.1 ≡ 0)) }
-    ensures kept { (m : Content) → HoldBooks (image_at S.Start) m
+    ensures kept { path.now ≡ S.Located.path → (m : Content) → HoldBooks (image_at S.Start) m
         → IfOk result (λ books. Represents (file_state books.0.0) m) }
-    ensures crash { (m : Content) → HoldBooks (image_at S.Start) m
+    ensures crash { path.now ≡ S.Located.path → (m : Content) → HoldBooks (image_at S.Start) m
         → IfOk result (λ books. LeavesOnly (file_state books.0.0) m) }
-    ensures office { (db : Database) → HoldDatabase (image_at S.Start) db
+    ensures office { path.now ≡ S.Located.path → (db : Database) → HoldDatabase (image_at S.Start) db
         → IfOk result (λ books. IsHonest (file_state books.0.0) → IsThisOffice admin db) }
     ensures left { IfErr result (λ e. IfSome e.1 (λ left. (opened : _)
-        × IsFresh true opened.log × IsFresh false opened.db
+        × (path.now ≡ S.Located.path → IsFresh true opened.log × IsFresh false opened.db)
         × (IsCleanLeft left → LeavesFiles opened left))) }
 {
     match make_if_missing(rt, path, &admin) {

@@ -7,12 +7,15 @@ mod commands;
 mod files;
 mod migrations;
 mod openings;
+mod places;
 mod remains;
 mod sockets;
 mod statuses;
 
 pub use commands::{command, serve_file, serve_port};
 pub use migrations::{Migrated, migrate_file};
+pub use places::Located;
 pub use plant_connections::{Listener, serve_connections};
+pub use remains::Left;
 pub use sockets::Port;
 pub use statuses::ExitStatus;

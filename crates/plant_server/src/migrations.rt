@@ -14,6 +14,7 @@ use crate::files::{
     NewNames, STORE, beside, close_new, connect, is_there, length_of, new_names, put_in_place,
     remove,
 };
+use crate::places::Located;
 use plant_store::{StoreFault, Tables, migrate, note_settled};
 use plant_types::Person;
 use sqlite::{Alter, Connection, File, FileFrom, FileStore, Start, Unknown};
@@ -173,7 +174,7 @@ pub type Migrated<S> = (
 );
 
 /// Makes the new file from the older database, which is only read.
-fn make_from<S: Start>(
+fn make_from<S: Start + Located>(
     rt: &HostRuntime,
     old: Connection<FileStore<FileFrom<S>>>,
     old_path: &str,
@@ -185,13 +186,15 @@ fn make_from<S: Start>(
 )
     requires none { HasNoTransaction old }
     requires opened { HasCleanDisk (file_state old) → IsOpened old }
-    requires found { HasCleanDisk (file_state old) → FindsIn (image_at S.Start) (file_state old) }
-    ensures taken { (m : Content) → m.admin ≡ admin → HoldOldBooks (image_at S.Start) m
+    requires found { old_path.now ≡ S.Located.path → HasCleanDisk (file_state old)
+        → FindsIn (image_at S.Start) (file_state old) }
+    ensures taken { old_path.now ≡ S.Located.path → (m : Content) → m.admin ≡ admin
+        → HoldOldBooks (image_at S.Start) m
         → IfOk result.1 (λ files. IsHonest (file_state result.0)
         → AreClean ⟦<File as Disk>⟧ files.log files.db
         → HoldWholeBooks ⟦<File as Disk>⟧ files m) }
-    ensures read { (db : Database) → HoldDatabase (image_at S.Start) db
-        → HoldsStill (file_state result.0) db }
+    ensures read { old_path.now ≡ S.Located.path → (db : Database)
+        → HoldDatabase (image_at S.Start) db → HoldsStill (file_state result.0) db }
 {
     // Tells the proof what a crash leaves of it; it does nothing.
     note_settled(&old);
@@ -200,7 +203,7 @@ fn make_from<S: Start>(
 
 /// Opens the older file and makes the new one from it. The older one is only read, and stays locked as long as its
 /// connection is there. The engine makes a log if there is none; it is removed before the lock is given up.
-fn open_and_make<S: Start>(
+fn open_and_make<S: Start + Located>(
     rt: &HostRuntime,
     old_path: &str,
     new: &NewNames,
@@ -213,12 +216,12 @@ fn open_and_make<S: Start>(
     ),
     StoreFault,
 >
-    ensures taken { (m : Content) → m.admin ≡ admin → HoldOldBooks (image_at S.Start) m
-        → IfOk result (λ r. IfOk r.1 (λ files. IsHonest (file_state r.0)
+    ensures taken { old_path.now ≡ S.Located.path → (m : Content) → m.admin ≡ admin
+        → HoldOldBooks (image_at S.Start) m → IfOk result (λ r. IfOk r.1 (λ files. IsHonest (file_state r.0)
         → AreClean ⟦<File as Disk>⟧ files.log files.db
         → HoldWholeBooks ⟦<File as Disk>⟧ files m)) }
-    ensures read { IfOk result (λ r. (db : Database) → HoldDatabase (image_at S.Start) db
-        → HoldsStill (file_state r.0) db) }
+    ensures read { IfOk result (λ r. old_path.now ≡ S.Located.path → (db : Database)
+        → HoldDatabase (image_at S.Start) db → HoldsStill (file_state r.0) db) }
 {
     let log = log_of(rt, old_path)?;
     let had_log = length_of(rt, &log)?.is_some();
@@ -278,19 +281,19 @@ fn place(
 /// holds: on a disk that returns what was written, what it held it holds. The new one is there once it is whole, or not
 /// at all; where its folder can't be synced, it is there and the store's fault is given. What the older one held of
 /// schema 1, the new one holds.
-pub fn migrate_file<S: Start>(
+pub fn migrate_file<S: Start + Located>(
     rt: &HostRuntime,
     old_path: &str,
     new_path: &str,
     admin: Person,
     start: S,
 ) -> Migrated<S>
-    ensures taken { (m : Content) → m.admin ≡ admin → HoldOldBooks (image_at S.Start) m
-        → IfOk result.1 (λ files. IsSomeAnd result.0 (λ old. IsHonest (file_state old)
+    ensures taken { old_path.now ≡ S.Located.path → (m : Content) → m.admin ≡ admin
+        → HoldOldBooks (image_at S.Start) m → IfOk result.1 (λ files. IsSomeAnd result.0 (λ old. IsHonest (file_state old)
         → AreClean ⟦<File as Disk>⟧ files.log files.db
         → HoldWholeBooks ⟦<File as Disk>⟧ files m)) }
-    ensures read { IfSome result.0 (λ old. (db : Database) → HoldDatabase (image_at S.Start) db
-        → HoldsStill (file_state old) db) }
+    ensures read { old_path.now ≡ S.Located.path → IfSome result.0 (λ old. (db : Database)
+        → HoldDatabase (image_at S.Start) db → HoldsStill (file_state old) db) }
 {
     let new = match names_for(rt, old_path, new_path) {
         Ok(new) => new,

@@ -7,6 +7,7 @@ ghost use Rattle.sqlite_std_file.specs.File.{file_is_usable, IsFresh};
 ghost use Rattle.sqlite_store.specs.FileStore.{view};
 ghost use Rattle.sqlite_wal.specs.Files.{image_at};
 
+use crate::places::Located;
 use sqlite::{Connection, Error, ErrorCode, FileFrom, FileStore, Leftover, Options, Start};
 use sqlite_disk::Files;
 use sqlite_std_file::OpenError;
@@ -34,11 +35,16 @@ fn error_of(error: &OpenError) -> Error
 
 /// The file at this path and its log, each made if it is missing. The engine's words for a database in memory and for a
 /// URI are no paths.
-fn open_pair<S: Start>(rt: &HostRuntime, path: &str, start: S) -> Result<Files<FileFrom<S>>, Error>
+fn open_pair<S: Start + Located>(
+    rt: &HostRuntime,
+    path: &str,
+    start: S,
+) -> Result<Files<FileFrom<S>>, Error>
     ensures named { IfErr result (λ e. IsTrue (is_open_error e)) }
     ensures usable { IfOk result (λ files. IsTrue (file_is_usable S.Start files.log)
         × IsTrue (file_is_usable S.Start files.db)) }
-    ensures fresh { IfOk result (λ files. IsFresh true files.log × IsFresh false files.db) }
+    ensures fresh { IfOk result (λ files. path.now ≡ S.Located.path
+        → IsFresh true files.log × IsFresh false files.db) }
 {
     if path == ":memory:" || path.starts_with("file:") {
         return Err(CANNOT_OPEN);
@@ -63,20 +69,20 @@ fn options(rt: &HostRuntime) -> Result<Options, Error>
 
 /// The database at this path. If there is none, a new one is made, with a checksum in each page in the form of SQLite's
 /// extension cksumvfs. Where it is not opened, the error has what is left of its files, where it came to these.
-pub fn open_at<S: Start>(
+pub fn open_at<S: Start + Located>(
     rt: &HostRuntime,
     path: &str,
     start: S,
 ) -> Result<Connection<FileStore<FileFrom<S>>>, (Error, Option<Leftover<FileFrom<S>>>)>
     ensures fresh { IfOk result IsNew }
     ensures opened { IfOk result (λ conn. HasCleanDisk (file_state conn) → IsOpened conn) }
-    ensures found { IfOk result (λ conn. HasCleanDisk (file_state conn)
+    ensures found { IfOk result (λ conn. path.now ≡ S.Located.path → HasCleanDisk (file_state conn)
         → FindsIn (image_at S.Start) (file_state conn)) }
-    ensures sums { IfOk result (λ conn. HasCleanDisk (file_state conn)
+    ensures sums { IfOk result (λ conn. path.now ≡ S.Located.path → HasCleanDisk (file_state conn)
         → IsBlankAs true (image_at S.Start) → (view conn.store).has_sums ≡ true) }
     ensures named { IfErr result (λ e. IsTrue (is_open_error e.0)) }
     ensures left { IfErr result (λ e. IfSome e.1 (λ left. (opened : _)
-        × IsFresh true opened.log × IsFresh false opened.db
+        × (path.now ≡ S.Located.path → IsFresh true opened.log × IsFresh false opened.db)
         × (IsCleanLeft left → LeavesFiles opened left))) }
 {
     let files = match open_pair(rt, path, start) {

@@ -1,8 +1,9 @@
 //! What serving leaves of the files of books.
 
-ghost use Rattle.std.specs.Prelude.{◌≡◌, IfOk, IsTrue, List};
+ghost use Rattle.std.specs.Prelude.{◌≡◌, IfErr, IfOk, IsTrue, List};
 ghost use Rattle.sqlite.specs.{Files.{file_state}, Held.{AreDatabases, state}, State.{HasCleanDisk, IsLive}};
-ghost use Rattle.sqlite_store.specs.FileStore.{view};
+ghost use Rattle.sqlite.specs.Tree.{Trees};
+ghost use Rattle.sqlite_store.specs.FileStore.{recovers, view};
 ghost use Rattle.sqlite_trees.specs.View.{IsClean, IsQuiet, IsRolledBack as IsUndone};
 ghost use Rattle.sqlite_wal.specs.Reads.{AreClean};
 ghost use Rattle.plant_books.specs.Contents.{Content};
@@ -11,11 +12,38 @@ ghost use Rattle.plant_office.specs.Outcomes.{IsOutcome};
 ghost use Rattle.plant_server.specs.Crashes.{HoldCommitted, HoldWholeBooks, HoldWholeOutcome, IsWhole, LeavesOutcomes};
 ghost use Rattle.plant_statements.specs.Keeping.{LeavesBooks, LeavesContent, Represents};
 
-use plant_store::Tables;
-use sqlite::{Alter, FileStore};
+use plant_store::{StoreFault, Tables};
+use sqlite::{Alter, Connection, FileStore, Leftover};
 use sqlite_disk::{Disk, Files};
 use sqlite_trees::error::StoreError;
 use sqlite_trees::store::Store;
+
+/// What the command leaves of files, for its contract to speak of.
+pub enum Left<D: Disk, N: Disk> {
+    /// No files came to be opened.
+    Nothing,
+    /// Files that were not opened as books: what the engine left of them.
+    Refused(Leftover<D>),
+    /// Files that were served and closed, with the log copied into the file.
+    Closed(Files<D>),
+    /// Files that were served, where the log could not be copied.
+    Unclosed(FileStore<D>),
+    /// The older file, if it was opened, and the closed files of the new one, or why there are none.
+    Migrated(Option<Connection<FileStore<D>>>, Result<Files<N>, StoreFault>),
+}
+
+// It is written out, so that a caller does not prove again how each part is dropped.
+impl<D: Disk + Drop, N: Disk + Drop> Drop for Left<D, N> {
+    fn drop(self) {
+        match self {
+            Left::Nothing => {}
+            Left::Refused(_files) => {}
+            Left::Closed(_files) => {}
+            Left::Unclosed(_store) => {}
+            Left::Migrated(_old, _made) => {}
+        }
+    }
+}
 
 /// Gives the store of the books back. In words of any store, since each call in those of two files takes the prover long.
 fn store_of<S: Alter + Drop>(books: Tables<S>) -> S
@@ -56,8 +84,12 @@ pub fn leave<D: Disk + Drop>(books: Tables<FileStore<D>>) -> FileStore<D>
 /// Copies the log into the file, and gives the two files back, or the store as it is where that fails.
 fn copy_log<D: Disk>(mut store: FileStore<D>) -> Result<Files<D>, (StoreError, FileStore<D>)>
     requires { IsClean (view store) → IsWhole store }
-    ensures { IfOk result (λ files. AreClean D.Disk files.log files.db
+    ensures copied { IfOk result (λ files. AreClean D.Disk files.log files.db
         → HoldCommitted D.Disk store files) }
+    ensures clean { IfErr result (λ e. IsClean (view e.1) → IsClean (view store)) }
+    ensures open { IfErr result (λ e. IsClean (view e.1) → IsTrue (view e.1).is_open
+        → IsTrue (view store).is_open) }
+    ensures fewer { IfErr result (λ e. (db : Trees) → recovers e.1 db → recovers store db) }
 {
     // Nothing is uncommitted here. The rollback changes nothing, and gives the proof that fact.
     store.rollback();
@@ -71,10 +103,16 @@ fn copy_log<D: Disk>(mut store: FileStore<D>) -> Result<Files<D>, (StoreError, F
 /// file. After success the file alone holds what a crash could leave before.
 pub fn close_left<D: Disk>(store: FileStore<D>) -> Result<Files<D>, (StoreError, FileStore<D>)>
     requires { IsClean (view store) → IsWhole store }
-    ensures { (w : World) (calls : List Call) (answers : List Answer)
+    ensures whole { (w : World) (calls : List Call) (answers : List Answer)
         → LeavesOutcomes store w calls answers
         → IfOk result (λ files. AreClean D.Disk files.log files.db
         → HoldWholeOutcome D.Disk files w calls answers) }
+    ensures was_open { IfOk result (λ files. AreClean D.Disk files.log files.db
+        → IsClean (view store) × IsTrue (view store).is_open) }
+    ensures clean { IfErr result (λ e. IsClean (view e.1) → IsClean (view store)) }
+    ensures open { IfErr result (λ e. IsClean (view e.1) → IsTrue (view e.1).is_open
+        → IsTrue (view store).is_open) }
+    ensures fewer { IfErr result (λ e. (db : Trees) → recovers e.1 db → recovers store db) }
 {
     copy_log(store)
 }

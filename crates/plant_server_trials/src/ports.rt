@@ -8,6 +8,8 @@ use plant_lines_trials::Failing;
 use plant_office::Office;
 use plant_server::{Port, command, serve_port};
 use plant_trials::root;
+use plant_wire::{FromRead, ToWrite};
+use sqlite::Unknown;
 use std::alloc::Global;
 use std::io;
 use std::io::{Read, Write};
@@ -96,8 +98,18 @@ fn served<'a>(
         streams: Vec::new(alloc),
     };
     let mut errors = Vec::new(alloc);
-    let input: &[u8] = b"";
-    let status = command(rt, words.as_slice(), input, &mut clients, &mut errors);
+    let nothing: &[u8] = b"";
+    let mut input = FromRead::new(nothing);
+    let mut output = ToWrite::new(&mut clients);
+    let (status, _) = command(
+        rt,
+        words.as_slice(),
+        &mut input,
+        &mut output,
+        &mut errors,
+        Unknown,
+    );
+    drop(output);
     (status, clients, errors)
 }
 

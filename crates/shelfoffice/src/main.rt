@@ -2,6 +2,8 @@
 #![tactic(auto)]
 
 use plant_server::ExitStatus;
+use plant_wire::{FromRead, ToWrite};
+use sqlite::Unknown;
 use std::env;
 use std::process::ExitCode;
 
@@ -16,11 +18,16 @@ fn main(rt: HostRuntime) -> ExitCode {
     let Some(words) = words(&rt) else {
         return ExitCode::from(ExitStatus::NoMemory.code());
     };
-    ExitCode::from(plant_server::command(
+    let mut input = FromRead::new(rt.stdin());
+    let mut output = ToWrite::new(rt.stdout());
+    let mut errors = rt.stderr();
+    let (status, _) = plant_server::command(
         &rt,
         words.as_slice(),
-        rt.stdin(),
-        rt.stdout(),
-        rt.stderr(),
-    ))
+        &mut input,
+        &mut output,
+        &mut errors,
+        Unknown,
+    );
+    ExitCode::from(status)
 }

@@ -75,13 +75,13 @@ seen_key t p u h e =
     elim (holds_any h t p) as (λ b. when b (u, h) ≡ Some e
     → e.0 ≡ u) [ true ↦ λ is. let same : (u, h) ≡ e = cc in ap (λ x. x.0) (sym same) | false ↦ λ is. cc ]
 
-seen_at : (w : World) (t : ℕ) (p q : Name) → row_at name_cmp (λ e. e.0) q (units_held w t p) ≡ unit_seen w t p q
+pub seen_at : (w : World) (t : ℕ) (p q : Name) → row_at name_cmp (λ e. e.0) q (units_held w t p) ≡ unit_seen w t p q
 seen_at w t p q =
     row_at-told name_cmp (λ e. e.0) name_total same_names (unit_seen w t p) (λ u e. seen_key t p u (history w u) e) q (keys w.units)
     ∙ ap (λ b. cond b (unit_seen w t p q) None) (is_some-find (eq_by_cmp name_cmp q) (keys w.units) ∙ sym (contains_key-keys w.units q))
     ∙ elim (get w.units q) as (λ o. cond (is_some o) (seen t p q (unwrap_or o [])) None ≡ seen t p q (unwrap_or o [])) [ None ↦ refl | Some h ↦ refl ]
 
-seen_rise : (w : World) (t : ℕ) (p : Name) → IsInOrder name_cmp (λ (e : Name × List Call). e.0) (units_held w t p)
+pub seen_rise : (w : World) (t : ℕ) (p : Name) → IsInOrder name_cmp (λ (e : Name × List Call). e.0) (units_held w t p)
 seen_rise w t p =
     IsInOrder-told name_cmp (λ e. e.0) name_total same_names (unit_seen w t p) (λ u e. seen_key t p u (history w u) e) (keys w.units)
     (keys_rise w.units)

@@ -1,12 +1,16 @@
-use Rattle.std.proofs.Common.{ap, refl, sym, ◌∙◌, ◌++◌, Some, append-nil, inr}
+use Rattle.std.proofs.Common.{ap, refl, true, sym, ◌∙◌, ◌++◌, Some, append-nil, inr}
 use Rattle.plant_wire.specs.Marks.{mark_text}
 use Rattle.plant_wire.specs.declared.reads.End.TheVariants.{BrokenInput}
 use Rattle.plant_lines.specs.Stages.{ending, served}
-use Rattle.plant_lines.proofs.{Handled.{made_answered, made_broke, made_none, made_stopped, made_waiting}, Texts.{mark_some}, Waits.{on_true}}
+use Rattle.plant_lines.proofs.{Handled.{made_answered, made_broke, made_none, made_stopped, made_waiting}, Texts.{mark_some}, Waited.{idle_stage}, Waits.{on_true}}
 use Rattle.plant_lines.proofs.lines.serve_line.Goals as goal
 
 pub returns-then-is_prompt-clause-made : goal.returns-then-is_prompt-clause-made
-returns-then-is_prompt-clause-made g c = made_none g.B.Books c.args.office.now.books c.args.line.now
+returns-then-is_prompt-clause-made g c =
+    let l = c.args.line.now in
+    let prompt = on_true c.is_prompt.result _ (c.is_prompt.ensures.prompt c.requires.waits) c.if-is_prompt.true in
+    made_none g.B.Books c.args.office.now.books l true
+    (λ _ u at. idle_stage l.unread.items l.pending.text.items l.end u (λ live none. (prompt live none).0) at)
 
 pub returns-then-is_prompt-clause-settled : goal.returns-then-is_prompt-clause-settled
 returns-then-is_prompt-clause-settled g c = on_true c.is_prompt.result _ c.is_prompt.ensures.settled c.if-is_prompt.true
@@ -18,7 +22,7 @@ returns-in-Ok-Waits-clause-made g c =
     let h = rw (c.in-Ok-Waits.field-0-is, c.deref.ensures.value) at c.in-Ok-Waits.ensures.does in
     made_waiting g.B.Books c.args.office.now.books c.answer_next.new.office.books c.in-Ok-Waits.ensures.honest l
     (record l { wanted = c.wanted_next-line.result; pending = c.answer_next.new.outlet })
-    refl h.served (rw live (ap (served l.unread.items) (h.writes ∙ append-nil l.pending.text.items)))
+    refl h.served (rw live (ap (served l.unread.items) (h.writes ∙ append-nil l.pending.text.items))) (inr h.stands)
 
 pub wanted_next-line-requires-clause-waiting : goal.wanted_next-line-requires-clause-waiting
 wanted_next-line-requires-clause-waiting g c =

@@ -1,5 +1,6 @@
-use Rattle.std.proofs.{Common.{refl, length, arith}, lemmas.Option.{slice_get_read}}
-use Rattle.plant_lines.proofs.{Handled.{passed_closed}, Held.{below, remove_lines}}
+use Rattle.std.proofs.{Common.{refl, length, arith, subst, sym}, lemmas.Option.{slice_get_read}}
+use Rattle.plant_lines.specs.Paces.{AreRising, numbers}
+use Rattle.plant_lines.proofs.{Handled.{passed_closed}, Held.{below, remove_lines}, Paced.{numbers_removed, rising_removed}}
 use Rattle.plant_lines.proofs.serving.close_line.Goals as goal
 
 pub overflow_add-number : goal.overflow_add-number
@@ -26,4 +27,6 @@ returns-clause-held g c =
     record {
       lines = rw c.remove.ensures.items (remove_lines c.args.held.now.count ls c.args.at c.index.result.now c.requires.held.lines is);
       few = c.requires.held.few;
+      rising = rw c.remove.ensures.items
+          (subst AreRising (sym (numbers_removed ls c.args.at)) (rising_removed (numbers ls) c.args.at c.requires.held.rising));
     }

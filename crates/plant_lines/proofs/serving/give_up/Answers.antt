@@ -1,5 +1,6 @@
-use Rattle.std.proofs.{Common.{refl, length, subst, sym}, lemmas.Option.{slice_get_read}}
+use Rattle.std.proofs.{Common.{false, refl, length, subst, sym}, lemmas.Option.{slice_get_read}}
 use Rattle.plant_lines.specs.{Prompt.{ArePrompt}, Stages.{MayClose}, declared.lines.Line.{Line}}
+use Rattle.plant_lines.proofs.Leading.{logs_none, passed_none}
 use Rattle.plant_lines.proofs.Held.{prompt_removed, read_one, waits_at}
 use Rattle.plant_lines.proofs.serving.give_up.Goals as goal
 
@@ -10,6 +11,11 @@ close_line-requires-clause-may g c line is =
     (slice_get_read ls (length ls) c.args.at c.index.result.now refl c.requires.within c.index.ensures) in
     subst (λ (t : Line). MayClose t c.in-Some.end) (read_one ls c.args.at c.index.result.now line is c.index.ensures)
     (c.in-Some.ensures waits)
+
+pub returns-in_default-clause-passed : goal.returns-in_default-clause-passed
+returns-in_default-clause-passed g c =
+    let seen = g.P.Ports.seen c.args.ports.now in
+    passed_none false seen seen (g.W.Write.contents c.args.log.now) c.args.held.now.count c.args.held.now.lines.items (logs_none seen)
 
 pub returns-in-Some-clause-prompt : goal.returns-in-Some-clause-prompt
 returns-in-Some-clause-prompt g c are =

@@ -1,11 +1,11 @@
-use Rattle.std.proofs.Common.{[], false, ◌≡◌}
-use Rattle.plant_lines.specs.{Events.{seen_by}, Happens.{Happened}, Held.{IsHeld}, Prompt.{ArePrompt}}
+use Rattle.std.proofs.Common.{false, ◌≡◌}
+use Rattle.plant_lines.specs.{Events.{seen_by}, Held.{IsHeld, IsUnderWay}, Prompt.{ArePrompt}}
 use Rattle.plant_lines.proofs.serving.serve_lines.Given as goal
 
 abbrev pub invariant-turns : goal.invariant-turns
 invariant-turns g l = record {
-  happened : Happened g.B.Books l.fn.office.books l.office.books (seen_by (g.P.Ports.seen l.fn.ports) (g.W.Write.contents l.fn.reports.log))
-      (seen_by (g.P.Ports.seen l.ports) (g.W.Write.contents l.reports.log)) 0 l.held.count [] l.held.lines.items;
+  way : IsUnderWay g.B.Books l.fn.office.books l.office.books (seen_by (g.P.Ports.seen l.fn.ports) (g.W.Write.contents l.fn.reports.log))
+      (seen_by (g.P.Ports.seen l.ports) (g.W.Write.contents l.reports.log)) l.held.count l.held.lines.items;
   held : IsHeld l.held;
   same : l.held.n ≡ l.n;
   prompt : l.busy ≡ false → ArePrompt l.held.lines.items;

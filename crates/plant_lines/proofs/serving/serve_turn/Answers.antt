@@ -1,22 +1,47 @@
-use Rattle.std.proofs.Common.{refl, ◌∙◌}
-use Rattle.plant_lines.proofs.Leading.{happened_none, happened_then}
+use Rattle.std.proofs.Common.{ℕ, arith, length, refl, subst, suc, sym, ◌-◌, ◌<◌, ◌≡◌, ◌≤◌, ◌∙◌}
+use Rattle.plant_lines.specs.Paces.{Splits, numbers}
+use Rattle.plant_lines.proofs.{Paced.{got, splits_start}, Rounds.{round_end, round_next, round_past, round_start}}
 use Rattle.plant_lines.proofs.serving.serve_turn.Goals as goal
 
 pub turn-init : goal.turn-init
-turn-init g c = record { happened = happened_none; held = c.requires; same = refl }
+turn-init g c =
+    let ls = c.args.held.now.lines.items in
+    let all = c.len-at.ensures ∙ c.args.held.now.lines.ok.0 in
+    record {
+      round = round_start c.len-at.result
+          (subst (λ (n : ℕ). Splits c.args.held.now.count n (numbers ls)) (sym all) (splits_start c.args.held.now.count ls c.requires.lines));
+      held = c.requires;
+      same = refl;
+    }
 
 pub turn-preserved-then-at-len : goal.turn-preserved-then-at-len
-turn-preserved-then-at-len g c = record {
-  happened = happened_then c.turn.invariant.happened c.turn_at.ensures.happened;
-  held = c.turn_at.ensures.held;
-  same = c.turn_at.ensures.same ∙ c.turn.invariant.same;
-}
+turn-preserved-then-at-len g c =
+    let ls = c.turn.held.lines.items in
+    let at = c.turn.at - 1 in
+    let next : c.turn.at ≡ suc at = omega (arith, c.turn-test.true) in
+    let all = c.len.ensures ∙ c.turn.held.lines.ok.0 in
+    let within : at < length ls = omega (arith, all, c.if-at-len.true) in
+    let line = got ls at within in
+    record {
+      round = round_next c.turn.at at line.0 next c.turn.invariant.round c.turn.invariant.held.rising line.1 c.turn_at.ensures;
+      held = c.turn_at.ensures.turn.held;
+      same = c.turn_at.ensures.turn.same ∙ c.turn.invariant.same;
+    }
 
 pub turn-preserved : goal.turn-preserved
-turn-preserved g c = c.turn.invariant
+turn-preserved g c =
+    let at = c.turn.at - 1 in
+    let next : c.turn.at ≡ suc at = omega (arith, c.turn-test.true) in
+    let all = c.len.ensures ∙ c.turn.held.lines.ok.0 in
+    let past : length c.turn.held.lines.items ≤ at = omega (arith, all, c.if-at-len.false) in
+    record {
+      round = round_past c.turn.at at next past c.turn.invariant.round;
+      held = c.turn.invariant.held;
+      same = c.turn.invariant.same;
+    }
 
-pub returns-clause-happened : goal.returns-clause-happened
-returns-clause-happened g c = c.turn.invariant.happened
+pub returns-clause-round : goal.returns-clause-round
+returns-clause-round g c = round_end c.turn.at (omega (arith, c.turn-test.false)) c.turn.invariant.round
 
 pub returns-clause-held : goal.returns-clause-held
 returns-clause-held g c = c.turn.invariant.held

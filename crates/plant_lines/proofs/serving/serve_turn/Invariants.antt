@@ -1,11 +1,12 @@
 use Rattle.std.proofs.Common.{◌≡◌}
-use Rattle.plant_lines.specs.{Events.{seen_by}, Happens.{Happened}, Held.{IsHeld}}
+use Rattle.plant_lines.specs.{Events.{seen_by}, Held.{IsHeld, IsWithinRound}}
 use Rattle.plant_lines.proofs.serving.serve_turn.Given as goal
 
 abbrev pub invariant-turn : goal.invariant-turn
 invariant-turn g l = record {
-  happened : Happened g.B.Books l.fn.office.books l.office.books (seen_by (g.P.Ports.seen l.fn.ports) (g.W.Write.contents l.fn.reports.log))
-      (seen_by (g.P.Ports.seen l.ports) (g.W.Write.contents l.reports.log)) l.fn.held.count l.held.count l.fn.held.lines.items l.held.lines.items;
+  round : IsWithinRound g.B.Books l.fn.office.books l.office.books (seen_by (g.P.Ports.seen l.fn.ports) (g.W.Write.contents l.fn.reports.log))
+      (seen_by (g.P.Ports.seen l.ports) (g.W.Write.contents l.reports.log)) l.fn.held.count l.held.count l.fn.held.lines.items l.held.lines.items
+      l.at;
   held : IsHeld l.held;
   same : l.held.n ≡ l.fn.held.n;
 }

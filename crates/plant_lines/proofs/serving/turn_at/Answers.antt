@@ -1,8 +1,9 @@
-use Rattle.std.proofs.{Common.{refl, length, slice_set, subst, sym}, lemmas.Option.{slice_get_read}}
+use Rattle.std.{specs.List.{remove}, proofs.{Common.{ap, inl, inr, refl, length, slice_set, subst, sym, List, ℕ, ◌∙◌}, lemmas.Option.{slice_get_read}}}
 use Rattle.plant_call.specs.Cut.{WaitsBelow}
-use Rattle.plant_lines.specs.{Prompt.{ArePrompt, IsPrompt}, declared.lines.Line.{Line}}
-use Rattle.plant_lines.proofs.{Handled.{happened_line}, Held.{prompt_closed, prompt_set, read_one, set_got, set_lines, waits_at}}
-use Rattle.plant_lines.proofs.{Leading.{happened_passed, happened_then}, Waits.{not_false, on_true}}
+use Rattle.plant_lines.specs.{Paces.{AreRising, Keeps, numbers}, Prompt.{ArePrompt, IsPrompt}, Stages.{Leads, stage_of}, declared.lines.Line.{Line}}
+use Rattle.plant_lines.proofs.{Handled.{happened_line}, Held.{lifted, prompt_closed, prompt_set, read_one, set_got, set_lines, waits_at}}
+use Rattle.plant_lines.proofs.{Leading.{happened_passed, happened_then}, Paced.{numbers_removed, numbers_set}, Waits.{not_false, on_true}}
+use Rattle.plant_lines.proofs.Rounds.{joined, line_alone, line_busy, line_paces, passed_keeps}
 use Rattle.plant_lines.proofs.serving.turn_at.Goals as goal
 
 pub turn_and_report-requires : goal.turn_and_report-requires
@@ -16,57 +17,98 @@ pub close_line-requires-clause-held : goal.close_line-requires-clause-held
 close_line-requires-clause-held g c =
     let ls = c.args.held.now.lines.items in
     let l = c.index_mut-line.result.now in
+    let l' = c.turn_and_report.new.line in
     let is = slice_get_read ls (length ls) c.args.at l refl c.requires.within c.index_mut-line.ensures.value in
+    let same = c.turn_and_report.ensures.turned.went.same in
     record {
-      lines =
-          set_lines c.args.held.now.count ls c.args.at l c.turn_and_report.new.line c.requires.held.lines is
-          c.turn_and_report.ensures.turned.went.same
-          c.turn_and_report.ensures.waits;
+      lines = set_lines c.args.held.now.count ls c.args.at l l' c.requires.held.lines is same c.turn_and_report.ensures.waits;
       few = c.requires.held.few;
+      rising = subst AreRising (sym (numbers_set ls c.args.at l l' is same)) c.requires.held.rising;
     }
 
 pub returns-in-Some : goal.returns-in-Some
 returns-in-Some g c =
-    let ls = c.args.held.now.lines.items in
-    let l = c.index_mut-line.result.now in
-    let is = slice_get_read ls (length ls) c.args.at l refl c.requires.within c.index_mut-line.ensures.value in
-    record {
-      happened = happened_then
-          (happened_line g.B.Books c.args.office.now.books c.turn_and_report.new.office.books (g.P.Ports.seen c.args.ports.now)
-          (g.P.Ports.seen c.turn_and_report.new.ports)
-          (g.W.Write.contents c.args.reports.now.log) c.args.held.now.count ls c.args.at l c.turn_and_report.new.line c.requires.held.lines is
-          c.turn_and_report.ensures.turned)
-          (happened_passed c.close_line.ensures.passed);
-      held = c.close_line.ensures.held;
-      same = c.close_line.ensures.same;
-      prompt = λ are none.
-          subst ArePrompt (sym c.close_line.ensures.others) (prompt_closed c.args.held.now.lines.items c.args.at c.turn_and_report.new.line are);
-    }
-
-pub returns : goal.returns
-returns g c =
+    let b = g.B.Books in
+    let x = c.args.office.now.books in
+    let y = c.turn_and_report.new.office.books in
+    let s = g.P.Ports.seen c.args.ports.now in
+    let t = g.P.Ports.seen c.turn_and_report.new.ports in
+    let log = g.W.Write.contents c.args.reports.now.log in
+    let count = c.args.held.now.count in
     let ls = c.args.held.now.lines.items in
     let l = c.index_mut-line.result.now in
     let l' = c.turn_and_report.new.line in
     let is = slice_get_read ls (length ls) c.args.at l refl c.requires.within c.index_mut-line.ensures.value in
+    let ok = c.requires.held.lines in
+    let turned = c.turn_and_report.ensures.turned in
+    let reads = c.args.asked.reads in
+    let serves = c.args.asked.serves in
+    let lifted_line : (k : ℕ) → Leads k (stage_of k count ls) turned.events (stage_of k count (slice_set ls c.args.at l')) =
+    lifted count ls c.args.at l l' turned.events ok is turned.went.same turned.went.own turned.went.leads in
+    let first = happened_line b x y s t log count ls c.args.at l l' reads serves ok is turned in
+    let closed = happened_passed {b = b} {x = y} c.close_line.ensures.passed in
     record {
-      happened =
-          happened_line g.B.Books c.args.office.now.books c.turn_and_report.new.office.books (g.P.Ports.seen c.args.ports.now)
-          (g.P.Ports.seen c.turn_and_report.new.ports)
-          (g.W.Write.contents c.args.reports.now.log) c.args.held.now.count ls c.args.at l l' c.requires.held.lines is
-          c.turn_and_report.ensures.turned;
-      held = record {
-        lines =
-            set_lines c.args.held.now.count ls c.args.at l l' c.requires.held.lines is c.turn_and_report.ensures.turned.went.same
-            c.turn_and_report.ensures.waits;
-        few = c.requires.held.few;
+      turn = record {
+        happened = happened_then first closed;
+        held = c.close_line.ensures.held;
+        same = c.close_line.ensures.same;
+        prompt = λ are none. subst ArePrompt (sym c.close_line.ensures.others) (prompt_closed ls c.args.at l' are);
+        alone = λ _ are.
+            joined 0 0 0 first closed (line_alone b x y s t log count ls c.args.at l l' reads serves ok is turned are)
+            (passed_keeps b y c.close_line.ensures.passed refl 0);
+        busy = λ unserved.
+            subst (λ (m : ℕ). Keeps 0 m (λ k. stage_of k count ls) (happened_then first closed).events) (sym c.close_line.ensures.count)
+            (joined 0 count count first closed
+            (line_busy b x y s t log count ls c.args.at l l' reads serves ok is turned count (slice_set ls c.args.at l') unserved lifted_line)
+            (passed_keeps b y c.close_line.ensures.passed refl count));
       };
-      same = refl;
-      prompt = λ are none.
-          let same = read_one (slice_set ls c.args.at l') c.args.at c.index.result.now l' (set_got ls c.args.at l l' is) c.index.ensures in
-          prompt_set ls c.args.at l' are
-          (subst IsPrompt same
-          (on_true c.is_prompt.result _
-          (c.is_prompt.ensures.prompt (subst (λ (t : Line). WaitsBelow t.unread.items t.wanted) (sym same) c.turn_and_report.ensures.waits))
-          (not_false c.is_prompt.result none)));
+      paces = λ unread serving bound m is_m splits.
+          joined bound m.number m.number first closed
+          (line_paces b x y s t log count ls c.args.at l l' reads serves ok is turned c.requires.held.rising unread serving bound m is_m splits)
+          (passed_keeps b y c.close_line.ensures.passed refl m.number);
+      others = inr (ap numbers c.close_line.ensures.others ∙ numbers_removed (slice_set ls c.args.at l') c.args.at
+          ∙ ap (λ (ns : List ℕ). remove ns c.args.at) (numbers_set ls c.args.at l l' is turned.went.same));
+    }
+
+pub returns : goal.returns
+returns g c =
+    let b = g.B.Books in
+    let x = c.args.office.now.books in
+    let y = c.turn_and_report.new.office.books in
+    let s = g.P.Ports.seen c.args.ports.now in
+    let t = g.P.Ports.seen c.turn_and_report.new.ports in
+    let log = g.W.Write.contents c.args.reports.now.log in
+    let count = c.args.held.now.count in
+    let ls = c.args.held.now.lines.items in
+    let l = c.index_mut-line.result.now in
+    let l' = c.turn_and_report.new.line in
+    let is = slice_get_read ls (length ls) c.args.at l refl c.requires.within c.index_mut-line.ensures.value in
+    let ok = c.requires.held.lines in
+    let turned = c.turn_and_report.ensures.turned in
+    let reads = c.args.asked.reads in
+    let serves = c.args.asked.serves in
+    let same_number = turned.went.same in
+    let lifted_line : (k : ℕ) → Leads k (stage_of k count ls) turned.events (stage_of k count (slice_set ls c.args.at l')) =
+    lifted count ls c.args.at l l' turned.events ok is turned.went.same turned.went.own turned.went.leads in
+    record {
+      turn = record {
+        happened = happened_line b x y s t log count ls c.args.at l l' reads serves ok is turned;
+        held = record {
+          lines = set_lines count ls c.args.at l l' ok is same_number c.turn_and_report.ensures.waits;
+          few = c.requires.held.few;
+          rising = subst AreRising (sym (numbers_set ls c.args.at l l' is same_number)) c.requires.held.rising;
+        };
+        same = refl;
+        prompt = λ are none.
+            let same = read_one (slice_set ls c.args.at l') c.args.at c.index.result.now l' (set_got ls c.args.at l l' is) c.index.ensures in
+            prompt_set ls c.args.at l' are
+            (subst IsPrompt same
+            (on_true c.is_prompt.result _
+            (c.is_prompt.ensures.prompt (subst (λ (t : Line). WaitsBelow t.unread.items t.wanted) (sym same) c.turn_and_report.ensures.waits))
+            (not_false c.is_prompt.result none)));
+        alone = λ _ are. line_alone b x y s t log count ls c.args.at l l' reads serves ok is turned are;
+        busy = λ unserved. line_busy b x y s t log count ls c.args.at l l' reads serves ok is turned count (slice_set ls c.args.at l') unserved lifted_line;
+      };
+      paces = line_paces b x y s t log count ls c.args.at l l' reads serves ok is turned c.requires.held.rising;
+      others = inl (numbers_set ls c.args.at l l' is same_number);
     }

@@ -1,8 +1,8 @@
-use Rattle.std.proofs.Common.{inl, inr}
+use Rattle.std.proofs.Common.{Err, Ok, refl}
 use Rattle.plant_server.proofs.commands.obey.Goals as goal
 
 pub returns-in-Ok : goal.returns-in-Ok
-returns-in-Ok g c = inr (c.in-Ok.line.task, c.run.ensures)
+returns-in-Ok g c = (Ok c.in-Ok.line, c.in-Ok.ensures, c.run.ensures)
 
 pub returns-in-Err : goal.returns-in-Err
-returns-in-Err g c = inl (c.in-Err.error, c.report_line_error.ensures)
+returns-in-Err g c = (Err c.in-Err.error, c.in-Err.ensures, (c.report_line_error.ensures, refl))

@@ -1,22 +1,26 @@
-use Rattle.std.proofs.Common.{[], inr, sym, ◌∙◌}
+use Rattle.std.proofs.Common.{inl, inr, refl, sym, ◌∙◌}
+use Rattle.sqlite_wal.specs.Files.{image_at}
 use Rattle.plant_office.proofs.public.Enduring.{after_none}
-use Rattle.plant_server.proofs.Streamed.{served}
+use Rattle.plant_server.specs.Promise.{place_of}
+use Rattle.plant_server.proofs.Served.{files_served, refusal}
 use Rattle.plant_server.proofs.commands.serve_file.Goals as goal
 
 pub returns-in-Ok : goal.returns-in-Ok
-returns-in-Ok g c = record {
-  crash = λ m held same w legal holds clean.
-      served _ _ (λ calls answers is.
-      let tidy = c.leave.ensures.clean clean in
-      let start = c.in-Ok.ensures.crash m held (is.endures.clean tidy) in
-      let k = is.endures.goes_on w [] [] tidy (after_none w m _ (
-        c.in-Ok.ensures.own.0
-            ∙ sym same,
-        c.in-Ok.ensures.kept m held,
-      ) holds legal start.0 start.1) in
-      c.leave.ensures.left w calls answers clean k.sound k.outcomes)
-      _ _ (λ not is. not (c.leave.ensures.clean clean, (c.leave.ensures.open clean is).0))
-      _ _ c.args.service _ _ _ c.serve_books-status.ensures.ran;
-  whole = c.leave.ensures.whole;
-  served = inr c.serve_books-status.ensures.served;
-}
+returns-in-Ok g c =
+    let opened = c.in-Ok.ensures in
+    inr (files_served _ _ (λ w it. record {
+      now = record {
+        content = it.content;
+        held = (opened.own.0 ∙ sym it.own, opened.kept it.here it.content it.books);
+        holds = it.holds;
+        legal = it.legal;
+      };
+      after = λ clean.
+          let start = opened.crash it.here it.content it.books clean in
+          after_none w it.content _ (opened.own.0 ∙ sym it.own, opened.kept it.here it.content it.books) it.holds it.legal start.0 start.1;
+    }) c.args.service _ _ _ c.serve_kept.ensures)
+
+pub returns-in-Err : goal.returns-in-Err
+returns-in-Err g c =
+    let place = place_of g.F.Located.path (image_at g.F.Start) in
+    inl ((c.report_unopened.ensures, refl, refl), refusal _ place c.args.path.now c.in-Err.rest c.refused.result c.refused.ensures c.in-Err.ensures.left)

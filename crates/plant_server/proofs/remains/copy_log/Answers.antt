@@ -9,8 +9,8 @@ use Rattle.sqlite_wal.proofs.StateLemmas.{open_from}
 use Rattle.sqlite_wal.specs.{Files.{outcomes}, Reads.{AreClean}, Recovery.{Image}}
 use Rattle.plant_server.proofs.remains.copy_log.Goals as goal
 
-pub returns-in-Ok : goal.returns-in-Ok
-returns-in-Ok g c honest =
+pub returns-in-Ok-clause-copied : goal.returns-in-Ok-clause-copied
+returns-in-Ok-clause-copied g c honest =
     let back = c.args.store in
     let before = c.rollback.new.self in
     let last = c.checkpoint.new.self in
@@ -37,3 +37,15 @@ returns-in-Ok g c honest =
           (c.in-Ok.ensures.moved (c.rollback.ensures.logged (second.was_open h))) image
           (may_leave_is last.pool image sure_now (subst (λ p. outcomes g.D.Disk p.0 p.1 image) c.close.ensures may)));
     }
+
+pub returns-in-Err-clause-clean : goal.returns-in-Err-clause-clean
+returns-in-Err-clause-clean g c clean = omega (arith, clean, c.checkpoint.ensures.quiet.clean, c.rollback.ensures.quiet.clean)
+
+pub returns-in-Err-clause-open : goal.returns-in-Err-clause-open
+returns-in-Err-clause-open g c clean up =
+    let early : IsClean (view c.rollback.new.self) = omega (arith, clean, c.checkpoint.ensures.quiet.clean) in
+    let same = c.checkpoint.ensures.same up in
+    (c.rollback.ensures.undone.kept early).was_open (subst (λ (v : View). IsTrue v.is_open) same up)
+
+pub returns-in-Err-clause-fewer : goal.returns-in-Err-clause-fewer
+returns-in-Err-clause-fewer g c db may = c.rollback.ensures.quiet.outcomes db (c.checkpoint.ensures.quiet.outcomes db may)
