@@ -1,5 +1,5 @@
 -- No text is empty, and that of a fault is short.
-use Rattle.std.proofs.Common.{◌≡◌, ◌<◌, ◌≤◌, ℕ, zero, suc, List, [], ◌∷◌, ◌++◌, Bool, true, false, cond, length, codes, take, refl, arith}
+use Rattle.std.proofs.Common.{◌≡◌, ◌<◌, ◌≤◌, ℕ, zero, suc, List, [], ◌∷◌, ◌++◌, Bool, true, false, cond, length, codes, take, refl, sym, ap, ◌∙◌, arith}
 use Rattle.std.specs.{Fmt.{digits}, Prelude.{Err}}
 use Rattle.plant_types.specs.declared.fault.Fault.{Fault, TheVariants.{Memory, Store}}
 use Rattle.plant_model.specs.declared.reply.Answer.{Answer}
@@ -32,6 +32,11 @@ answer_some (answers.Fault f) is = response_some _ _ _ is
 pub mark_some : (m : Mark) → mark_text m ≡ [] → ⊥
 mark_some (said call answer) is = answer_some answer is
 mark_some (malformed cause) is = cause_some cause is
+
+-- nor is what an answer was written into
+pub text_some : (m : Mark) (before after text : List ℕ) → before ≡ [] → after ≡ before ++ mark_text m → text ≡ after → text ≡ [] → ⊥
+text_some m before after text none writes is empty =
+    mark_some m (sym (writes ∙ ap (λ (t : List ℕ). t ++ mark_text m) none) ∙ sym is ∙ empty)
 
 -- the answer to a fault is shorter than what always finds memory
 fault_short : (f : Fault) → length (answer_bytes (answers.Fault f)) < least_room_of_answers

@@ -2,7 +2,7 @@ use Rattle.std.proofs.Common.{ap, refl, true, sym, ◌∙◌, ◌++◌, Some, in
 use Rattle.plant_wire.specs.Marks.{mark_text}
 use Rattle.plant_wire.specs.declared.reads.End.TheVariants.{BrokenInput, Fault}
 use Rattle.plant_lines.specs.Stages.{ending, served}
-use Rattle.plant_lines.proofs.{Handled.{made_answered, made_broke, made_none, made_part, made_short, made_waiting}, Texts.{mark_some}, Waited.{idle_stage}, Waits.{on_true}}
+use Rattle.plant_lines.proofs.{Handled.{made_answered, made_broke, made_none, made_part, made_short, made_waiting}, Texts.{text_some}, Waited.{idle_stage}, Waits.{on_true}}
 use Rattle.plant_lines.proofs.lines.serve_line.Goals as goal
 
 pub returns-then-is_prompt-clause-made : goal.returns-then-is_prompt-clause-made
@@ -61,7 +61,9 @@ returns-in-Ok-Took-clause-made g c =
 pub returns-in-Ok-Took-clause-settled : goal.returns-in-Ok-Took-clause-settled
 returns-in-Ok-Took-clause-settled g c live none =
     let h = rw (c.in-Ok-Took.field-0-is, c.deref.ensures.value) at c.in-Ok-Took.ensures.does in
-    absurd (mark_some h.2.mark (sym (h.2.writes ∙ ap (λ t. t ++ mark_text h.2.mark) c.in-Ok.ensures) ∙ sym c.into_answers.ensures ∙ none))
+    absurd
+    (text_some h.2.mark c.in-Ok.draft.text.items c.answer_next.new.outlet.text.items c.into_answers.result.text.items c.in-Ok.ensures h.2.writes
+    c.into_answers.ensures none)
 
 pub returns-in-Ok-Broken-clause-made : goal.returns-in-Ok-Broken-clause-made
 returns-in-Ok-Broken-clause-made g c =
