@@ -22,6 +22,9 @@ const TURNS: u32 = 64;
 /// The same while requests of the only client are left.
 const TURNS_OF_ONE: u32 = 16;
 
+/// After how many others a client of which requests were left is read before more of them.
+const MOST_AHEAD: u32 = 16;
+
 /// How many milliseconds a second has.
 const SECOND_MS: u64 = 1000;
 
@@ -89,6 +92,10 @@ pub struct Sockets<'a> {
     clients: BTreeMap<u64, Client>,
     /// Clients that may go on, in the order of their turns.
     ready: VecDeque<u64>,
+    /// Clients that may be read, but of which requests are left that were read.
+    aside: VecDeque<u64>,
+    /// How many went on before these.
+    ahead: u32,
     /// Clients that are to be given up.
     expired: VecDeque<u64>,
     /// A connection that waits for a place.
@@ -188,6 +195,8 @@ impl<'a> Sockets<'a> {
             limits,
             clients: BTreeMap::new(rt.alloc()),
             ready: VecDeque::new(rt.alloc()),
+            aside: VecDeque::new(rt.alloc()),
+            ahead: 0,
             expired: VecDeque::new(rt.alloc()),
             accepted: None,
             may_accept: true,
@@ -449,47 +458,87 @@ impl<'a> Sockets<'a> {
         self.held > HELD_BYTES
     }
 
-    /// The next client of the queue that can go on. One that can't go on now, but may later, goes to the end.
-    fn next_ready(&mut self, lines: &[Line]) -> Option<Ready> {
-        let full = self.is_full(lines);
-        let first = if full { fullest(lines) } else { None };
+    /// Looks at a client that waited for its turn: what can be done for it, if anything. It waits again if more may be
+    /// done later: behind the others if it can go on, and aside while requests of it are left that were read.
+    fn look_at(
+        &mut self,
+        number: u64,
+        lines: &[Line],
+        full: bool,
+        first: Option<u64>,
+    ) -> Option<Ready> {
+        let quiet = self.now.saturating_add(self.quiet);
+        let client = self.clients.get_mut(&number)?;
+        client.queued = false;
+        if client.lingers.is_some() {
+            if client.read_out(&mut self.scratch, quiet) {
+                client.queued = self.ready.push_back(number).is_ok();
+            } else if client.lingers == Some(0) {
+                drop(self.clients.remove(&number));
+            }
+            return None;
+        }
+        let line = line_at(lines, number)?;
+        if client.may_write(line) {
+            client.queued = self.ready.push_back(number).is_ok();
+            return Some(Ready::Writable(number));
+        }
+        if !client.readable || line.end.is_some() || !line.pending.text.is_empty() {
+            return None;
+        }
+        if !line.is_open() {
+            client.queued = self.aside.push_back(number).is_ok();
+            return None;
+        }
+        client.queued = self.ready.push_back(number).is_ok();
+        let most = room_of(line, !full || first == Some(number));
+        client.crowded = most == 0;
+        if most == 0 {
+            self.crowded = true;
+            return None;
+        }
+        self.most = most;
+        Some(Ready::Readable(number))
+    }
+
+    /// The next client that can go on, of those that wait for their turns.
+    fn next_in_turn(&mut self, lines: &[Line], full: bool, first: Option<u64>) -> Option<Ready> {
         for _ in 0..self.ready.len() {
             let number = self.ready.pop_front()?;
-            let Some(client) = self.clients.get_mut(&number) else {
-                continue;
-            };
-            client.queued = false;
-            if client.lingers.is_some() {
-                if client.read_out(&mut self.scratch, self.now.saturating_add(self.quiet)) {
-                    client.queued = self.ready.push_back(number).is_ok();
-                } else if client.lingers == Some(0) {
-                    drop(self.clients.remove(&number));
-                }
-                continue;
-            }
-            let Some(line) = line_at(lines, number) else {
-                continue;
-            };
-            let writes = client.may_write(line);
-            let reads = client.readable && line.end.is_none() && line.pending.text.is_empty();
-            if writes || reads {
-                client.queued = self.ready.push_back(number).is_ok();
-            }
-            if writes {
-                return Some(Ready::Writable(number));
-            }
-            if reads && line.is_open() {
-                let freely = !full || first == Some(number);
-                let most = room_of(line, freely);
-                client.crowded = most == 0;
-                if most > 0 {
-                    self.most = most;
-                    return Some(Ready::Readable(number));
-                }
-                self.crowded = true;
+            if let Some(ready) = self.look_at(number, lines, full, first) {
+                return Some(ready);
             }
         }
         None
+    }
+
+    /// The same, of those of which requests were left.
+    fn next_aside(&mut self, lines: &[Line], full: bool, first: Option<u64>) -> Option<Ready> {
+        for _ in 0..self.aside.len() {
+            let number = self.aside.pop_front()?;
+            if let Some(ready) = self.look_at(number, lines, full, first) {
+                return Some(ready);
+            }
+        }
+        None
+    }
+
+    /// What can be done next for a client. One of which requests were left is read only if no other can go on, or after
+    /// some others.
+    fn next_ready(&mut self, lines: &[Line]) -> Option<Ready> {
+        let full = self.is_full(lines);
+        let first = if full { fullest(lines) } else { None };
+        if self.ahead < MOST_AHEAD {
+            if let Some(ready) = self.next_in_turn(lines, full, first) {
+                self.ahead = self.ahead.saturating_add(1);
+                return Some(ready);
+            }
+        }
+        self.ahead = 0;
+        if let Some(ready) = self.next_aside(lines, full, first) {
+            return Some(ready);
+        }
+        self.next_in_turn(lines, full, first)
     }
 }
 
