@@ -1,8 +1,7 @@
-ghost use Rattle.std.specs.{Io.KnownBytes.{Appends}, Prelude.{◌≡◌, ◌+◌, ℕ, List, length, take, IfOk, OnOk, OnErr}};
+ghost use Rattle.std.specs.{Io.KnownBytes.{Appends}, Prelude.{◌≡◌, ◌⊎◌, ◌+◌, ◌<◌, ℕ, suc, Bool, IsTrue, List, [], Some, length, take, IfOk, OnOk, OnErr}};
 ghost use Rattle.plant_books.specs.Books.{WasHonest};
 ghost use Rattle.plant_wire.specs.{Over.{RanOn}, declared.reads.End.{End}};
-ghost use Rattle.plant_model.specs.declared.{call.Call.{Call}, reply.Answer.{Answer}};
-ghost use Rattle.plant_connections.specs.Connections.{GoesThrough, IsConnection, StopsAfter, Tells};
+ghost use Rattle.plant_connections.specs.Connections.{AreServedInTurn, AreSeen, Exchange, IsNext, IsShownAs, IsWhole, StopsAfter, Traffic};
 ghost use Rattle.plant_connections.specs.Connections as spec;
 
 use crate::texts::{end_name, say};
@@ -26,15 +25,40 @@ pub trait Listener {
     /// How many times accepting failed: never, or once.
     ghost failures: { Self → ℕ };
 
+    /// Whether it shows what comes and what goes over its connections.
+    ghost is_seen: { Self → Bool };
+
+    /// What it shows of them.
+    ghost traffic: { Self → Traffic };
+
     /// Waits for the next connection.
     fn accept(&mut self) -> Result<(Self::Requests, Self::Answers), Failed>
         ensures counted { OnOk result (accepted self.new ≡ accepted self.old + 1) }
         ensures ok { OnOk result (failures self.new ≡ failures self.old) }
         ensures uncounted { OnErr result (accepted self.new ≡ accepted self.old) }
-        ensures failed { OnErr result (failures self.new ≡ 1) };
+        ensures failed { OnErr result (failures self.new ≡ 1) }
+        ensures comes { IsTrue (is_seen self.old) → IfOk result (λ streams.
+            Self.Requests.remaining streams.0 ≡ Some ((traffic self.old).incoming (accepted self.old))) }
+        ensures whole { IsTrue (is_seen self.old) → IfOk result (λ streams.
+            (Self.Requests.failures streams.0 ≡ 0) × (Self.Requests.reads streams.0 ≡ 0)) }
+        ensures goes { IsTrue (is_seen self.old) → IfOk result (λ streams.
+            (Self.Answers.written streams.1 ≡ Some []) × (Self.Answers.failures streams.1 ≡ 0)) }
+        ensures seen { is_seen self.new ≡ is_seen self.old }
+        ensures shown { traffic self.new ≡ traffic self.old };
 
-    /// Closes a connection whose client may still be sending, in such a way that what it was answered reaches it.
-    fn linger(requests: Self::Requests, answers: Self::Answers);
+    /// Closes the connection that was accepted last. Where it lingers, its client may still be sending, and is to
+    /// receive what it was answered all the same.
+    fn close(&mut self, requests: Self::Requests, answers: Self::Answers, lingers: bool)
+        ensures counted { accepted self.new ≡ accepted self.old }
+        ensures failed { failures self.new ≡ failures self.old }
+        ensures goes { IsTrue (is_seen self.old) → (k : ℕ) → suc k ≡ accepted self.old
+            → Self.Answers.written answers ≡ Some ((traffic self.new).outgoing k) }
+        ensures cause { IsTrue (is_seen self.old) → (k : ℕ) → suc k ≡ accepted self.old
+            → IsTrue ((traffic self.new).failed k) ⊎ IsWhole (Self.Requests.failures requests) (Self.Requests.reads requests)
+            (Self.Answers.failures answers) }
+        ensures seen { is_seen self.new ≡ is_seen self.old }
+        ensures incoming { (traffic self.new).incoming ≡ (traffic self.old).incoming }
+        ensures others { (k : ℕ) → suc k < accepted self.old → IsShownAs (traffic self.old) (traffic self.new) k };
 }
 
 /// Whether the client may still be sending after this end: the office ended the session, and not because of a read or a
@@ -46,20 +70,17 @@ fn may_send(end: End) -> bool {
     }
 }
 
-/// Closes the connection of a session that ended in this way.
-fn close<L: Listener>(requests: L::Requests, answers: L::Answers, end: End) {
-    if may_send(end) {
-        L::linger(requests, answers);
-    }
-}
-
 /// One session over the next connection, which is closed after it.
 pub(crate) fn serve_next<L: Listener, B: Books>(
     alloc: Global,
     listener: &mut L,
     office: &mut Office<B>,
 ) -> Result<End, Failed>
-    ensures does { IfOk result (IsConnection (RanOn B.Books office.old.books office.new.books)) }
+    ensures does { IfOk result (IsNext (RanOn B.Books office.old.books office.new.books) (L.is_seen listener.old)
+        (L.traffic listener.new) (L.accepted listener.old)) }
+    ensures seen { L.is_seen listener.new ≡ L.is_seen listener.old }
+    ensures others { (k : ℕ) → k < L.accepted listener.old
+        → IsShownAs (L.traffic listener.old) (L.traffic listener.new) k }
     ensures honest { OnOk result (WasHonest B.is_honest office.old.books office.new.books) }
     ensures counted { OnOk result (L.accepted listener.new ≡ L.accepted listener.old + 1) }
     ensures ok { OnOk result (L.failures listener.new ≡ L.failures listener.old) }
@@ -69,7 +90,7 @@ pub(crate) fn serve_next<L: Listener, B: Books>(
 {
     let (mut requests, mut answers) = listener.accept()?;
     let end = session(alloc, &mut requests, &mut answers, office);
-    close::<L>(requests, answers, end);
+    listener.close(requests, answers, may_send(end));
     Ok(end)
 }
 
@@ -96,8 +117,9 @@ pub fn say_end<W: Write>(alloc: Global, log: &mut W, count: u64, end: End)
     }
 }
 
-/// Serves so many connections, one after the other, and says after each how it ended. Whatever a client does costs its
-/// own connection alone: only where accepting fails are fewer served, and `Failed` is answered.
+/// Serves so many connections, one after the other, each by a session of its own, and says after each how it ended.
+/// Whatever a client does costs its own connection alone: only where accepting fails are fewer served, and `Failed` is
+/// answered.
 pub fn serve_connections<L: Listener, B: Books, W: Write>(
     alloc: Global,
     listener: &mut L,
@@ -105,17 +127,17 @@ pub fn serve_connections<L: Listener, B: Books, W: Write>(
     office: &mut Office<B>,
     log: &mut W,
 ) -> Result<(), Failed>
-    ensures served { (ends : List End)
-        × GoesThrough B.Books office.old.books ends office.new.books
-        × Tells (W.contents log.old) ends (W.contents log.new)
-        × (L.accepted listener.new ≡ L.accepted listener.old + length ends)
-        × StopsAfter n (L.failures listener.old) (L.failures listener.new) (length ends) result }
-    ensures ran { (calls : List Call) × (answers : List Answer)
-        × RanOn B.Books office.old.books office.new.books calls answers }
+    ensures served { (exchanges : List Exchange)
+        × AreServedInTurn B.Books office.old.books office.new.books (W.contents log.old) (W.contents log.new) exchanges
+        × (IsTrue (L.is_seen listener.old) → AreSeen (L.traffic listener.new) (L.accepted listener.old) exchanges)
+        × (L.accepted listener.new ≡ L.accepted listener.old + length exchanges)
+        × StopsAfter n (L.failures listener.old) (L.failures listener.new) (length exchanges) result }
     ensures honest { WasHonest B.is_honest office.old.books office.new.books }
 {
     'connections: for count in 0..n {
-        let end = serve_next(alloc, listener, office)?;
+        let Ok(end) = serve_next(alloc, listener, office) else {
+            return Err(Failed);
+        };
         say_end(alloc, log, count + 1, end);
     }
     Ok(())

@@ -1,8 +1,6 @@
-ghost use Rattle.std.specs.Prelude.{◌≡◌, ◌+◌, Err, List, length};
+ghost use Rattle.std.specs.Prelude.{◌≡◌, ◌+◌, Err, IsTrue, List, length};
 ghost use Rattle.plant_books.specs.Books.{WasHonest};
-ghost use Rattle.plant_wire.specs.{Over.{RanOn}, declared.reads.End.{End}};
-ghost use Rattle.plant_model.specs.declared.{call.Call.{Call}, reply.Answer.{Answer}};
-ghost use Rattle.plant_connections.specs.Connections.{GoesThrough, HaltsAfter, Tells};
+ghost use Rattle.plant_connections.specs.Connections.{AreServedInTurn, AreSeen, Exchange, HaltsAfter};
 
 use crate::connections::{Listener, say_end, serve_next};
 use crate::texts::say_faults;
@@ -30,13 +28,11 @@ pub fn serve_while_open<L: Listener, B: Books, W: Write, E: Write>(
     log: &mut W,
     errors: &mut E,
 ) -> Result<(), Stopped>
-    ensures served { (ends : List End)
-        × GoesThrough B.Books office.old.books ends office.new.books
-        × Tells (W.contents log.old) ends (W.contents log.new)
-        × (L.accepted listener.new ≡ L.accepted listener.old + length ends)
-        × HaltsAfter n (L.failures listener.old) (L.failures listener.new) (length ends) result }
-    ensures ran { (calls : List Call) × (answers : List Answer)
-        × RanOn B.Books office.old.books office.new.books calls answers }
+    ensures served { (exchanges : List Exchange)
+        × AreServedInTurn B.Books office.old.books office.new.books (W.contents log.old) (W.contents log.new) exchanges
+        × (IsTrue (L.is_seen listener.old) → AreSeen (L.traffic listener.new) (L.accepted listener.old) exchanges)
+        × (L.accepted listener.new ≡ L.accepted listener.old + length exchanges)
+        × HaltsAfter n (L.failures listener.old) (L.failures listener.new) (length exchanges) result }
     ensures honest { WasHonest B.is_honest office.old.books office.new.books }
     ensures shut { result ≡ Err Stopped.Shut → ¬ B.is_honest office.new.books }
 {

@@ -71,7 +71,7 @@ module _ {B : Type 0} (b : books.Ghosts B) where
   pub makes_then : (x y z : B) (cs ds : List Call) (xs ys : List Answer) → Makes b x y cs xs → Makes b y z ds ys → Makes b x z (cs ++ ds) (xs ++ ys)
   makes_then x y z cs ds xs ys p q = record {
     ran =
-        (ran_joins (books_state b x) (books_state b y) (books_state b z) (b.stores x) (b.stores y) (b.stores z) q.honest).join cs ds xs ys p.ran
+        (ran_joins (books_state b x) (books_state b y) (books_state b z) (b.stores x) (b.stores y) (b.stores z)).join cs ds xs ys p.ran
         q.ran;
     honest = λ t. p.honest (q.honest t);
   }

@@ -52,6 +52,7 @@ impl<B: Books> Mirror<B> {
         ensures represents { (m : Content) → B.represents books m
             → ⟦<Mirror<B> as Books>⟧.represents result m }
         ensures stores { ⟦<Mirror<B> as Books>⟧.stores result ≡ B.stores books }
+        ensures honest { ⟦<Mirror<B> as Books>⟧.is_honest result → B.is_honest books }
         ensures clean { ⟦<Mirror<B> as Books>⟧.is_clean result → B.is_clean books }
         ensures leaves { (x : Content) → ⟦<Mirror<B> as Books>⟧.may_leave result x
             → B.may_leave books x }

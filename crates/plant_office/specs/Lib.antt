@@ -4,5 +4,6 @@ pub mod Served
 pub mod Runs
 pub mod Outcomes
 pub mod Enduring
+pub mod Failures
 pub mod Lives
 pub mod Serves

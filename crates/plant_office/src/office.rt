@@ -6,7 +6,7 @@ ghost use Rattle.plant_model.specs.steps.RowChanges.{changed, changed_by};
 ghost use Rattle.plant_model.specs.{Views.{view}, Worlds.{World, IsLegalWorld, unit_named}, declared.call.Request.TheVariants.{MyShelves, MyUnits, Shelves}};
 ghost use Rattle.plant_model.specs.declared.rows.UnitRows.{UnitRows};
 ghost use Rattle.plant_office.specs.{Answers.{CountsAnswer, IfSaid, OnFault, answer_as, reply_or_fault}, Lines.{line_of_mine, line_of_shelf}};
-ghost use Rattle.plant_office.specs.Enduring.{EnduresAll, EnduresSettled, books_state};
+ghost use Rattle.plant_office.specs.{Enduring.{EnduresAll, EnduresSettled, books_state}, Failures.{StandBeforeFailure}};
 ghost use Rattle.plant_office.specs.{Runs.{AllChangeNothing, EachKeepsUnchanged, IsRun, stores_in}, Served.{Holds, IsIsolated, IsServed}, Serves.{HaveRead, Serves}};
 
 use plant_books::{Books, MineRow, MineUnit};
@@ -339,7 +339,8 @@ impl<B: Books> Office<B> {
     /// Answers the calls in their order, each as `serve` does. Room for all answers is made first: a fault of its own
     /// is Memory, and then no call was made. A fault, a refusal and a reply to a call that only asks leave the books as
     /// they were, call by call and whatever the books hold. A crash leaves the books with all calls that were
-    /// confirmed, or with these and one that was answered by a fault after which none was confirmed.
+    /// confirmed, or with these and one that was answered by a fault after which none was confirmed. Where a failure shuts
+    /// the store meanwhile, the calls up to the last confirmed one were answered as the world answers them all the same.
     pub fn run(&mut self, calls: &[Call]) -> Result<Vec<Answer>, Fault>
         ensures ran { (m : Content) → B.represents self.old.books m → (w : World)
             → IsLegalWorld w → Holds m w
@@ -352,6 +353,9 @@ impl<B: Books> Office<B> {
         ensures kept { IfOk result (λ answers. EachKeepsUnchanged B.represents
             calls.now answers.items self.old.books self.new.books) }
         ensures endures { IfOk result (λ answers. EnduresAll
+            (books_state B.Books self.old.books) (books_state B.Books self.new.books)
+            calls.now answers.items) }
+        ensures stands { IfOk result (λ answers. StandBeforeFailure
             (books_state B.Books self.old.books) (books_state B.Books self.new.books)
             calls.now answers.items) }
         ensures honest { WasHonest B.is_honest self.old.books self.new.books }

@@ -1,11 +1,17 @@
 -- What a connection over files shows, where the files held a database.
-use Rattle.std.proofs.Common.{◌≡◌, ap, subst, sym, ◌∙◌}
-use Rattle.sqlite.specs.{Effect.{Database}, Start.{FindsIn}, State.{HasCleanDisk, IsLive, Opens, State}}
+use Rattle.std.proofs.Common.{◌≡◌, ◌⊎◌, inl, inr, ap, map, refl, subst, sym, ◌∙◌, ◌∷◌, [], Some, ℕ}
+use Rattle.sqlite.specs.{Effect.{Database}, Opening.{FailsAs}, Start.{FindsIn}, State.{HasCleanDisk, IsLive, Opens, State, store_error}, Table.{Table}}
+use Rattle.sqlite.specs.declared.error.{Error.{Error, TheVariants.{SqliteFailure}}, ErrorCode.TheVariants.{NotADatabase}}
+use Rattle.sqlite_schema.specs.Names.{same_name}
+use Rattle.sqlite_trees.specs.declared.error.StoreError.{StoreError}
+use Rattle.sqlite_trees.specs.declared.error.StoreError.TheVariants as store
 use Rattle.sqlite_wal.specs.Recovery.{Image}
 use Rattle.plant_books.specs.Contents.{Content}
-use Rattle.plant_server.specs.Files.{HoldBooks, HoldDatabase}
+use Rattle.plant_columns.specs.Tables.{office_table, schema_no}
+use Rattle.plant_server.specs.Files.{HoldBooks, HoldDatabase, fault_by_error}
 use Rattle.plant_statements.specs.{Changes.{IsHonest}, Keeping.{HaveRows, Represents}}
-use Rattle.plant_store.proofs.public.Databases.{same_database}
+use Rattle.plant_store.{specs.{Opening.{IsThisOffice, office_cells, office_in, office_shown}, declared.tables.StoreFault.TheVariants.{NotThisStore}}, proofs.public.Databases.{same_database}}
+use Rattle.plant_types.specs.Names.{Name}
 
 module _ (files : Image) (s : State) (opened : HasCleanDisk s → Opens s × IsLive s) (found : HasCleanDisk s → FindsIn files s) where
   pub same_now : IsHonest s → (db : Database) → HoldDatabase files db → s.now ≡ db
@@ -16,3 +22,34 @@ module _ (files : Image) (s : State) (opened : HasCleanDisk s → Opens s × IsL
 
   pub kept : (m : Content) → HoldBooks files m → Represents s m
   kept m held tells = subst (HaveRows m) (sym (same_now tells held.db held.database)) held.rows
+
+-- the books of an office are its administrator's
+pub own_admin : (m : Content) (db : Database) (admin : Name) → HaveRows m db → IsThisOffice admin db → m.admin ≡ admin
+unfolding same_name
+own_admin m db admin k it =
+    let there : office_in db.schema ≡ Some office_table = rw k.books.same_schema refl in
+    let same : it.table ≡ office_table = let e = sym it.is_there ∙ there in cc in
+    let row : map (office_shown office_table) (db.trees 0) ≡ office_cells schema_no admin ∷ [] =
+    subst (λ (t : Table). map (office_shown t) (db.trees t.tree) ≡ office_cells schema_no admin ∷ []) same it.row in
+    let mine : map (office_shown office_table) (db.trees 0) ≡ office_cells schema_no m.admin ∷ [] = ap (map (office_shown office_table)) k.office in
+    let both = sym mine ∙ row in cc
+
+-- files that hold a database are not refused as holding none
+pub not_refused : (kind : StoreError) (old new : ℕ) (full wanted : Type 0) → FailsAs kind old new full wanted (SqliteFailure NotADatabase)
+    → wanted → ⊥
+not_refused kind old new full wanted (inl is) w = cc
+not_refused kind old new full wanted (inr (inl (is, none))) w = none w
+not_refused kind old new full wanted (inr (inr (inl (is, more)))) w = never kind is
+  where
+    never : (kind : StoreError) → SqliteFailure NotADatabase ≡ store_error kind → ⊥
+    never store.OutOfMemory e = cc
+    never store.Io e = cc
+    never store.Corrupt e = cc
+    never store.Full e = cc
+    never store.Broken e = cc
+    never store.Unstorable e = cc
+not_refused kind old new full wanted (inr (inr (inr (is, at)))) w = cc
+
+-- an error that is reported as not this store is that the file is not a database
+pub is_not_a_database : (error : Error) → fault_by_error error ≡ NotThisStore → error ≡ SqliteFailure NotADatabase
+is_not_a_database (SqliteFailure NotADatabase) e = refl

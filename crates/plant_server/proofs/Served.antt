@@ -1,69 +1,110 @@
 -- What was served, from what was at hand as it began.
-use Rattle.std.proofs.Common.{ℕ, ◌≡◌, IfSome, IsTrue, List, None, Option, Some, [], subst, sym}
-use Rattle.sqlite.specs.{Files.{IsCleanLeft, LeavesFiles}, declared.file.Leftover.{Leftover}}
-use Rattle.sqlite_disk.specs.declared.{Disk.{Ghosts}, Files.{Files}}
+use Rattle.std.proofs.Common.{ℕ, ◌≡◌, ◌⊎◌, inl, inr, refl, ◌∷◌, IfSome, IsTrue, List, None, Option, Some, [], subst, sym}
+use Rattle.sqlite.specs.{Effect.{Database}, declared.file.Leftover.{Leftover}}
+use Rattle.sqlite_disk.specs.declared.Disk.{Ghosts}
 use Rattle.plant_line.specs.declared.words.Service.{Service}
 use Rattle.sqlite_store.specs.{FileStore.{view}, declared.store.FileStore.{FileStore}}
 use Rattle.sqlite_trees.specs.View.{IsClean}
 use Rattle.plant_books.specs.Contents.{Content}
 use Rattle.plant_model.specs.{Worlds.{World}, declared.{call.Call.{Call}, reply.Answer.{Answer}}}
-use Rattle.plant_office.specs.{Enduring.{BooksState}, Outcomes.{IsOutcome}}
-use Rattle.plant_server.specs.{Crashes.{LeavesOutcomes}, Statuses.{HasServed}, Parts.{IsAtHand, IsClosing, left_of}, Promise.{FilesServed, IsRefusal, Place, RanOnFiles, Streams}}
+use Rattle.plant_office.specs.{Enduring.{BooksState}, Failures.{AreAnsweredBeforeFailure}, Outcomes.{IsOutcome, confirmed}}
+use Rattle.plant_server.specs.{Crashes.{LeavesOutcomes}, Files.{HoldDatabase}, Parts.{BooksServed, IsAtHand, IsClosing, unopened}}
+use Rattle.plant_server.specs.OverFiles.{Begins, IsHonestAfter, IsRefusal, IsUnopened, Place, RanOnFiles, closing_text}
+use Rattle.plant_server.specs.{Promise.{FilesServed}, Services.{HasServed}, Statuses.{no_rows_text}, Streams.{Bytes, IsSaid, Streams, within}}
 use Rattle.plant_server.specs.declared.{remains.Left.{Left}, statuses.ExitStatus.{ExitStatus}}
+use Rattle.plant_store.specs.{Opening.{IsThisOffice}, declared.tables.StoreFault.{StoreFault}}
+use Rattle.plant_types.specs.Names.{Name}
 use Rattle.plant_wire.specs.Ran.{Ran}
-use Rattle.plant_server.proofs.Streamed.{served}
+use Rattle.plant_server.proofs.Streamed.{made, served}
 
 module _ {D N : Type 0} {g : Ghosts D} where
-  -- what is true from each world that begins here is true from each that begins there
-  pub files_served : (begins also : World → Type 0) → ((w : World) → also w → begins w) → (service : Option Service) (s : Streams) (n : ExitStatus)
-      (after : Left D N g) → FilesServed begins service s n after → FilesServed also service s n after
-  files_served begins also follows service s n after it = record {
+  -- books that hold the rows of each world that begins in files
+  pub files_served : (books : BooksState) (admin : Name) (place : Place D) (path : List ℕ)
+      → ((w : World) → Begins place path w → IsAtHand books admin w)
+      → (path ≡ place.path → (db : Database) → HoldDatabase place.files db → books.honest → IsThisOffice admin db)
+      → (service : Option Service) (s : Streams) (n : ExitStatus) (after : Left D N g) → BooksServed books admin service s n after
+      → FilesServed place path admin service s n after
+  files_served books admin place path follows own service s n after it = record {
     were = it.were;
+    own = λ here db held honest. own here db held (it.honest honest);
     store = it.store;
+    first = it.first;
+    last = it.last;
+    said = it.said;
     served = served _ _ (λ calls answers is. record {
       answered = λ w at. is.answered w (follows w at);
+      before_failure = λ w at. is.before_failure w (follows w at);
       meanwhile = λ w at. is.meanwhile w (follows w at);
       afterwards = λ w at. is.afterwards w (follows w at);
-    }) _ _ (λ not. not) _ _ service _ _ _ it.served;
+    }) _ _ (λ not. not) _ service n it.served;
   }
 
-  pub refusal : (fresh : Files D → Type 0) (place : Place) (path : List ℕ) (rest : Option (Leftover D g)) (after : Left D N g)
-      → after ≡ left_of rest
-      → IfSome rest (λ left. (opened : Files D) × (path ≡ place.path → fresh opened) × (IsCleanLeft left → LeavesFiles opened left))
-      → IsRefusal fresh place path after
-  refusal fresh place path None after is untouched = subst (λ (it : Left D N g). IsRefusal fresh place path it) (sym is) tt
-  refusal fresh place path (Some rest) after is untouched =
-      subst (λ (it : Left D N g). IsRefusal fresh place path it) (sym is) untouched
+  pub refusal : (place : Place D) (path : List ℕ) (admin : Name) (fault : StoreFault) (rest : Option (Leftover D g)) (after : Left D N g)
+      → after ≡ unopened rest → IfSome rest (IsUnopened place path fault) → IsRefusal place path admin fault after
+  refusal place path admin fault None after is untouched = subst (λ (it : Left D N g). IsRefusal place path admin fault it) (sym is) tt
+  refusal place path admin fault (Some rest) after is untouched =
+      subst (λ (it : Left D N g). IsRefusal place path admin fault it) (sym is) untouched
+
+none_or_some : (calls : List Call) → (calls ≡ []) ⊎ (calls ≡ [] → ⊥)
+none_or_some [] = inl refl
+none_or_some (c ∷ calls) = inr (λ none. cc none)
 
 -- serving leaves a store, of which this is left
-module _ {D N : Type 0} {g : Ghosts D} (before end : BooksState) (count counted_to : ℕ) (store : FileStore D g) (after : Left D N g)
-    (closing : IsClosing store after)
+module _ {D N : Type 0} {g : Ghosts D} (before end : BooksState) (admin : Name) (count counted_to : ℕ) (store : FileStore D g)
+    (after : Left D N g) (closing : IsClosing store after)
     (tidy : IsClean (view store) → end.clean)
     (sure : IsClean (view store) → IsTrue (view store).is_open → end.honest)
     (leaves : (w : World) (calls : List Call) (answers : List Answer) → IsClean (view store) → end.sound
     → ((x : Content) → end.leaves x → IsOutcome w calls answers x) → LeavesOutcomes store w calls answers) where
-  outcomes : (calls : List Call) (answers : List Answer) → Ran before end count counted_to calls answers → (w : World) → IsAtHand before w
-      → IsClean (view store) → LeavesOutcomes store w calls answers
-  outcomes calls answers is w at clean =
-      let k = is.endures.goes_on w [] [] (tidy clean) (at.after (is.endures.clean (tidy clean))) in
+  tells : IsHonestAfter after → end.honest
+  tells honest = let up = closing.honest honest in sure up.0 up.1
+
+  outcomes : (calls : List Call) (answers : List Answer) → Ran before end count counted_to calls answers → (w : World) → IsAtHand before admin w
+      → w.admin ≡ admin → IsClean (view store) → LeavesOutcomes store w calls answers
+  outcomes calls answers is w at own clean =
+      let k = is.endures.goes_on w [] [] (tidy clean) (at.after own (is.endures.clean (tidy clean))) in
       leaves w calls answers clean k.sound k.outcomes
 
+  -- where no call was confirmed, nothing is said; else the store was open as it was opened
+  before_failure : (calls : List Call) (answers : List Answer) → Ran before end count counted_to calls answers → (w : World) → IsAtHand before admin w
+      → end.clean → AreAnsweredBeforeFailure w calls answers
+  before_failure calls answers is w at clean = elim (none_or_some (confirmed calls answers)) [
+    | inl none ↦ record {
+      first = [];
+      later = calls;
+      said = [];
+      said_later = answers;
+      calls_are = refl;
+      answers_are = refl;
+      long = is.stands.long;
+      answered = tt;
+      isolated = tt;
+      unconfirmed = none;
+    }
+    | inr some ↦ is.stands.answered clean w (at.now (is.stands.kept clean some))
+  ]
+
   pub ran_on_files : (calls : List Call) (answers : List Answer) → Ran before end count counted_to calls answers
-      → RanOnFiles (IsAtHand before) store after calls answers
+      → RanOnFiles (IsAtHand before admin) admin store after calls answers
   ran_on_files calls answers is = record {
     answered = λ w at honest.
-        let up = closing.honest honest in
-        let run = is.run at.now.content at.now.held w at.now.legal at.now.holds (sure up.0 up.1) in
+        let now = at.now (is.stands.honest (tells honest)) in
+        let run = is.run now.content now.held w now.legal now.holds (tells honest) in
         record { answered = run.answered; isolated = run.isolated };
-    meanwhile = λ w at clean. outcomes calls answers is w at (closing.clean clean);
-    afterwards = λ w at clean. closing.leaves w calls answers (outcomes calls answers is w at (closing.clean clean)) clean;
+    before_failure = λ w at clean. before_failure calls answers is w at (tidy (closing.clean clean));
+    meanwhile = λ w at own clean. outcomes calls answers is w at own (closing.clean clean);
+    afterwards = λ w at own clean. closing.leaves w calls answers (outcomes calls answers is w at own (closing.clean clean)) clean;
   }
 
-  pub served_files : (service : Option Service) (s : Streams) (n : ExitStatus)
-      → HasServed (Ran before end count counted_to) (¬ end.honest) service s.unread s.unread_after s.written s.written_after n
-      → FilesServed (IsAtHand before) service s n after
-  served_files service s n it = record {
+  pub served_files : (service : Option Service) (s : Streams) (n : ExitStatus) (first last : Bytes)
+      → IsSaid s.lines.reported first no_rows_text → IsSaid last s.lines.reported_after (closing_text after)
+      → HasServed (Ran before end count counted_to) (¬ end.honest) service (within s first last) n → BooksServed before admin service s n after
+  served_files service s n first last said closed it = record {
     were = closing.were;
+    honest = λ honest. let ran = made _ _ _ service n it in ran.2.stands.honest (tells honest);
     store = store;
-    served = served _ _ ran_on_files _ _ (λ not honest. let up = closing.honest honest in not (sure up.0 up.1)) _ _ service _ _ _ it;
+    first = first;
+    last = last;
+    said = (said, closed);
+    served = served _ _ ran_on_files _ _ (λ not honest. not (tells honest)) _ service n it;
   }

@@ -1,15 +1,14 @@
 -- A session, and the connections of a port, by what else is true of the office.
 use Rattle.std.proofs.Common.{ℕ, List, Bool, true, false, None, Option, Some, inl, inr}
 use Rattle.plant_line.specs.declared.words.Service.{Service}
-use Rattle.plant_model.specs.declared.{call.Call.{Call}, reply.Answer.{Answer}}
 use Rattle.plant_lines.specs.Accounts.{AreSent, Outcome}
-use Rattle.plant_server.specs.{Statuses.{AreOfPort, HasServed, IsStreamed, is_at_once}, declared.statuses.ExitStatus.{ExitStatus}}
+use Rattle.plant_model.specs.declared.{call.Call.{Call}, reply.Answer.{Answer}}
+use Rattle.plant_server.specs.{Services.{AreOfPort, HasServed, IsStreamed, is_at_once}, Streams.{Streams}, declared.statuses.ExitStatus.{ExitStatus}}
 use Rattle.plant_wire.specs.{Session.{EndsAs, IsCutShort}, Step.{AnswersFront, ServesBroken, ServesPart}, declared.reads.End.{End}}
 use Rattle.plant_wire.specs.declared.reads.End.TheVariants.{BrokenInput, Closed, Fault, ReadFailed, WriteFailed}
 
 module _ (ran also : List Call → List Answer → Type 0)
-    (follows : (calls : List Call) (answers : List Answer) → ran calls answers → also calls answers)
-    (lost gone : Type 0) (loses : lost → gone) (o o' : Option (List ℕ)) where
+    (follows : (calls : List Call) (answers : List Answer) → ran calls answers → also calls answers) (o o' : Option (List ℕ)) where
   whole : {bytes rest : List ℕ} → AnswersFront bytes o o' ran rest → AnswersFront bytes o o' also rest
   whole s = record { marks = s.marks; parses = s.parses; writes = s.writes; served = follows _ _ s.served }
 
@@ -41,9 +40,6 @@ module _ (ran also : List Call → List Answer → Type 0)
   ends bytes r' ended WriteFailed s = partial s
   ends bytes r' ended Fault (s, is) = (partial s, is)
 
-  streamed : (r r' : Option (List ℕ)) (n : ExitStatus) → IsStreamed r r' o o' ran n → IsStreamed r r' o o' also n
-  streamed r r' n (end, ended, (bytes, consumes, k), is) = (end, ended, (bytes, consumes, ends bytes r' ended end k), is)
-
   sent : {n : ℕ} {r : Outcome} → AreSent ran n r → AreSent also n r
   sent s = record {
     events = s.events;
@@ -58,23 +54,60 @@ module _ (ran also : List Call → List Answer → Type 0)
     stops = s.stops;
   }
 
-  port : (many : Bool) (service : Service) (n : ExitStatus) → AreOfPort many ran lost service n → AreOfPort many also gone service n
-  port false service n s = record {
-    result = s.result;
-    reported = s.reported;
-    shut = λ is. ((s.shut is).0, loses (s.shut is).1);
-    calls = s.calls;
-    answers = s.answers;
-    made = follows _ _ s.made;
-  }
-  port true service n s = record {
-    result = s.result;
-    reported = s.reported;
-    shut = λ is. ((s.shut is).0, loses (s.shut is).1);
-    sent = sent s.sent;
+module _ (ran also : List Call → List Answer → Type 0)
+    (follows : (calls : List Call) (answers : List Answer) → ran calls answers → also calls answers)
+    (lost gone : Type 0) (loses : lost → gone) (s : Streams) where
+  streamed : (n : ExitStatus) → IsStreamed ran s n → IsStreamed also s n
+  streamed n is = record {
+    end = is.end;
+    ended = is.ended;
+    session = (
+      is.session.0,
+      is.session.1,
+      ends ran also follows s.written s.written_after is.session.0 s.unread_after is.ended is.end is.session.2,
+    );
+    said = is.said;
+    status = is.status;
   }
 
-  pub served : (service : Option Service) (r r' : Option (List ℕ)) (n : ExitStatus) → HasServed ran lost service r r' o o' n
-      → HasServed also gone service r r' o o' n
-  served None r r' n is = streamed r r' n is
-  served (Some service) r r' n is = port (is_at_once service) service n is
+  port : (many : Bool) (service : Service) (n : ExitStatus) → AreOfPort many ran lost service n → AreOfPort many also gone service n
+  port false service n is = record {
+    exchanges = is.exchanges;
+    each = is.each;
+    made = follows _ _ is.made;
+    result = is.result;
+    many = is.many;
+    status = is.status;
+    shut = λ e. ((is.shut e).0, loses (is.shut e).1);
+  }
+  port true service n is = record {
+    result = is.result;
+    sent = sent ran also follows s.written s.written_after is.sent;
+    status = is.status;
+    shut = λ e. ((is.shut e).0, loses (is.shut e).1);
+  }
+
+  pub served : (service : Option Service) (n : ExitStatus) → HasServed ran lost service s n → HasServed also gone service s n
+  served None n is = streamed n is
+  served (Some service) n is = port (is_at_once service) service n is
+
+-- the calls that were made, and their answers
+module _ (ran : List Call → List Answer → Type 0) (lost : Type 0) (s : Streams) where
+  abbrev Made : Type 0
+  Made = (calls : List Call) × (answers : List Answer) × ran calls answers
+
+  made_at : (bytes : List ℕ) (r' o o' : Option (List ℕ)) (ended : Bool) (end : End) → EndsAs bytes r' ended o o' ran end → Made
+  made_at bytes r' o o' ended Closed (seen, left, it) = (_, _, it.served)
+  made_at bytes r' o o' ended BrokenInput (inl it) = (_, _, it.served)
+  made_at bytes r' o o' ended BrokenInput (inr it) = (_, _, it.serves.served)
+  made_at bytes r' o o' ended ReadFailed (rest, idle, it) = (_, _, it.served)
+  made_at bytes r' o o' ended WriteFailed it = (_, _, it.served)
+  made_at bytes r' o o' ended Fault (it, is) = (_, _, it.served)
+
+  made_over : (many : Bool) (service : Service) (n : ExitStatus) → AreOfPort many ran lost service n → Made
+  made_over false service n is = (_, _, is.made)
+  made_over true service n is = (_, _, is.sent.made)
+
+  pub made : (service : Option Service) (n : ExitStatus) → HasServed ran lost service s n → Made
+  made None n is = made_at is.session.0 s.unread_after s.written s.written_after is.ended is.end is.session.2
+  made (Some service) n is = made_over (is_at_once service) service n is

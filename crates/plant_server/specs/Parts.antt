@@ -1,18 +1,22 @@
 -- What the parts of the command leave to one another.
-use Rattle.std.specs.Prelude.{IsTrue, List, [], None, Option, Some}
+use Rattle.std.specs.Prelude.{◌≡◌, IsTrue, List, [], None, Option, Some}
 use Rattle.sqlite.specs.declared.file.Leftover.{Leftover}
 use Rattle.sqlite_disk.specs.declared.Disk.{Ghosts}
 use Rattle.sqlite_store.specs.{FileStore.{view}, declared.store.FileStore.{FileStore}}
 use Rattle.sqlite_trees.specs.View.{IsClean}
+use Rattle.plant_line.specs.declared.words.Service.{Service}
 use Rattle.plant_model.specs.{Worlds.{World}, declared.{call.Call.{Call}, reply.Answer.{Answer}}}
 use Rattle.plant_office.specs.Enduring.{AreAfter, BooksState, HoldsWorld}
-use Rattle.plant_server.specs.{Crashes.{LeavesOutcomes}, Promise.{AreServed, IsCleanAfter, IsHonestAfter, LeavesAfter}, declared.remains.Left.{Left}}
+use Rattle.plant_server.specs.{Crashes.{LeavesOutcomes}, OverFiles.{AreServed, IsCleanAfter, IsHonestAfter, LeavesAfter, RanOnFiles, closing_text}, declared.remains.Left.{Left}}
+use Rattle.plant_server.specs.{Services.{HasServed}, Statuses.{no_rows_text}, Streams.{Bytes, IsSaid, Streams, within}, declared.statuses.ExitStatus.{ExitStatus}}
 use Rattle.plant_server.specs.declared.remains.Left.TheVariants as left
+use Rattle.plant_types.specs.Names.{Name}
 
--- the books hold the rows of this world, and a crash leaves nothing else
-pub record IsAtHand (books : BooksState) (w : World) : Type 0 where
-  pub now : HoldsWorld w books
-  pub after : books.clean → AreAfter w [] [] books
+-- Books, while they are honest, hold the rows of this world; and of a world of this administrator a crash leaves
+-- nothing else.
+pub record IsAtHand (books : BooksState) (admin : Name) (w : World) : Type 0 where
+  pub now : books.honest → HoldsWorld w books
+  pub after : w.admin ≡ admin → books.clean → AreAfter w [] [] books
 
 module _ {D N : Type 0} {g : Ghosts D} where
   -- this is left of the store that serving left
@@ -23,7 +27,19 @@ module _ {D N : Type 0} {g : Ghosts D} where
     pub leaves : (w : World) (calls : List Call) (answers : List Answer) → LeavesOutcomes store w calls answers
         → IsCleanAfter after → LeavesAfter after w calls answers
 
+  -- The books of files were served, and the files closed.
+  pub record BooksServed (books : BooksState) (admin : Name) (service : Option Service) (s : Streams) (n : ExitStatus)
+      (after : Left D N g) : Type 0 where
+    pub were : AreServed after
+    pub honest : IsHonestAfter after → books.honest
+    pub store : FileStore D g
+    pub first : Bytes
+    pub last : Bytes
+    pub said : IsSaid s.lines.reported first no_rows_text × IsSaid last s.lines.reported_after (closing_text after)
+    pub served : HasServed (RanOnFiles (IsAtHand books admin) admin store after) (¬ IsHonestAfter after) service
+        (within s first last) n
+
   -- files that were not opened
-  abbrev pub left_of : Option (Leftover D g) → Left D N g
-  left_of None = left.Nothing
-  left_of (Some rest) = left.Refused rest
+  abbrev pub unopened : Option (Leftover D g) → Left D N g
+  unopened None = left.Nothing
+  unopened (Some rest) = left.Unopened rest

@@ -1,17 +1,15 @@
--- The exit statuses of the program.
-use Rattle.std.specs.Prelude.{if◌then◌else◌, Bool, true, false, IsTrue, nat_lt, List, ℕ, ◌≡◌}
-use Rattle.std.specs.Prelude.{Err, None, Ok, Option, Result, Some}
-use Rattle.plant_model.specs.declared.{call.Call.{Call}, reply.Answer.{Answer}}
-use Rattle.plant_wire.specs.{Session.{IsSession}, declared.reads.End.{End}}
+-- The exit statuses of the program, and what it says of them.
+use Rattle.std.specs.Prelude.{if◌then◌else◌, true, false, codes, string_bytes, List, [], ℕ, Err, Ok, Result}
+use Rattle.plant_wire.specs.declared.reads.End.{End}
 use Rattle.plant_wire.specs.declared.reads.End.TheVariants.{BrokenInput, Closed, Fault, ReadFailed, WriteFailed}
 use Rattle.plant_connections.specs.declared.while_open.Stopped.{Stopped}
 use Rattle.plant_connections.specs.declared.while_open.Stopped.TheVariants as stopped
-use Rattle.plant_line.specs.declared.words.{LineError.{LineError}, Service.{Service}}
+use Rattle.plant_line.specs.declared.words.LineError.{LineError}
 use Rattle.plant_line.specs.declared.words.LineError.TheVariants.{Memory, NoDb, NotAPerson, Text}
-use Rattle.plant_lines.specs.Accounts.{AreSent, Outcome}
+use Rattle.plant_lines.specs.Accounts.{Outcome}
 use Rattle.plant_lines.specs.declared.serving.Halted.TheVariants as halted
 use Rattle.plant_server.specs.declared.statuses.ExitStatus.{ExitStatus}
-use Rattle.plant_store.specs.declared.tables.StoreFault.{StoreFault}
+use Rattle.plant_store.specs.declared.tables.StoreFault.{StoreFault, TheVariants.{NotThisStore, Fault as StoreFailed}}
 use Rattle.plant_server.specs.declared.statuses.ExitStatus.TheVariants as statuses
 
 -- the number that the program exits with
@@ -58,53 +56,49 @@ abbrev pub status_of_migration : {A : Type 0} → Result A StoreFault → ExitSt
 status_of_migration (Ok made) = statuses.Done
 status_of_migration (Err e) = statuses.NoBooks
 
--- what may be true of the office: of its calls, with their answers
-abbrev pub OfCalls : Type 1
-OfCalls = List Call → List Answer → Type 0
+-- ---- what is said of it
 
--- what is known to be left to read, and to be written
-abbrev pub Bytes : Type 0
-Bytes = Option (List ℕ)
+-- on the output: the help, or the version, that the words ask for
+abbrev pub help_text : LineError → List ℕ
+help_text (Text text false) = string_bytes text
+help_text (Text text true) = []
+help_text NotAPerson = []
+help_text NoDb = []
+help_text Memory = []
 
--- One session over an inlet and an outlet, and its end: what was left to read and what was written, before and after.
-abbrev pub IsStreamed : Bytes → Bytes → Bytes → Bytes → OfCalls → ExitStatus → Type 0
-IsStreamed unread unread_after written written_after ran n =
-    (end : End) × (ended : Bool) × IsSession unread unread_after ended written written_after ran end
-    × (n ≡ exit_status_of end)
+-- on standard error: why the words are refused
+abbrev pub refusal_text : LineError → List ℕ
+refusal_text (Text text true) = string_bytes text
+refusal_text (Text text false) = []
+refusal_text NotAPerson = codes "admin: not a person name\n"
+refusal_text NoDb = codes "migrate: no db\n"
+refusal_text Memory = []
 
--- The connections of a port were served one after the other, or not all of them. Of those it says only what the office
--- did for all of them together. How many there were is said by `serve_listener`; what came over a socket no contract
--- knows. That the store shut ends only a service that goes on while it is open, and then `lost` is true of the store.
-pub record AreInTurn (ran : OfCalls) (lost : Type 0) (service : Service) (n : ExitStatus) : Type 0 where
-  pub result : Result (Unit {0}) Stopped
-  pub reported : n ≡ served result
-  pub shut : result ≡ Err stopped.Shut → IsTrue service.while_open × lost
-  pub calls : List Call
-  pub answers : List Answer
-  pub made : ran calls answers
+-- why no books were opened, or an older file was not migrated
+abbrev pub unopened_text : StoreFault → List ℕ
+unopened_text NotThisStore = codes "store: not this store\n"
+unopened_text (StoreFailed fault) = codes "store: fault\n"
 
--- They were served many at once, as many in all as the service asks for, or fewer where the port failed, or where the
--- store shut and the service goes on only while it is open: of what happened at all of them the office's calls are one
--- list, and each was sent the answers to its own requests.
-pub record AreAtOnce (ran : OfCalls) (lost : Type 0) (service : Service) (n : ExitStatus) : Type 0 where
-  pub result : Outcome
-  pub reported : n ≡ served_at_once result
-  pub shut : result ≡ Err halted.Shut → IsTrue service.while_open × lost
-  pub sent : AreSent ran service.connections result
+-- how a session ended
+abbrev pub end_text : End → List ℕ
+end_text Closed = codes "end: Closed\n"
+end_text BrokenInput = codes "end: BrokenInput\n"
+end_text ReadFailed = codes "end: ReadFailed\n"
+end_text WriteFailed = codes "end: WriteFailed\n"
+end_text Fault = codes "end: Fault\n"
 
--- whether connections are served many at once
-abbrev pub is_at_once : Service → Bool
-is_at_once service = nat_lt 1 service.clients
+-- of a migration: on the output, and on standard error
+abbrev pub migrated_text : {A : Type 0} → Result A StoreFault → List ℕ
+migrated_text (Ok made) = codes "migrated\n"
+migrated_text (Err e) = []
 
--- the connections of a port, many at once or not
-abbrev pub AreOfPort : Bool → OfCalls → Type 0 → Service → ExitStatus → Type 0
-AreOfPort false ran lost service n = AreInTurn ran lost service n
-AreOfPort true ran lost service n = AreAtOnce ran lost service n
+abbrev pub unmigrated_text : {A : Type 0} → Result A StoreFault → List ℕ
+unmigrated_text (Ok made) = []
+unmigrated_text (Err e) = unopened_text e
 
--- Over an office of which `ran` is true: one session ended, or the connections of a port were served. If a service
--- ended because a failure had shut the store, `lost` is true of it.
-abbrev pub HasServed : OfCalls → Type 0 → Option Service → Bytes → Bytes → Bytes → Bytes → ExitStatus → Type 0
-HasServed ran lost None unread unread_after written written_after n =
-    IsStreamed unread unread_after written written_after ran n
-HasServed ran lost (Some service) unread unread_after written written_after n =
-    AreOfPort (is_at_once service) ran lost service n
+-- that there was no memory for rows at hand, and that the log stays beside the file
+abbrev pub no_rows_text : List ℕ
+no_rows_text = codes "memory: no rows at hand\n"
+
+abbrev pub not_copied_text : List ℕ
+not_copied_text = codes "store: log not copied\n"

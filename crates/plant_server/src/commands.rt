@@ -1,19 +1,19 @@
-ghost use Rattle.std.specs.{Duration.{as_nanos}, Prelude.{◌≡◌, ◌⊎◌, ◌+◌, ◌*◌, [], List, Result, map, option_map}};
+ghost use Rattle.std.specs.{Duration.{as_nanos}, Prelude.{◌≡◌, ◌+◌, ◌*◌, [], List, Result, length, map, option_map}};
 ghost use Rattle.std.specs.Prelude.{Err, IsTrue, OnOk, true, false};
-ghost use Rattle.plant_books.specs.Books.{WasHonest};
-ghost use Rattle.plant_line.specs.Lines.{IsReadAs};
-ghost use Rattle.plant_line.specs.declared.words.{Line.{Line}, LineError.{LineError}};
-ghost use Rattle.plant_model.specs.{Worlds.{empty_world}, declared.{call.Call.{Call}, reply.Answer.{Answer}}};
 ghost use Rattle.sqlite_std_file.specs.File.{IsFresh};
 ghost use Rattle.sqlite_store.specs.FileStore.{view};
 ghost use Rattle.sqlite_trees.specs.View.{IsClean};
 ghost use Rattle.sqlite_wal.specs.Files.{image_at};
-ghost use Rattle.plant_office.specs.Enduring.{books_state};
-ghost use Rattle.plant_server.specs.Crashes.{IsWhole};
-ghost use Rattle.plant_server.specs.{Parts.{IsAtHand, IsClosing, left_of}, Promise.{AreAnsweredBy, Begins, FilesServed, IsDone, IsKept, IsMigration, IsObeyed, IsRefusal, IsServed, IsUnserved, place_of, streams_of}};
+ghost use Rattle.plant_connections.specs.Connections.{AreExchanges, Exchange, answers_over, calls_over};
+ghost use Rattle.plant_line.specs.{Lines.{IsReadAs}, declared.words.{Line.{Line}, LineError.{LineError}}};
 ghost use Rattle.plant_lines.specs.Accounts.{AreSent};
-ghost use Rattle.plant_server.specs.Statuses.{AreOfPort, HasServed, IsStreamed, is_at_once};
+ghost use Rattle.plant_office.specs.Enduring.{books_state};
+ghost use Rattle.plant_server.specs.{Crashes.{IsWhole}, OverFiles.{closing_text, place_of}, Parts.{BooksServed, IsClosing}};
+ghost use Rattle.plant_server.specs.Promise.{IsDone, IsDoneInMemory, IsDoneOnFile, IsKept, IsMigration, IsObeyed};
+ghost use Rattle.plant_server.specs.Services.{AreAsMany, AreOfPort, HasServed, IsStreamed, is_at_once};
+ghost use Rattle.plant_server.specs.Streams.{Bytes, IsSaid, lines_of, streams_of, within};
 ghost use Rattle.plant_server.specs.declared.statuses.ExitStatus.TheVariants.{NoBooks};
+ghost use Rattle.plant_types.specs.Names.{Name};
 ghost use Rattle.plant_wire.specs.Over.{RanOn};
 ghost use Rattle.plant_server.specs.Statuses as statuses;
 
@@ -24,7 +24,7 @@ use crate::places::Located;
 use crate::remains::{Left, close_left, leave};
 use crate::sockets::Port;
 use crate::statuses::ExitStatus;
-use plant_connections::{Listener, Stopped, end_name, say, serve_connections, serve_while_open};
+use plant_connections::{Listener, Stopped, say, serve_connections, serve_while_open};
 use plant_line::{Line, LineError, Service, Task, line_of};
 use plant_lines::{Halted, Reports, serve_lines};
 use plant_mirror::{Copies, Mirror};
@@ -34,7 +34,7 @@ use plant_store::{StoreFault, Tables};
 use plant_types::Person;
 use plant_types::limits::MAX_ROWS_AT_HAND;
 use plant_wire::{End, Failed, Inlet, Outlet, session};
-use sqlite::{Alter, File, FileFrom, FileStore, Leftover, Start};
+use sqlite::{Alter, File, FileFrom, FileStore, Start};
 use sqlite_disk::Disk;
 use std::alloc::Global;
 use std::convert::AsStr;
@@ -56,13 +56,25 @@ fn status_of(end: End) -> ExitStatus
     }
 }
 
-/// Says how the session ended, and gives the status.
-fn report_end(errors: &mut impl Write, end: End) -> ExitStatus
-    ensures { result ≡ statuses.exit_status_of end }
+/// The line that says how a session ended.
+fn end_text(end: End) -> &'static [u8]
+    ensures { result.now ≡ statuses.end_text end }
 {
-    say(errors, b"end: ");
-    say(errors, end_name(end));
-    say(errors, b"\n");
+    match end {
+        End::Closed => b"end: Closed\n",
+        End::BrokenInput => b"end: BrokenInput\n",
+        End::ReadFailed => b"end: ReadFailed\n",
+        End::WriteFailed => b"end: WriteFailed\n",
+        End::Fault => b"end: Fault\n",
+    }
+}
+
+/// Says how the session ended, and gives the status.
+fn report_end<E: Write>(errors: &mut E, end: End) -> ExitStatus
+    ensures status { result ≡ statuses.exit_status_of end }
+    ensures said { IsSaid (E.contents errors.old) (E.contents errors.new) (statuses.end_text end) }
+{
+    say(errors, end_text(end));
     status_of(end)
 }
 
@@ -103,31 +115,36 @@ fn report_at_once(errors: &mut impl Write, outcome: Result<(), Halted>) -> ExitS
     }
 }
 
-/// Says why no books were opened, and gives the status.
-fn report_unopened(errors: &mut impl Write, fault: &StoreFault) -> ExitStatus
-    ensures { result ≡ NoBooks }
+/// The line that says why no books were opened.
+fn unopened_text(fault: &StoreFault) -> &'static [u8]
+    ensures { result.now ≡ statuses.unopened_text fault.now }
 {
     match fault {
-        StoreFault::NotThisStore => {
-            say(errors, b"store: not this store\n");
-            ExitStatus::NoBooks
-        }
-        StoreFault::Fault(_) => report_store(errors),
+        StoreFault::NotThisStore => b"store: not this store\n",
+        StoreFault::Fault(_) => b"store: fault\n",
     }
 }
 
+/// Says why no books were opened, and gives the status.
+fn report_unopened<E: Write>(errors: &mut E, fault: &StoreFault) -> ExitStatus
+    ensures status { result ≡ NoBooks }
+    ensures said { IsSaid (E.contents errors.old) (E.contents errors.new) (statuses.unopened_text fault.now) }
+{
+    say(errors, unopened_text(fault));
+    ExitStatus::NoBooks
+}
+
 /// One session; the status says how it ended.
-fn serve_streams<B: Books, I: Inlet, O: Outlet, E: Write>(
+fn serve_streams<B: Books, I: Inlet, O: Outlet + Write, E: Write>(
     alloc: Global,
     office: &mut Office<B>,
     inlet: &mut I,
     outlet: &mut O,
     errors: &mut E,
 ) -> ExitStatus
-    ensures does { IsStreamed (I.remaining inlet.old) (I.remaining inlet.new)
-        (O.written outlet.old) (O.written outlet.new)
-        (RanOn B.Books office.old.books office.new.books) result }
-    ensures honest { WasHonest B.is_honest office.old.books office.new.books }
+    ensures { IsStreamed (RanOn B.Books office.old.books office.new.books)
+        (streams_of I.Inlet O.Outlet O.Write E.Write (inlet.old, outlet.old, errors.old) (inlet.new, outlet.new, errors.new))
+        result }
 {
     let end = session(alloc, inlet, outlet, office);
     report_end(errors, end)
@@ -163,8 +180,9 @@ fn serve_listener<L: Listener, B: Books, W: Write, E: Write>(
     ensures all { OnOk result
         (L.accepted listener.new ≡ L.accepted listener.old + service.connections) }
     ensures failed { result ≡ Err Stopped.Failed → L.failures listener.new ≡ 1 }
-    ensures ran { (calls : List Call) × (answers : List Answer)
-        × RanOn B.Books office.old.books office.new.books calls answers }
+    ensures served { (exchanges : List Exchange) × AreExchanges exchanges
+        × RanOn B.Books office.old.books office.new.books (calls_over exchanges) (answers_over exchanges)
+        × AreAsMany service.connections (length exchanges) result }
     ensures shut { result ≡ Err Stopped.Shut
         → IsTrue service.while_open × (¬ B.is_honest office.new.books) }
 {
@@ -197,8 +215,9 @@ fn serve_in_turn<B: Books, W: Write, E: Write>(
     output: &mut W,
     errors: &mut E,
 ) -> Result<(), Stopped>
-    ensures ran { (calls : List Call) × (answers : List Answer)
-        × RanOn B.Books office.old.books office.new.books calls answers }
+    ensures served { (exchanges : List Exchange) × AreExchanges exchanges
+        × RanOn B.Books office.old.books office.new.books (calls_over exchanges) (answers_over exchanges)
+        × AreAsMany service.connections (length exchanges) result }
     ensures shut { result ≡ Err Stopped.Shut
         → IsTrue service.while_open × (¬ B.is_honest office.new.books) }
 {
@@ -289,8 +308,8 @@ fn serve_office<B: Books, I: Inlet, O: Outlet + Write, E: Write>(
     errors: &mut E,
 ) -> ExitStatus
     ensures { HasServed (RanOn B.Books office.old.books office.new.books) (¬ B.is_honest office.new.books) service
-        (I.remaining inlet.old) (I.remaining inlet.new)
-        (O.written outlet.old) (O.written outlet.new) result }
+        (streams_of I.Inlet O.Outlet O.Write E.Write (inlet.old, outlet.old, errors.old) (inlet.new, outlet.new, errors.new))
+        result }
 {
     match service {
         None => serve_streams(rt.alloc(), office, inlet, outlet, errors),
@@ -308,8 +327,8 @@ fn serve_over<B: Books + Drop, I: Inlet, O: Outlet + Write, E: Write>(
     errors: &mut E,
 ) -> (ExitStatus, B)
     ensures { HasServed (RanOn B.Books books result.1) (¬ B.is_honest result.1) service
-        (I.remaining inlet.old) (I.remaining inlet.new)
-        (O.written outlet.old) (O.written outlet.new) result.0 }
+        (streams_of I.Inlet O.Outlet O.Write E.Write (inlet.old, outlet.old, errors.old) (inlet.new, outlet.new, errors.new))
+        result.0 }
 {
     let mut office = Office::new(rt.alloc(), books);
     let status = serve_office(rt, &mut office, service, inlet, outlet, errors);
@@ -330,8 +349,8 @@ fn serve_at_hand<S: Alter + Drop, I: Inlet, O: Outlet + Write, E: Write>(
     requires { copies.units.entries ≡ [] }
     ensures { HasServed (RanOn ⟦<Tables<S> as Books>⟧ books result.1)
         (¬ ⟦<Tables<S> as Books>⟧.is_honest result.1) service
-        (I.remaining inlet.old) (I.remaining inlet.new)
-        (O.written outlet.old) (O.written outlet.new) result.0 }
+        (streams_of I.Inlet O.Outlet O.Write E.Write (inlet.old, outlet.old, errors.old) (inlet.new, outlet.new, errors.new))
+        result.0 }
 {
     let mirror = Mirror::new(rt.alloc(), copies, books);
     let (status, left) = serve_over(rt, mirror, service, inlet, outlet, errors);
@@ -340,7 +359,7 @@ fn serve_at_hand<S: Alter + Drop, I: Inlet, O: Outlet + Write, E: Write>(
 }
 
 /// Serves a port or the streams over these books, with rows at hand if there is memory for them, and gives the status
-/// and the books after it.
+/// and the books after it. If there is none, standard error says so first.
 fn serve_books<S: Alter + Drop, I: Inlet, O: Outlet + Write, E: Write>(
     rt: &HostRuntime,
     books: Tables<S>,
@@ -349,10 +368,11 @@ fn serve_books<S: Alter + Drop, I: Inlet, O: Outlet + Write, E: Write>(
     outlet: &mut O,
     errors: &mut E,
 ) -> (ExitStatus, Tables<S>)
-    ensures { HasServed (RanOn ⟦<Tables<S> as Books>⟧ books result.1)
-        (¬ ⟦<Tables<S> as Books>⟧.is_honest result.1) service
-        (I.remaining inlet.old) (I.remaining inlet.new)
-        (O.written outlet.old) (O.written outlet.new) result.0 }
+    ensures { let s = streams_of I.Inlet O.Outlet O.Write E.Write (inlet.old, outlet.old, errors.old)
+        (inlet.new, outlet.new, errors.new) in
+        (first : Bytes) × IsSaid s.lines.reported first statuses.no_rows_text
+        × HasServed (RanOn ⟦<Tables<S> as Books>⟧ books result.1) (¬ ⟦<Tables<S> as Books>⟧.is_honest result.1) service
+        (within s first s.lines.reported_after) result.0 }
 {
     match Copies::new(rt.alloc(), MAX_ROWS_AT_HAND) {
         Ok(copies) => serve_at_hand(rt, copies, books, service, inlet, outlet, errors),
@@ -372,9 +392,9 @@ fn serve_memory<I: Inlet, O: Outlet + Write, E: Write>(
     outlet: &mut O,
     errors: &mut E,
 ) -> ExitStatus
-    ensures { let s = streams_of I.Inlet O.Outlet inlet.old inlet.new outlet.old outlet.new in
-        IsUnserved s result
-        ⊎ IsServed (AreAnsweredBy (empty_world admin)) ⊥ service s result }
+    ensures { IsDoneInMemory admin service
+        (streams_of I.Inlet O.Outlet O.Write E.Write (inlet.old, outlet.old, errors.old) (inlet.new, outlet.new, errors.new))
+        result }
 {
     match in_memory(rt.alloc(), admin) {
         Ok(books) => {
@@ -387,12 +407,13 @@ fn serve_memory<I: Inlet, O: Outlet + Write, E: Write>(
 
 /// Closes the files that serving left, and says if the log stays beside the file. Where it does not, the file alone
 /// holds what a crash could leave before.
-fn close_and_say<D: Disk + Drop, N: Disk + Drop>(
+fn close_and_say<D: Disk + Drop, N: Disk + Drop, E: Write>(
     store: FileStore<D>,
-    errors: &mut impl Write,
+    errors: &mut E,
 ) -> Left<D, N>
     requires { IsClean (view store) → IsWhole store }
-    ensures { IsClosing store result }
+    ensures closed { IsClosing store result }
+    ensures said { IsSaid (E.contents errors.old) (E.contents errors.new) (closing_text result) }
 {
     match close_left(store) {
         Ok(files) => Left::Closed(files),
@@ -413,23 +434,13 @@ fn serve_kept<D: Disk + Drop, N: Disk + Drop, I: Inlet, O: Outlet + Write, E: Wr
     outlet: &mut O,
     errors: &mut E,
 ) -> (ExitStatus, Left<D, N>)
-    ensures { FilesServed (IsAtHand (books_state ⟦<Tables<FileStore<D>> as Books>⟧ books)) service
-        (streams_of I.Inlet O.Outlet inlet.old inlet.new outlet.old outlet.new)
+    ensures { (admin : Name) → BooksServed (books_state ⟦<Tables<FileStore<D>> as Books>⟧ books) admin service
+        (streams_of I.Inlet O.Outlet O.Write E.Write (inlet.old, outlet.old, errors.old) (inlet.new, outlet.new, errors.new))
         result.0 result.1 }
 {
     let (status, served) = serve_books(rt, books, service, inlet, outlet, errors);
     let left = close_and_say(leave(served), errors);
     (status, left)
-}
-
-/// What is left of files of which no books were opened.
-fn refused<D: Disk, N: Disk>(rest: Option<Leftover<D>>) -> Left<D, N>
-    ensures { result ≡ left_of rest }
-{
-    match rest {
-        None => Left::Nothing,
-        Some(rest) => Left::Refused(rest),
-    }
 }
 
 /// Serves the books of a file, and gives the status and what is left of the file. Where it held the rows of a world,
@@ -447,15 +458,15 @@ pub fn serve_file<F: Start + Located, I: Inlet, O: Outlet + Write, E: Write>(
     errors: &mut E,
     start: F,
 ) -> (ExitStatus, Left<FileFrom<F>, File>)
-    ensures { let place = place_of F.Located.path (image_at F.Start) in
-        let s = streams_of I.Inlet O.Outlet inlet.old inlet.new outlet.old outlet.new in
-        (IsUnserved s result.0 × IsRefusal (λ files. IsFresh true files.log × IsFresh false files.db)
-        place path.now result.1)
-        ⊎ FilesServed (Begins place path.now admin) service s result.0 result.1 }
+    ensures { IsDoneOnFile
+        (place_of F.Located.path (image_at F.Start) (λ files. IsFresh true files.log × IsFresh false files.db))
+        path.now admin service
+        (streams_of I.Inlet O.Outlet O.Write E.Write (inlet.old, outlet.old, errors.old) (inlet.new, outlet.new, errors.new))
+        result.0 result.1 }
 {
     match in_file(rt, path, admin, start) {
         Ok(books) => serve_kept(rt, books, service, inlet, outlet, errors),
-        Err((fault, rest)) => (report_unopened(errors, &fault), refused(rest)),
+        Err((fault, left)) => (report_unopened(errors, &fault), left),
     }
 }
 
@@ -470,9 +481,10 @@ fn serve<F: Start + Located, I: Inlet, O: Outlet + Write, E: Write>(
     errors: &mut E,
     start: F,
 ) -> (ExitStatus, Left<FileFrom<F>, File>)
-    ensures { IsDone (λ files. IsFresh true files.log × IsFresh false files.db) ⟦<File as Disk>⟧
-        (place_of F.Located.path (image_at F.Start)) admin (Task.Serve db service)
-        (streams_of I.Inlet O.Outlet inlet.old inlet.new outlet.old outlet.new)
+    ensures { IsDone ⟦<File as Disk>⟧
+        (place_of F.Located.path (image_at F.Start) (λ files. IsFresh true files.log × IsFresh false files.db))
+        admin (Task.Serve db service)
+        (streams_of I.Inlet O.Outlet O.Write E.Write (inlet.old, outlet.old, errors.old) (inlet.new, outlet.new, errors.new))
         result.0 result.1 }
 {
     match db {
@@ -494,12 +506,14 @@ fn serve<F: Start + Located, I: Inlet, O: Outlet + Write, E: Write>(
 }
 
 /// Says whether the older file was migrated, and gives the status.
-fn report_migration<T>(
-    output: &mut impl Write,
-    errors: &mut impl Write,
+fn report_migration<T, W: Write, E: Write>(
+    output: &mut W,
+    errors: &mut E,
     made: &Result<T, StoreFault>,
 ) -> ExitStatus
-    ensures { result ≡ statuses.status_of_migration made.now }
+    ensures status { result ≡ statuses.status_of_migration made.now }
+    ensures printed { IsSaid (W.contents output.old) (W.contents output.new) (statuses.migrated_text made.now) }
+    ensures said { IsSaid (E.contents errors.old) (E.contents errors.new) (statuses.unmigrated_text made.now) }
 {
     match made {
         Ok(_) => {
@@ -511,16 +525,19 @@ fn report_migration<T>(
 }
 
 /// Migrates an older file to a new one, and gives the status and what is left of both.
-fn migrate_and_say<F: Start + Located>(
+fn migrate_and_say<F: Start + Located, W: Write, E: Write>(
     rt: &HostRuntime,
     admin: Person,
     old: &str,
     new: &str,
-    output: &mut impl Write,
-    errors: &mut impl Write,
+    output: &mut W,
+    errors: &mut E,
     start: F,
 ) -> (ExitStatus, Left<FileFrom<F>, File>)
-    ensures { IsMigration ⟦<File as Disk>⟧ (place_of F.Located.path (image_at F.Start)) old.now admin
+    ensures { IsMigration ⟦<File as Disk>⟧
+        (place_of F.Located.path (image_at F.Start) (λ files. IsFresh true files.log × IsFresh false files.db))
+        old.now admin
+        (lines_of W.Write E.Write (output.old, errors.old) (output.new, errors.new))
         result.0 result.1 }
 {
     let (old, made) = migrate_file(rt, old, new, admin, start);
@@ -537,9 +554,10 @@ fn run<F: Start + Located, I: Inlet, O: Outlet + Write, E: Write>(
     errors: &mut E,
     start: F,
 ) -> (ExitStatus, Left<FileFrom<F>, File>)
-    ensures { IsDone (λ files. IsFresh true files.log × IsFresh false files.db) ⟦<File as Disk>⟧
-        (place_of F.Located.path (image_at F.Start)) line.admin line.task
-        (streams_of I.Inlet O.Outlet inlet.old inlet.new outlet.old outlet.new)
+    ensures { IsDone ⟦<File as Disk>⟧
+        (place_of F.Located.path (image_at F.Start) (λ files. IsFresh true files.log × IsFresh false files.db))
+        line.admin line.task
+        (streams_of I.Inlet O.Outlet O.Write E.Write (inlet.old, outlet.old, errors.old) (inlet.new, outlet.new, errors.new))
         result.0 result.1 }
 {
     let Line { admin, task } = line;
@@ -552,12 +570,14 @@ fn run<F: Start + Located, I: Inlet, O: Outlet + Write, E: Write>(
 }
 
 /// Prints why the command line is refused, or the help that it asks for, and returns the status.
-fn report_line_error(
-    output: &mut impl Write,
-    errors: &mut impl Write,
+fn report_line_error<W: Write, E: Write>(
+    output: &mut W,
+    errors: &mut E,
     error: &LineError,
 ) -> ExitStatus
-    ensures { result ≡ statuses.status_of_line error.now }
+    ensures status { result ≡ statuses.status_of_line error.now }
+    ensures printed { IsSaid (W.contents output.old) (W.contents output.new) (statuses.help_text error.now) }
+    ensures said { IsSaid (E.contents errors.old) (E.contents errors.new) (statuses.refusal_text error.now) }
 {
     match error {
         LineError::Text { text, is_error } => {
@@ -593,9 +613,10 @@ fn obey<S: AsStr, F: Start + Located, I: Inlet, O: Outlet + Write, E: Write>(
     ensures { (line : Result Line LineError)
         × IsReadAs ⟦<u16 as FromStr>⟧.from_str_gives ⟦<u64 as FromStr>⟧.from_str_gives
         (map S.text words.now) line
-        × IsObeyed (λ files. IsFresh true files.log × IsFresh false files.db) ⟦<File as Disk>⟧
-        (place_of F.Located.path (image_at F.Start)) line
-        (streams_of I.Inlet O.Outlet inlet.old inlet.new outlet.old outlet.new)
+        × IsObeyed ⟦<File as Disk>⟧
+        (place_of F.Located.path (image_at F.Start) (λ files. IsFresh true files.log × IsFresh false files.db))
+        line
+        (streams_of I.Inlet O.Outlet O.Write E.Write (inlet.old, outlet.old, errors.old) (inlet.new, outlet.new, errors.new))
         result.0 result.1 }
 {
     match line_of(rt.alloc(), words) {
@@ -623,9 +644,10 @@ pub fn command<S: AsStr, F: Start + Located, I: Inlet, O: Outlet + Write, E: Wri
     start: F,
 ) -> (u8, Left<FileFrom<F>, File>)
     ensures { IsKept ⟦<u16 as FromStr>⟧.from_str_gives ⟦<u64 as FromStr>⟧.from_str_gives
-        (λ files. IsFresh true files.log × IsFresh false files.db) ⟦<File as Disk>⟧
-        (place_of F.Located.path (image_at F.Start)) (map S.text words.now)
-        (streams_of I.Inlet O.Outlet inlet.old inlet.new outlet.old outlet.new)
+        ⟦<File as Disk>⟧
+        (place_of F.Located.path (image_at F.Start) (λ files. IsFresh true files.log × IsFresh false files.db))
+        (map S.text words.now)
+        (streams_of I.Inlet O.Outlet O.Write E.Write (inlet.old, outlet.old, errors.old) (inlet.new, outlet.new, errors.new))
         result.0 result.1 }
 {
     let (status, left) = obey(rt, words, inlet, outlet, errors, start);

@@ -1,8 +1,8 @@
 //! Books that a file keeps.
 
 ghost use Rattle.std.specs.Prelude.{◌≡◌, false, true, IsTrue, IfErr, IfOk, IfSome};
-ghost use Rattle.sqlite.specs.{Effect.{Database}, Files.{file_state, IsBlankAs, IsCleanLeft, IsOpened, LeavesFiles}, Opening.{is_open_error}, Start.{FindsIn}};
-ghost use Rattle.sqlite.specs.{State.{HasCleanDisk}, declared.error.Error.{Error as EngineError}};
+ghost use Rattle.sqlite.specs.{Effect.{Database}, Files.{file_state, IsBlankAs, IsOpened}, Start.{FindsIn}};
+ghost use Rattle.sqlite.specs.State.{HasCleanDisk};
 ghost use Rattle.sqlite_std_file.specs.File.{IsFresh};
 ghost use Rattle.sqlite_store.specs.FileStore.{view};
 ghost use Rattle.sqlite_wal.specs.Files.{image_at};
@@ -11,14 +11,15 @@ ghost use Rattle.sqlite.specs.Held.{state};
 ghost use Rattle.plant_books.specs.{Books.{WasHonest}, Contents.{Content, no_units}};
 ghost use Rattle.plant_columns.specs.Tables.{schema_no};
 ghost use Rattle.plant_server.specs.{Crashes.{HoldWholeBooks, LeavesOnly}, Files.{HoldBooks, HoldDatabase}};
-ghost use Rattle.plant_statements.specs.{Changes.{IsHonest}, Keeping.{LeavesAlike, Represents}, Reading.{HasNoTransaction, IsHonestIn}};
-ghost use Rattle.plant_store.specs.{Opened.{KeepsIfOk, WasOffice}, Opening.{IsThisOffice}};
+ghost use Rattle.plant_server.specs.{OverFiles.{IsRefusal, IsUnopened, place_of}, Parts.{unopened}};
+ghost use Rattle.plant_statements.specs.{Changes.{IsHonest}, Keeping.{LeavesAlike, Represents}, OnlyReads.{OnlyReads}, Reading.{HasNoTransaction, IsHonestIn}};
+ghost use Rattle.plant_store.specs.{Opened.{IsAnothers, KeepsIfOk, WasOffice}, Opening.{IsThisOffice}};
 ghost use Rattle.plant_server.specs.Files as files;
 
 use crate::openings::open_at;
 use crate::places::Located;
-use crate::remains::close_whole;
-use plant_store::{StoreFault, Tables};
+use crate::remains::{Left, close_whole};
+use plant_store::{StoreFault, Tables, note_settled};
 use plant_types::{Fault, Person};
 use sqlite::{
     Alter, Connection, Error, ErrorCode, File, FileFrom, FileStore, Leftover, Start, Unknown,
@@ -46,8 +47,11 @@ fn fault_of(error: &Error) -> StoreFault
     }
 }
 
-/// Why a file was not opened, and what the engine's opening left of it and its log, where it came to these.
-pub type NotOpened<S> = (StoreFault, Option<Leftover<FileFrom<S>>>);
+/// Why no database was opened, and what the engine's opening left of the file and its log, where it came to these.
+pub type NotConnected<S> = (StoreFault, Option<Leftover<FileFrom<S>>>);
+
+/// Why no books were opened, and what is left of the file and its log.
+pub type NotOpened<S> = (StoreFault, Left<FileFrom<S>, File>);
 
 /// The database at this path. If there is none, a new one is made, with a checksum in each page in the form of SQLite's
 /// extension cksumvfs. A database that is there keeps its form. Where it is not opened, its files are not written over:
@@ -56,18 +60,16 @@ pub fn connect<S: Start + Located>(
     rt: &HostRuntime,
     path: &str,
     start: S,
-) -> Result<Connection<FileStore<FileFrom<S>>>, NotOpened<S>>
+) -> Result<Connection<FileStore<FileFrom<S>>>, NotConnected<S>>
     ensures mode { IfOk result (λ conn. HasNoTransaction conn) }
     ensures opened { IfOk result (λ conn. HasCleanDisk (file_state conn) → IsOpened conn) }
     ensures found { IfOk result (λ conn. path.now ≡ S.Located.path → HasCleanDisk (file_state conn)
         → FindsIn (image_at S.Start) (file_state conn)) }
     ensures sums { IfOk result (λ conn. path.now ≡ S.Located.path → HasCleanDisk (file_state conn)
         → IsBlankAs true (image_at S.Start) → (view conn.store).has_sums ≡ true) }
-    ensures refused { IfErr result (λ e. (error : EngineError)
-        × IsTrue (is_open_error error) × (e.0 ≡ files.fault_by_error error)) }
-    ensures left { IfErr result (λ e. IfSome e.1 (λ left. (opened : _)
-        × (path.now ≡ S.Located.path → IsFresh true opened.log × IsFresh false opened.db)
-        × (IsCleanLeft left → LeavesFiles opened left))) }
+    ensures left { IfErr result (λ e. IfSome e.1 (IsUnopened
+        (place_of S.Located.path (image_at S.Start) (λ files. IsFresh true files.log × IsFresh false files.db))
+        path.now e.0)) }
 {
     match open_at(rt, path, start) {
         Ok(conn) => Ok(conn),
@@ -75,12 +77,13 @@ pub fn connect<S: Start + Located>(
     }
 }
 
-/// The books of a database, in words of any store.
+/// The books of a database, or why it is refused as books, and the database, which was only read. In words of any
+/// store, since each call in those of two files takes the prover long.
 fn open_books<S: Alter + Drop>(
     alloc: Global,
     conn: Connection<S>,
     admin: Person,
-) -> Result<Tables<S>, StoreFault>
+) -> Result<Tables<S>, (StoreFault, Connection<S>)>
     requires { HasNoTransaction conn }
     ensures fresh { IfOk result (λ t. (t.0.1 ≡ admin) × (t.1 ≡ 0)) }
     ensures kept { KeepsIfOk S.Store conn result (λ t. t.0.0) }
@@ -88,15 +91,27 @@ fn open_books<S: Alter + Drop>(
         → IfOk result (λ t. LeavesAlike (state S.Store conn) (state S.Store t.0.0) m) }
     ensures honest { IfOk result (λ t. WasHonest (IsHonestIn S.Store) conn t.0.0) }
     ensures office { IfOk result (λ t. WasOffice S.Store conn t.0.0 schema_no admin) }
+    ensures other { IfErr result (λ e. IsAnothers S.Store conn e.1 schema_no admin e.0) }
+    ensures read { IfErr result (λ e. OnlyReads (state S.Store conn) (state S.Store e.1)) }
 {
     match Tables::open(alloc, conn, admin) {
         Ok(books) => Ok(books),
-        Err(unopened) => Err(unopened.fault),
+        Err(refused) => Err((refused.fault, refused.conn)),
+    }
+}
+
+/// What is left of files that were not opened as a database.
+fn unopened<D: Disk, N: Disk>(rest: Option<Leftover<D>>) -> Left<D, N>
+    ensures { result ≡ unopened rest }
+{
+    match rest {
+        None => Left::Nothing,
+        Some(rest) => Left::Unopened(rest),
     }
 }
 
 /// The books of a database that is there. Where its files held books with some content, that is what these hold; of any
-/// other database none are opened but where it is this person's office.
+/// other database none are opened but where it is this person's office. One that is refused was only read.
 fn open_file<S: Start + Located>(
     rt: &HostRuntime,
     path: &str,
@@ -110,14 +125,19 @@ fn open_file<S: Start + Located>(
         → IfOk result (λ books. LeavesOnly (file_state books.0.0) m) }
     ensures office { path.now ≡ S.Located.path → (db : Database) → HoldDatabase (image_at S.Start) db
         → IfOk result (λ books. IsHonest (file_state books.0.0) → IsThisOffice admin db) }
-    ensures left { IfErr result (λ e. IfSome e.1 (λ left. (opened : _)
-        × (path.now ≡ S.Located.path → IsFresh true opened.log × IsFresh false opened.db)
-        × (IsCleanLeft left → LeavesFiles opened left))) }
+    ensures left { IfErr result (λ e. IsRefusal
+        (place_of S.Located.path (image_at S.Start) (λ files. IsFresh true files.log × IsFresh false files.db))
+        path.now admin e.0 e.1) }
 {
-    let conn = connect(rt, path, start)?;
+    let conn = match connect(rt, path, start) {
+        Ok(conn) => conn,
+        Err((fault, rest)) => return Err((fault, unopened(rest))),
+    };
+    // Tells the proof what a crash leaves of it; it does nothing.
+    note_settled(&conn);
     match open_books(rt.alloc(), conn, admin) {
         Ok(books) => Ok(books),
-        Err(fault) => Err((fault, None)),
+        Err((fault, conn)) => Err((fault, Left::Refused(conn))),
     }
 }
 
@@ -283,8 +303,9 @@ fn make_if_missing(rt: &HostRuntime, path: &str, admin: &Person) -> Result<(), S
 }
 
 /// The books of the file at this path, which is made where neither it nor its log is there. A start that is cut off
-/// leaves nothing of this name or a file that the next start opens. Where a file is not opened, its error has what is
-/// left of it: it was not written over.
+/// leaves nothing of this name or a file that the next start opens. Where no books are opened, the file is as it was. It
+/// is refused as not this store where the names of the file and its log say so (an empty file, or a log alone), or it
+/// holds no database, or one that is not this administrator's office.
 pub fn in_file<S: Start + Located>(
     rt: &HostRuntime,
     path: &str,
@@ -298,12 +319,12 @@ pub fn in_file<S: Start + Located>(
         → IfOk result (λ books. LeavesOnly (file_state books.0.0) m) }
     ensures office { path.now ≡ S.Located.path → (db : Database) → HoldDatabase (image_at S.Start) db
         → IfOk result (λ books. IsHonest (file_state books.0.0) → IsThisOffice admin db) }
-    ensures left { IfErr result (λ e. IfSome e.1 (λ left. (opened : _)
-        × (path.now ≡ S.Located.path → IsFresh true opened.log × IsFresh false opened.db)
-        × (IsCleanLeft left → LeavesFiles opened left))) }
+    ensures left { IfErr result (λ e. IsRefusal
+        (place_of S.Located.path (image_at S.Start) (λ files. IsFresh true files.log × IsFresh false files.db))
+        path.now admin e.0 e.1) }
 {
     match make_if_missing(rt, path, &admin) {
         Ok(()) => open_file(rt, path, admin, start),
-        Err(fault) => Err((fault, None)),
+        Err(fault) => Err((fault, Left::Nothing)),
     }
 }

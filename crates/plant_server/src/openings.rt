@@ -1,7 +1,7 @@
 //! The engine over the files at a path, with a log that is copied into the file soon.
 
 ghost use Rattle.std.specs.Prelude.{◌≡◌, false, true, IfErr, IfOk, IfSome, IsTrue};
-ghost use Rattle.sqlite.specs.Files.{file_state, IsBlankAs, IsCleanLeft, IsOpened, LeavesFiles};
+ghost use Rattle.sqlite.specs.Files.{FailsToOpenFiles, file_state, IsBlankAs, IsCleanLeft, IsOpened, LeavesFiles};
 ghost use Rattle.sqlite.specs.{Held.{IsNew}, Opening.{is_open_error}, Start.{FindsIn}, State.{HasCleanDisk}};
 ghost use Rattle.sqlite_std_file.specs.File.{file_is_usable, IsFresh};
 ghost use Rattle.sqlite_store.specs.FileStore.{view};
@@ -83,7 +83,7 @@ pub fn open_at<S: Start + Located>(
     ensures named { IfErr result (λ e. IsTrue (is_open_error e.0)) }
     ensures left { IfErr result (λ e. IfSome e.1 (λ left. (opened : _)
         × (path.now ≡ S.Located.path → IsFresh true opened.log × IsFresh false opened.db)
-        × (IsCleanLeft left → LeavesFiles opened left))) }
+        × (IsCleanLeft left → LeavesFiles opened left × FailsToOpenFiles opened left e.0))) }
 {
     let files = match open_pair(rt, path, start) {
         Ok(files) => files,

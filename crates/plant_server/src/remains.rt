@@ -22,8 +22,10 @@ use sqlite_trees::store::Store;
 pub enum Left<D: Disk, N: Disk> {
     /// No files came to be opened.
     Nothing,
-    /// Files that were not opened as books: what the engine left of them.
-    Refused(Leftover<D>),
+    /// Files that were not opened as a database: what the engine left of them.
+    Unopened(Leftover<D>),
+    /// A database that was refused as books.
+    Refused(Connection<FileStore<D>>),
     /// Files that were served and closed, with the log copied into the file.
     Closed(Files<D>),
     /// Files that were served, where the log could not be copied.
@@ -37,7 +39,8 @@ impl<D: Disk + Drop, N: Disk + Drop> Drop for Left<D, N> {
     fn drop(self) {
         match self {
             Left::Nothing => {}
-            Left::Refused(_files) => {}
+            Left::Unopened(_files) => {}
+            Left::Refused(_database) => {}
             Left::Closed(_files) => {}
             Left::Unclosed(_store) => {}
             Left::Migrated(_old, _made) => {}

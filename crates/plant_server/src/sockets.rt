@@ -1,4 +1,5 @@
-ghost use Rattle.std.specs.Prelude.{if◌then◌else◌};
+ghost use Rattle.std.specs.Prelude.{false, if◌then◌else◌};
+ghost use Rattle.plant_connections.specs.Connections.{unseen};
 
 use plant_connections::Listener;
 use plant_wire::{Failed, FromRead, ToWrite};
@@ -29,6 +30,14 @@ fn read_out(reader: &mut impl Read) {
             Ok(0) | Err(_) => return,
             Ok(_) => {}
         }
+    }
+}
+
+/// Ends the sending side alone and reads out what is still sent.
+fn linger(mut stream: TcpStream) {
+    let wait = Some(Duration::from_secs(LAST_WAIT));
+    if stream.shutdown(Shutdown::Write).is_ok() && stream.set_read_timeout(wait).is_ok() {
+        read_out(&mut stream);
     }
 }
 
@@ -92,6 +101,10 @@ impl Listener for Port {
 
     ghost failures = { λ s. if s.failed then 1 else 0 };
 
+    ghost is_seen = { λ _. false };
+
+    ghost traffic = { λ _. unseen };
+
     fn accept(&mut self) -> Result<(FromRead<TcpStream>, ToWrite<TcpStream>), Failed> {
         if self.failed || self.accepted == u64::MAX {
             self.failed = true;
@@ -109,13 +122,16 @@ impl Listener for Port {
         }
     }
 
-    /// Ends the sending side alone and reads out what the client still sends: to close a socket with bytes unread would
-    /// break the connection, and the client might lose the answers that are on their way.
-    fn linger(requests: FromRead<TcpStream>, _answers: ToWrite<TcpStream>) {
-        let mut stream = requests.into_reader();
-        let wait = Some(Duration::from_secs(LAST_WAIT));
-        if stream.shutdown(Shutdown::Write).is_ok() && stream.set_read_timeout(wait).is_ok() {
-            read_out(&mut stream);
+    /// To linger it ends the sending side alone and reads out what the client still sends: to close a socket with bytes
+    /// unread would break the connection, and the client might lose the answers that are on their way.
+    fn close(
+        &mut self,
+        requests: FromRead<TcpStream>,
+        _answers: ToWrite<TcpStream>,
+        lingers: bool,
+    ) {
+        if lingers {
+            linger(requests.into_reader());
         }
     }
 }

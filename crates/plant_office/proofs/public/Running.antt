@@ -10,7 +10,7 @@ use Rattle.plant_office.specs.Runs.{AllChangeNothing, AreAnswers, AreIsolated, C
 use Rattle.plant_office.{specs.Served.{Holds, IsServed}, proofs.Serving.{alike_if}}
 
 -- two runs, one after the other
-joined : (w : World) (cs ds : List Call) (xs ys : List Answer) → AreAnswers w cs xs → AreIsolated w cs xs → AreAnswers (world_after w cs xs) ds ys
+pub joined : (w : World) (cs ds : List Call) (xs ys : List Answer) → AreAnswers w cs xs → AreIsolated w cs xs → AreAnswers (world_after w cs xs) ds ys
     → AreIsolated (world_after w cs xs) ds ys
     → AreAnswers w (cs ++ ds) (xs ++ ys) × AreIsolated w (cs ++ ds) (xs ++ ys)
     × (world_after (world_after w cs xs) ds ys ≡ world_after w (cs ++ ds) (xs ++ ys))
@@ -33,7 +33,7 @@ run-append w cs ds xs ys mid left first second =
     }
 
 -- what a served call says and leaves
-said_as : (v : World) (c : Call) (a : Answer) (new : Content → Type 0) → IfSaid a (λ x. IsServed v c x new) → IfSaid a (λ x. x ≡ answer v c)
+pub said_as : (v : World) (c : Call) (a : Answer) (new : Content → Type 0) → IfSaid a (λ x. IsServed v c x new) → IfSaid a (λ x. x ≡ answer v c)
 said_as v c (Replied r) new s = s.answered
 said_as v c (WasRefused r) new s = s.answered
 said_as v c (Faulted f) new s = tt

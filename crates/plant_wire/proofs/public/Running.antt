@@ -7,7 +7,7 @@ use Rattle.plant_types.specs.declared.fault.Fault.TheVariants.{Memory, Store}
 use Rattle.plant_office.specs.Answers.{CountsAnswer, IfSaid, OnFault}
 use Rattle.plant_office.specs.{Runs.{is_store, stores_in, world_after}, Served.{Holds, IsServed}}
 use Rattle.plant_office.proofs.public.Running.{run-append, run_more, run_none}
-use Rattle.plant_office.{specs.Enduring.{EnduresSettled, BooksState}, proofs.public.Enduring.{all_none, all_one, all_then}}
+use Rattle.plant_office.{specs.Enduring.{EnduresSettled, BooksState}, proofs.public.{Enduring.{all_none, all_one, all_then}, Failures.{stand_none, stand_one, stand_then}}}
 use Rattle.plant_wire.specs.Ran.{Ran}
 
 -- the count of answers Store
@@ -43,34 +43,38 @@ ran_none books count = record {
   run = λ m h w legal holds t. run_none w m books.held h holds legal;
   counted = λ room. let none : stores_in [] ≡ 0 = refl in omega (arith, none);
   endures = all_none books;
+  stands = stand_none books;
 }
 
 -- one call was
 pub ran_one : (before after : BooksState) (count counted_to : ℕ) (call : Call) (answer : Answer)
     → ((m : Content) → before.held m → (w : World) → IsLegalWorld w → Holds m w → after.honest → IfSaid answer (λ a. IsServed w call a after.held))
     → ((m : Content) → before.held m → OnFault answer (after.held m)) → CountsAnswer count counted_to answer → EnduresSettled call answer before after
-    → Ran before after count counted_to (call ∷ []) (answer ∷ [])
-ran_one before after count counted_to call answer served fault counts endured =
+    → (after.honest → before.honest) → Ran before after count counted_to (call ∷ []) (answer ∷ [])
+ran_one before after count counted_to call answer served fault counts endured honest =
     record {
       run = λ m h w legal holds t.
           run_more w [] [] call answer before.held after.held (run_none w m before.held h holds legal)
           (λ m' h' w' legal' holds'. served m' h' w' legal' holds' t) fault;
       counted = counted_one count counted_to answer counts;
       endures = all_one before after call answer endured;
+      stands = stand_one before after call answer served honest endured.endures;
     }
 
 -- what two steps did, one after the other
 pub record Joins (first second both : List Call → List Answer → Type 0) : Type 0 where
   pub join : (cs ds : List Call) (xs bs : List Answer) → first cs xs → second ds bs → both (cs ++ ds) (xs ++ bs)
 
-pub ran_joins : (before mid after : BooksState) (count between counted_to : ℕ) → (after.honest → mid.honest)
+pub ran_joins : (before mid after : BooksState) (count between counted_to : ℕ)
     → Joins (Ran before mid count between) (Ran mid after between counted_to) (Ran before after count counted_to)
-ran_joins before mid after count between counted_to honest = record {
+ran_joins before mid after count between counted_to = record {
   join = λ cs ds xs bs first second. record {
     run = λ m h w legal holds t.
-        let a = first.run m h w legal holds (honest t) in
+        let a = first.run m h w legal holds (second.stands.honest t) in
         run-append w cs ds xs bs mid.held after.held a (second.run a.after a.left_it (world_after w cs xs) a.legal a.holds t);
     counted = counted_both count between counted_to xs bs first.counted second.counted;
     endures = all_then before mid after cs ds xs bs first.endures second.endures;
+    stands = stand_then before mid after cs ds xs bs first.stands second.stands second.endures.clean
+        (λ w at tells. first.run at.content at.held w at.legal at.holds tells);
   };
 }

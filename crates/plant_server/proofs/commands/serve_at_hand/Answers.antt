@@ -7,7 +7,7 @@ returns g c =
     (ran_below _ _ _ _ _ _ _ _
     (record { held = c.new-mirror.ensures.represents; leaves = c.new-mirror.ensures.leaves; sound = c.new-mirror.ensures.sound })
     (record { held = c.into_books-below.ensures.represents; leaves = c.into_books-below.ensures.leaves; sound = c.into_books-below.ensures.sound })
-    c.into_books-below.ensures.honest c.into_books-below.ensures.clean c.new-mirror.ensures.clean
+    c.into_books-below.ensures.honest c.into_books-below.ensures.clean c.new-mirror.ensures.clean c.new-mirror.ensures.honest
     c.new-mirror.ensures.stores c.into_books-below.ensures.stores)
     _ _ (λ not honest. not (c.into_books-below.ensures.honest honest))
-    _ _ c.args.service _ _ _ c.serve_over-status.ensures
+    _ c.args.service _ c.serve_over-status.ensures

@@ -1,26 +1,40 @@
 use Rattle.std.proofs.Common.{inl, inr, refl, sym, ◌∙◌}
 use Rattle.sqlite_wal.specs.Files.{image_at}
 use Rattle.plant_office.proofs.public.Enduring.{after_none}
-use Rattle.plant_server.specs.Promise.{place_of}
-use Rattle.plant_server.proofs.Served.{files_served, refusal}
+use Rattle.plant_server.specs.OverFiles.{place_of}
+use Rattle.plant_server.proofs.{Opened.{own_admin}, Served.{files_served}}
 use Rattle.plant_server.proofs.commands.serve_file.Goals as goal
 
 pub returns-in-Ok : goal.returns-in-Ok
 returns-in-Ok g c =
     let opened = c.in-Ok.ensures in
-    inr (files_served _ _ (λ w it. record {
-      now = record {
-        content = it.content;
-        held = (opened.own.0 ∙ sym it.own, opened.kept it.here it.content it.books);
-        holds = it.holds;
-        legal = it.legal;
-      };
-      after = λ clean.
+    inr (files_served _ c.args.admin (place_of g.F.Located.path (image_at g.F.Start) _) c.args.path.now
+    (λ w it. record {
+      now = λ honest.
+          let own = own_admin it.content it.books.db c.args.admin it.books.rows (opened.office it.here it.books.db it.books.database honest) in
+          record {
+            content = it.content;
+            held = (opened.own.0 ∙ sym own, opened.kept it.here it.content it.books);
+            holds = it.holds;
+            legal = it.legal;
+          };
+      after = λ is_own clean.
           let start = opened.crash it.here it.content it.books clean in
-          after_none w it.content _ (opened.own.0 ∙ sym it.own, opened.kept it.here it.content it.books) it.holds it.legal start.0 start.1;
-    }) c.args.service _ _ _ c.serve_kept.ensures)
+          after_none w it.content _ (opened.own.0 ∙ sym (it.holds.same_admin ∙ is_own), opened.kept it.here it.content it.books) it.holds it.legal
+          start.0 start.1;
+    })
+    (λ here db held honest. opened.office here db held honest)
+    c.args.service _ _ _ (c.serve_kept.ensures c.args.admin))
 
 pub returns-in-Err : goal.returns-in-Err
-returns-in-Err g c =
-    let place = place_of g.F.Located.path (image_at g.F.Start) in
-    inl ((c.report_unopened.ensures, refl, refl), refusal _ place c.args.path.now c.in-Err.rest c.refused.result c.refused.ensures c.in-Err.ensures.left)
+returns-in-Err g c = inl (
+  c.in-Err.fault,
+  record {
+    status = c.report_unopened.ensures.status;
+    unread = refl;
+    written = refl;
+    printed = refl;
+    said = c.report_unopened.ensures.said;
+  },
+  c.in-Err.ensures.left,
+)

@@ -1,6 +1,6 @@
 use Rattle.std.proofs.Common.{Bool, le-ltb, lt-ltb, subst, sym}
 use Rattle.plant_wire.specs.Over.{RanOn}
-use Rattle.plant_server.specs.Statuses.{AreOfPort}
+use Rattle.plant_server.specs.Services.{AreOfPort}
 use Rattle.plant_server.proofs.commands.serve_port.Goals as goal
 
 pub returns-then-service-gt1 : goal.returns-then-service-gt1
@@ -10,22 +10,23 @@ returns-then-service-gt1 g c =
     (sym (lt-ltb 1 c.args.service.clients c.if-service-gt1.true))
     (record {
       result = c.serve_at_once-outcome.result;
-      reported = c.report_at_once.ensures;
-      shut = c.serve_at_once-outcome.ensures.shut;
       sent = c.serve_at_once-outcome.ensures.sent;
+      status = c.report_at_once.ensures;
+      shut = c.serve_at_once-outcome.ensures.shut;
     })
 
 pub returns : goal.returns
 returns g c =
-    let ran = c.serve_in_turn-outcome.ensures.ran in
+    let were = c.serve_in_turn-outcome.ensures.served in
     subst (λ (many : Bool). AreOfPort many (RanOn g.B.Books c.args.office.now.books c.serve_in_turn-outcome.new.office.books)
     (¬ g.B.Books.is_honest c.serve_in_turn-outcome.new.office.books) c.args.service c.report_service.result)
     (sym (le-ltb 1 c.args.service.clients c.if-service-gt1.false))
     (record {
+      exchanges = were.0;
+      each = were.1;
+      made = were.2;
       result = c.serve_in_turn-outcome.result;
-      reported = c.report_service.ensures;
+      many = were.3;
+      status = c.report_service.ensures;
       shut = c.serve_in_turn-outcome.ensures.shut;
-      calls = ran.0;
-      answers = ran.1;
-      made = ran.2;
     })

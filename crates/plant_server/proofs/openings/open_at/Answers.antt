@@ -25,4 +25,4 @@ returns-in-Ok-open_files_with-clause-sums g c here clean blank =
 
 pub returns-in-Err-open_files_with-clause-left : goal.returns-in-Err-open_files_with-clause-left
 returns-in-Err-open_files_with-clause-left g c =
-    (c.in-Ok.files, c.in-Ok.ensures.fresh, λ clean. c.in-Err-open_files_with.ensures.unharmed clean)
+    (c.in-Ok.files, c.in-Ok.ensures.fresh, λ clean. (c.in-Err-open_files_with.ensures.unharmed clean, c.in-Err-open_files_with.ensures.cause clean))

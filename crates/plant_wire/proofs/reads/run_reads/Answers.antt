@@ -54,7 +54,7 @@ returns-in-Err-WriteFailed-clause-does g c =
     let joins =
     ran_joins (books_state g.B.Books c.args.office.now.books) (books_state g.B.Books c.reads.office.books)
     (books_state g.B.Books c.answer_all.new.office.books) (g.B.Books.stores c.args.office.now.books) (g.B.Books.stores c.reads.office.books)
-    (g.B.Books.stores c.answer_all.new.office.books) c.in-Err-WriteFailed.ensures.honest in
+    (g.B.Books.stores c.answer_all.new.office.books) in
     let h = ends_part c.reads.invariant.stands (g.I.Inlet.remaining c.read_more.new.inlet) c.deref.result.now c.in-More.ensures.0 c.in-More.ensures.1
     (c.deref.ensures.value ∙ c.in-More.ensures.2) joins (g.O.Outlet.written c.answer_all.new.outlet) _ c.in-Err-WriteFailed.ensures.does in
     (h.0, h.1, h.2.0)
@@ -65,7 +65,7 @@ returns-in-Err-Fault-clause-does g c =
     let joins =
     ran_joins (books_state g.B.Books c.args.office.now.books) (books_state g.B.Books c.reads.office.books)
     (books_state g.B.Books c.answer_all.new.office.books) (g.B.Books.stores c.args.office.now.books) (g.B.Books.stores c.reads.office.books)
-    (g.B.Books.stores c.answer_all.new.office.books) c.in-Err-Fault.ensures.honest in
+    (g.B.Books.stores c.answer_all.new.office.books) in
     ends_part c.reads.invariant.stands (g.I.Inlet.remaining c.read_more.new.inlet) c.deref.result.now c.in-More.ensures.0 c.in-More.ensures.1
     (c.deref.ensures.value ∙ c.in-More.ensures.2) joins (g.O.Outlet.written c.answer_all.new.outlet) Fault h
 
@@ -75,7 +75,7 @@ returns-in-Ok-Broken-clause-does g c =
     let joins =
     ran_joins (books_state g.B.Books c.args.office.now.books) (books_state g.B.Books c.reads.office.books)
     (books_state g.B.Books c.answer_all.new.office.books) (g.B.Books.stores c.args.office.now.books) (g.B.Books.stores c.reads.office.books)
-    (g.B.Books.stores c.answer_all.new.office.books) c.in-Ok-Broken.ensures.honest in
+    (g.B.Books.stores c.answer_all.new.office.books) in
     ends_broken c.reads.invariant.stands (g.I.Inlet.remaining c.read_more.new.inlet) c.deref.result.now c.in-More.ensures.0 c.in-More.ensures.1
     (c.deref.ensures.value ∙ c.in-More.ensures.2) joins (g.I.Inlet.ended c.read_more.new.inlet) (g.O.Outlet.written c.answer_all.new.outlet) h
 
@@ -85,7 +85,7 @@ returns-in-Err-clause-does g c =
     let joins =
     ran_joins (books_state g.B.Books c.args.office.now.books) (books_state g.B.Books c.reads.office.books)
     (books_state g.B.Books c.answer_all.new.office.books) (g.B.Books.stores c.args.office.now.books) (g.B.Books.stores c.reads.office.books)
-    (g.B.Books.stores c.answer_all.new.office.books) c.in-Ok-Waits.ensures.honest in
+    (g.B.Books.stores c.answer_all.new.office.books) in
     ends_drop_fault c.reads.invariant.stands (g.I.Inlet.remaining c.read_more.new.inlet) c.deref.result.now c.in-More.ensures.0 c.in-More.ensures.1
     (c.deref.ensures.value ∙ c.in-More.ensures.2) joins (g.O.Outlet.written c.answer_all.new.outlet) _ h.2
 
@@ -95,7 +95,7 @@ reads-preserved g c =
     let joins =
     ran_joins (books_state g.B.Books c.args.office.now.books) (books_state g.B.Books c.reads.office.books)
     (books_state g.B.Books c.answer_all.new.office.books) (g.B.Books.stores c.args.office.now.books) (g.B.Books.stores c.reads.office.books)
-    (g.B.Books.stores c.answer_all.new.office.books) c.in-Ok-Waits.ensures.honest in
+    (g.B.Books.stores c.answer_all.new.office.books) in
     record {
       stands = stands_next c.reads.invariant.stands (g.I.Inlet.remaining c.read_more.new.inlet) c.deref.result.now c.in-More.ensures.0
           c.in-More.ensures.1

@@ -28,7 +28,7 @@ items-preserved g c =
     let joins =
     ran_joins (books_state g.B.Books c.args.office.now.books) (books_state g.B.Books c.items.office.books)
     (books_state g.B.Books c.answer_next.new.office.books) (g.B.Books.stores c.args.office.now.books) (g.B.Books.stores c.items.office.books)
-    (g.B.Books.stores c.answer_next.new.office.books) c.in-Ok-Took.ensures.honest in
+    (g.B.Books.stores c.answer_next.new.office.books) in
     record {
       within = omega (arith, c.bytes_from.ensures.len, c.items.invariant.within, h.1);
       serves = one_from joins c.args.bytes.now _ c.in-Ok-Took.n c.bytes_from.result.now _ _ _ c.bytes_from.ensures.value c.items.invariant.serves h.2;
@@ -41,7 +41,7 @@ returns-in-Err-clause-does g c =
     let joins =
     ran_joins (books_state g.B.Books c.args.office.now.books) (books_state g.B.Books c.items.office.books)
     (books_state g.B.Books c.answer_next.new.office.books) (g.B.Books.stores c.args.office.now.books) (g.B.Books.stores c.items.office.books)
-    (g.B.Books.stores c.answer_next.new.office.books) c.in-Err.ensures.honest in
+    (g.B.Books.stores c.answer_next.new.office.books) in
     part_from joins c.args.bytes.now _ c.bytes_from.result.now _ _ _ _ c.bytes_from.ensures.value c.items.invariant.serves c.in-Err.ensures.does
 
 pub returns-in-Ok-Waits-clause-does : goal.returns-in-Ok-Waits-clause-does
@@ -50,7 +50,7 @@ returns-in-Ok-Waits-clause-does g c =
     let joins =
     ran_joins (books_state g.B.Books c.args.office.now.books) (books_state g.B.Books c.items.office.books)
     (books_state g.B.Books c.answer_next.new.office.books) (g.B.Books.stores c.args.office.now.books) (g.B.Books.stores c.items.office.books)
-    (g.B.Books.stores c.answer_next.new.office.books) c.in-Ok-Waits.ensures.honest in
+    (g.B.Books.stores c.answer_next.new.office.books) in
     let both = waits_from joins c.args.bytes.now _ _ c.bytes_from.result.now _ _ _ c.bytes_from.ensures.value c.items.invariant.serves h in
     (c.items.invariant.within, both.0, both.1, both.2)
 
@@ -60,5 +60,5 @@ returns-in-Ok-Broken-clause-does g c =
     let joins =
     ran_joins (books_state g.B.Books c.args.office.now.books) (books_state g.B.Books c.items.office.books)
     (books_state g.B.Books c.answer_next.new.office.books) (g.B.Books.stores c.args.office.now.books) (g.B.Books.stores c.items.office.books)
-    (g.B.Books.stores c.answer_next.new.office.books) c.in-Ok-Broken.ensures.honest in
+    (g.B.Books.stores c.answer_next.new.office.books) in
     broken_from joins c.args.bytes.now _ c.bytes_from.result.now _ _ _ c.bytes_from.ensures.value c.items.invariant.serves h

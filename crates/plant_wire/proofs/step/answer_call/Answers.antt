@@ -9,7 +9,7 @@ returns-clause-does g c =
     ran_one (books_state g.B.Books c.args.office.now.books) (books_state g.B.Books c.serve-answer.new.self.books)
     (g.B.Books.stores c.args.office.now.books) (g.B.Books.stores c.serve-answer.new.self.books)
     c.args.call.now c.serve-answer.result c.serve-answer.ensures.served c.serve-answer.ensures.fault c.serve-answer.ensures.count
-    c.serve-answer.ensures.endures in
+    c.serve-answer.ensures.endures c.serve-answer.ensures.honest in
     answer_put (g.O.Outlet.written c.args.outlet.now) (g.O.Outlet.written c.put_said-put.new.outlet)
     (Ran (books_state g.B.Books c.args.office.now.books) (books_state g.B.Books c.serve-answer.new.self.books)
     (g.B.Books.stores c.args.office.now.books) (g.B.Books.stores c.serve-answer.new.self.books))

@@ -1,7 +1,7 @@
 use Rattle.std.proofs.Common.{◌≡◌, ◌+◌, ◌<◌, ◌≤◌, ◌^◌, length, take, vec_capacity}
 use Rattle.plant_books.specs.Contents.{Content}
 use Rattle.plant_model.specs.Worlds.{World, IsLegalWorld}
-use Rattle.plant_office.specs.{Enduring.{EnduresAll, books_state}, Runs.{AllChangeNothing, EachKeepsUnchanged, IsRun, stores_in}, Served.{Holds}}
+use Rattle.plant_office.specs.{Enduring.{EnduresAll, books_state}, Failures.{StandBeforeFailure}, Runs.{AllChangeNothing, EachKeepsUnchanged, IsRun, stores_in}, Served.{Holds}}
 use Rattle.plant_office.proofs.office.Office.run.Given as goal
 
 abbrev pub invariant-loop-call : goal.invariant-loop-call
@@ -17,6 +17,8 @@ invariant-loop-call g l =
           → represents l.self.books m;
       kept : EachKeepsUnchanged represents (take l.call-index l.calls) l.answers.items l.fn.self.books l.self.books;
       endures : EnduresAll (books_state g.B.Books l.fn.self.books) (books_state g.B.Books l.self.books) (take l.call-index l.calls) l.answers.items;
+      stands : StandBeforeFailure (books_state g.B.Books l.fn.self.books) (books_state g.B.Books l.self.books) (take l.call-index l.calls)
+          l.answers.items;
       long : length l.answers.items ≡ l.call-index;
       room : length l.calls ≤ vec_capacity l.answers;
       count : stores l.fn.self.books + length l.calls < 2 ^ 64 → stores l.self.books ≡ stores l.fn.self.books + stores_in l.answers.items;

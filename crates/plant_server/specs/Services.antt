@@ -1,0 +1,66 @@
+-- How one session over the streams, or the connections of a port, were served.
+use Rattle.std.specs.Prelude.{Bool, true, false, IsTrue, List, ℕ, length, nat_lt, ◌≡◌, ◌≤◌}
+use Rattle.std.specs.Prelude.{Err, None, Ok, Option, Result, Some}
+use Rattle.plant_connections.specs.Connections.{AreExchanges, Exchange, answers_over, calls_over}
+use Rattle.plant_connections.specs.declared.while_open.Stopped.{Stopped}
+use Rattle.plant_connections.specs.declared.while_open.Stopped.TheVariants as stopped
+use Rattle.plant_line.specs.declared.words.Service.{Service}
+use Rattle.plant_lines.specs.Accounts.{AreSent, Outcome}
+use Rattle.plant_lines.specs.declared.serving.Halted.TheVariants as halted
+use Rattle.plant_model.specs.declared.{call.Call.{Call}, reply.Answer.{Answer}}
+use Rattle.plant_server.specs.{Statuses.{end_text, exit_status_of, served, served_at_once}, Streams.{IsSaid, Streams}}
+use Rattle.plant_server.specs.declared.statuses.ExitStatus.{ExitStatus}
+use Rattle.plant_wire.specs.{Session.{IsSession}, declared.reads.End.{End}}
+
+-- what may be true of the office: of its calls, with their answers
+abbrev pub OfCalls : Type 1
+OfCalls = List Call → List Answer → Type 0
+
+-- One session over the input and the output, and its end, which standard error and the status say.
+pub record IsStreamed (ran : OfCalls) (s : Streams) (n : ExitStatus) : Type 0 where
+  pub end : End
+  pub ended : Bool
+  pub session : IsSession s.unread s.unread_after ended s.written s.written_after ran end
+  pub said : IsSaid s.lines.reported s.lines.reported_after (end_text end)
+  pub status : n ≡ exit_status_of end
+
+-- all of n connections were served, or fewer
+abbrev pub AreAsMany : ℕ → ℕ → Result (Unit {0}) Stopped → Type 0
+AreAsMany n count (Ok u) = count ≡ n
+AreAsMany n count (Err e) = count ≤ n
+
+-- The connections of a port were served one after the other: each is a session of its own, and the office's calls are
+-- those of all of them, in turn. That the store shut ends only a service that goes on while it is open, and then `lost`
+-- is true of the store.
+pub record AreInTurn (ran : OfCalls) (lost : Type 0) (service : Service) (n : ExitStatus) : Type 0 where
+  pub exchanges : List Exchange
+  pub each : AreExchanges exchanges
+  pub made : ran (calls_over exchanges) (answers_over exchanges)
+  pub result : Result (Unit {0}) Stopped
+  pub many : AreAsMany service.connections (length exchanges) result
+  pub status : n ≡ served result
+  pub shut : result ≡ Err stopped.Shut → IsTrue service.while_open × lost
+
+-- They were served many at once, as many in all as the service asks for, or fewer where the port failed, or where the
+-- store shut and the service goes on only while it is open: of what happened at all of them the office's calls are one
+-- list, and each was sent the answers to its own requests.
+pub record AreAtOnce (ran : OfCalls) (lost : Type 0) (service : Service) (n : ExitStatus) : Type 0 where
+  pub result : Outcome
+  pub sent : AreSent ran service.connections result
+  pub status : n ≡ served_at_once result
+  pub shut : result ≡ Err halted.Shut → IsTrue service.while_open × lost
+
+-- whether connections are served many at once
+abbrev pub is_at_once : Service → Bool
+is_at_once service = nat_lt 1 service.clients
+
+-- the connections of a port, many at once or not
+abbrev pub AreOfPort : Bool → OfCalls → Type 0 → Service → ExitStatus → Type 0
+AreOfPort false ran lost service n = AreInTurn ran lost service n
+AreOfPort true ran lost service n = AreAtOnce ran lost service n
+
+-- Over an office of which `ran` is true: one session ended, or the connections of a port were served. If a service
+-- ended because a failure had shut the store, `lost` is true of it.
+abbrev pub HasServed : OfCalls → Type 0 → Option Service → Streams → ExitStatus → Type 0
+HasServed ran lost None s n = IsStreamed ran s n
+HasServed ran lost (Some service) s n = AreOfPort (is_at_once service) ran lost service n

@@ -1,0 +1,52 @@
+-- What the program's streams held, before and after, where that is known.
+use Rattle.std.specs.{Io.KnownBytes.{Appends}, Prelude.{List, Option, ℕ, take}}
+use Rattle.std.specs.declared.io.Write as write
+use Rattle.plant_wire.specs.declared.streams.Inlet as inlet
+use Rattle.plant_wire.specs.declared.streams.Outlet as outlet
+
+-- what is known to be left to read, or to have been written
+abbrev pub Bytes : Type 0
+Bytes = Option (List ℕ)
+
+-- What the program's own lines come to: on the output, and on standard error.
+pub record Lines : Type 0 where
+  pub printed : Bytes
+  pub printed_after : Bytes
+  pub reported : Bytes
+  pub reported_after : Bytes
+
+-- What the input had left, what the output held of answers, and the program's own lines.
+pub record Streams : Type 0 where
+  pub unread : Bytes
+  pub unread_after : Bytes
+  pub written : Bytes
+  pub written_after : Bytes
+  pub lines : Lines
+
+-- of an output and standard error, before and after
+abbrev pub lines_of : {O E : Type 0} → write.Ghosts O → write.Ghosts E → O × E → O × E → Lines
+lines_of o e before after = record {
+  printed = o.contents before.0;
+  printed_after = o.contents after.0;
+  reported = e.contents before.1;
+  reported_after = e.contents after.1;
+}
+
+-- of an input, an output and standard error, before and after
+abbrev pub streams_of : {I O E : Type 0} → inlet.Ghosts I → outlet.Ghosts O → write.Ghosts O → write.Ghosts E
+    → I × O × E → I × O × E → Streams
+streams_of i o p e before after = record {
+  unread = i.remaining before.0;
+  unread_after = i.remaining after.0;
+  written = o.written before.1;
+  written_after = o.written after.1;
+  lines = lines_of p e (before.1, before.2) (after.1, after.2);
+}
+
+-- the streams, and of standard error only what came between these two moments
+abbrev pub within : Streams → Bytes → Bytes → Streams
+within s from to = record s { lines = record s.lines { reported = from; reported_after = to } }
+
+-- the text was written, or as much of it as could be
+abbrev pub IsSaid : Bytes → Bytes → List ℕ → Type 0
+IsSaid before after text = (part : ℕ) × Appends before after (take part text)
