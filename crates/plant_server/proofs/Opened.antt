@@ -1,7 +1,7 @@
 -- What a connection over files shows, where the files held a database.
 use Rattle.std.proofs.Common.{◌≡◌, ◌⊎◌, inl, inr, ap, map, refl, subst, sym, ◌∙◌, ◌∷◌, [], Some, ℕ}
 use Rattle.sqlite.specs.{Effect.{Database}, Opening.{FailsAs}, Start.{FindsIn}, State.{HasCleanDisk, IsLive, Opens, State, store_error}, Table.{Table}}
-use Rattle.sqlite.specs.declared.error.{Error.{Error, TheVariants.{SqliteFailure}}, ErrorCode.TheVariants.{NotADatabase}}
+use Rattle.sqlite.specs.declared.error.{Error.{Error, TheVariants.{SqliteFailure}}, ErrorCode.TheVariants.{DiskFull, OutOfMemory}}
 use Rattle.sqlite_schema.specs.Names.{same_name}
 use Rattle.sqlite_trees.specs.declared.error.StoreError.{StoreError}
 use Rattle.sqlite_trees.specs.declared.error.StoreError.TheVariants as store
@@ -34,22 +34,21 @@ own_admin m db admin k it =
     let mine : map (office_shown office_table) (db.trees 0) ≡ office_cells schema_no m.admin ∷ [] = ap (map (office_shown office_table)) k.office in
     let both = sym mine ∙ row in cc
 
--- files that hold a database are not refused as holding none
-pub not_refused : (kind : StoreError) (old new : ℕ) (full wanted : Type 0) → FailsAs kind old new full wanted (SqliteFailure NotADatabase)
-    → wanted → ⊥
-not_refused kind old new full wanted (inl is) w = cc
-not_refused kind old new full wanted (inr (inl (is, none))) w = none w
-not_refused kind old new full wanted (inr (inr (inl (is, more)))) w = never kind is
-  where
-    never : (kind : StoreError) → SqliteFailure NotADatabase ≡ store_error kind → ⊥
-    never store.OutOfMemory e = cc
-    never store.Io e = cc
-    never store.Corrupt e = cc
-    never store.Full e = cc
-    never store.Broken e = cc
-    never store.Unstorable e = cc
-not_refused kind old new full wanted (inr (inr (inr (is, at)))) w = cc
+-- a fault of the engine's store is not reported as not this store
+by_kind : (kind : StoreError) → fault_by_error (store_error kind) ≡ NotThisStore → ⊥
+by_kind store.OutOfMemory e = cc
+by_kind store.Io e = cc
+by_kind store.Corrupt e = cc
+by_kind store.Full e = cc
+by_kind store.Broken e = cc
+by_kind store.Unstorable e = cc
 
--- an error that is reported as not this store is that the file is not a database
-pub is_not_a_database : (error : Error) → fault_by_error error ≡ NotThisStore → error ≡ SqliteFailure NotADatabase
-is_not_a_database (SqliteFailure NotADatabase) e = refl
+-- files that are to open are not refused as not this store
+pub not_refused : (kind : StoreError) (old new : ℕ) (full wanted : Type 0) (error : Error) → FailsAs kind old new full wanted error
+    → fault_by_error error ≡ NotThisStore → wanted → ⊥
+not_refused kind old new full wanted error (inl is) e w =
+    let it : fault_by_error (SqliteFailure OutOfMemory) ≡ NotThisStore = sym (ap fault_by_error is) ∙ e in cc
+not_refused kind old new full wanted error (inr (inl (is, none))) e w = none w
+not_refused kind old new full wanted error (inr (inr (inl (is, more)))) e w = by_kind kind (sym (ap fault_by_error is) ∙ e)
+not_refused kind old new full wanted error (inr (inr (inr (is, at)))) e w =
+    let it : fault_by_error (SqliteFailure DiskFull) ≡ NotThisStore = sym (ap fault_by_error is) ∙ e in cc
