@@ -5,7 +5,7 @@ use Rattle.plant_model.specs.{Worlds.{World}, declared.{call.Call.{Call}, reply.
 use Rattle.plant_office.specs.Runs.{AreIsolated, after_answer, world_after}
 use Rattle.plant_wire.specs.Marks.{Mark, said, malformed, answers_of, calls_of, last_marks}
 use Rattle.plant_lines.specs.Accounts.{AreEachIsolated}
-use Rattle.plant_lines.specs.Events.{Event, opened, came, ended, answered, broke, stopped, left, closed, all_answers, all_calls, answers_in, calls_in}
+use Rattle.plant_lines.specs.Events.{Event, opened, came, ended, answered, broke, stopped, left, failed, closed, reported, all_answers, all_calls, answers_in, calls_in}
 
 -- as many answers as calls
 marks_even : (ms : List Mark) → length (calls_of ms) ≡ length (answers_of ms)
@@ -19,11 +19,13 @@ event_even (came k bytes) = refl
 event_even (ended k) = refl
 event_even (answered k mark) = marks_even (mark ∷ [])
 event_even (broke k cause) = refl
-event_even (stopped k last part stop) = marks_even (last_marks last)
+event_even (stopped k last) = marks_even (last_marks last)
 event_even (left k bytes) = refl
+event_even (failed k trial) = refl
 event_even (closed k end) = refl
+event_even (reported ready) = refl
 
-all_even : (es : List Event) → length (all_calls es) ≡ length (all_answers es)
+pub all_even : (es : List Event) → length (all_calls es) ≡ length (all_answers es)
 all_even [] = refl
 all_even (e ∷ es) =
     let now = event_even e in

@@ -1,16 +1,15 @@
 -- How a connection that is closed ends, by its stage.
 use Rattle.std.proofs.Common.{◌≡◌, ℕ, List, [], ◌∷◌, ◌++◌, true, Some, None, refl, sym, ap, subst, ◌∙◌}
-use Rattle.std.proofs.Common.{append_assoc, append-nil, nat_lt, map, take, drop, length, inl, inr, take-append-drop, arith}
+use Rattle.std.proofs.Common.{append-nil, nat_lt, map, take, drop, length, inl, inr, arith}
 use Rattle.plant_model.specs.declared.{call.Call.{Call}, reply.Answer.{Answer}}
 use Rattle.plant_call.specs.Front.{Parsed, StandsAtFront, whole}
-use Rattle.plant_wire.specs.Marks.{IsFaultless, Mark, Last, begun, breaking, nothing, answers_of, calls_of, marked_item, last_text}
+use Rattle.plant_wire.specs.Marks.{IsFaultless, Mark, begun, breaking, answers_of, calls_of, marked_item}
 use Rattle.plant_wire.specs.Marks.{out_of}
-use Rattle.plant_wire.specs.{Session.{EndsAs, IsIdle}, Step.{AnswersFront, ServesBroken, ServesPart, StopsFor}}
-use Rattle.plant_wire.specs.declared.{reads.End.{End}, step.Stop.{Stop}}
+use Rattle.plant_wire.specs.{Session.{EndsAs, IsIdle}, Step.{AnswersFront, ServesBroken, ServesPart}}
+use Rattle.plant_wire.specs.declared.reads.End.{End}
 use Rattle.plant_wire.specs.declared.reads.End.TheVariants.{BrokenInput, Closed, Fault, ReadFailed, WriteFailed}
-use Rattle.plant_wire.specs.declared.step.Stop.TheVariants as stops
 use Rattle.plant_lines.specs.Events.{Event, closed, answers_in, bytes_in, calls_in, cut_in, ends_in, marks_in, of_all, sent_in}
-use Rattle.plant_lines.specs.{Accounts.{EndsEach}, Stages.{Leads, Moves, Stage, end_by, end_for, fresh, served, ending, gone}}
+use Rattle.plant_lines.specs.{Accounts.{EndsEach}, Stages.{Leads, Moves, Stage, end_for, fresh, served, ending, gone}}
 use Rattle.plant_lines.proofs.Moments.{HasBroken, HasStopped, IsAt, IsBehind, sent_all, so_from}
 
 abbrev Exactly : List Call → List Answer → List Call → List Answer → Type 0
@@ -25,9 +24,9 @@ Fronts c t d b rest = AnswersFront c (Some []) (Some t) (Exactly d b) rest
 abbrev Parts : List ℕ → List ℕ → List Call → List Answer → Type 0
 Parts c t d b = ServesPart c (Some []) (Some t) (Exactly d b)
 
-take_front : (xs ys : List ℕ) → take (length xs) (xs ++ ys) ≡ xs
+pub take_front : {A : Type 0} (xs ys : List A) → take (length xs) (xs ++ ys) ≡ xs
 take_front [] ys = refl
-take_front (x ∷ xs) ys = ap (λ (l : List ℕ). x ∷ l) (take_front xs ys)
+take_front (x ∷ xs) ys = ap (λ l. x ∷ l) (take_front xs ys)
 
 -- of the parses of some requests, those of all but the last
 parses_last : (a : List ℕ) (ms : List Mark) (m : Mark) (rest : List ℕ) → Parsed a (map marked_item (ms ++ m ∷ [])) rest
@@ -40,23 +39,6 @@ parses_last a (x ∷ ms) m rest (n, front, more) =
 module _ (c h : List ℕ) (m : List Mark) (x : List ℕ) (d : List Call) (b : List Answer) (t : List ℕ) where
   fronts : (rest : List ℕ) → Parsed c (map marked_item m) rest → t ≡ out_of m → d ≡ calls_of m → b ≡ answers_of m → Fronts c t d b rest
   fronts rest parses sent calls answers = record { marks = m; parses = parses; writes = sent; served = (sym calls, sym answers) }
-
-  -- nothing was begun
-  part_none : (rest : List ℕ) → Parsed c (map marked_item m) rest → t ≡ out_of m → d ≡ calls_of m → b ≡ answers_of m
-      → (s : Parts c t d b) × (s.last ≡ nothing)
-  part_none rest parses sent calls answers = (
-    record {
-      marks = m;
-      rest = rest;
-      last = nothing;
-      part = 0;
-      parses = parses;
-      stands = tt;
-      writes = sent ∙ sym (append-nil (out_of m));
-      served = (ap calls_of (append-nil m) ∙ sym calls, ap answers_of (append-nil m) ∙ sym answers);
-    },
-    refl,
-  )
 
   -- a part of the last answer was sent
   part_last : (u p : List ℕ) → Parsed c (map marked_item m) u → d ≡ calls_of m → b ≡ answers_of m → IsBehind m t p → Parts c t d b
@@ -97,23 +79,16 @@ module _ (c h : List ℕ) (m : List Mark) (x : List ℕ) (d : List Call) (b : Li
     served = (ap calls_of (append-nil m) ∙ sym o.calls, ap answers_of (append-nil m) ∙ sym o.answers);
   }
 
-  -- the text that was cut, of the whole
-  cut_front : (before p text : List ℕ) (part : ℕ) → take part text ≡ before ++ p → before ≡ take (length before) text
-  cut_front before p text part is =
-      let all : text ≡ before ++ (p ++ drop part text) = sym (take-append-drop part text) ∙ ap (λ (l : List ℕ). l ++ drop part text) is ∙ append_assoc
-      before p (drop part text) in
-      sym (take_front before (p ++ drop part text)) ∙ ap (take (length before)) (sym all)
-
   stopped_part : (e : End) (p : List ℕ) (o : HasStopped c m x d b t e p) → (s : Parts c t d b) × (s.last ≡ o.last)
   stopped_part e p o = (
     record {
       marks = m;
       rest = o.rest;
       last = o.last;
-      part = length o.before;
+      part = 0;
       parses = o.parses;
       stands = o.stands;
-      writes = o.sent ∙ ap (λ (l : List ℕ). out_of m ++ l) (cut_front o.before p (last_text o.last) o.part (sym o.cut ∙ o.split));
+      writes = o.sent ∙ sym (append-nil (out_of m));
       served = (sym o.calls, sym o.answers);
     },
     refl,
@@ -126,10 +101,6 @@ module _ (c h : List ℕ) (m : List Mark) (x : List ℕ) (d : List Call) (b : Li
   ends_input (y ∷ ys) seen (inr stands) a =
       inr record { seen = seen; nothing_left = tt; rest = y ∷ ys; some = omega arith; waiting = stands; serves = a }
 
-  ends_stop : (last : Last) (stop : Stop) → StopsFor last stop → (s : Parts c t d b) × (s.last ≡ last) → Ended c h t d b (end_by stop)
-  ends_stop last stops.WriteFailed why s = s.0
-  ends_stop last stops.Fault why s = (s.0, subst IsFaultless (sym s.1) why)
-
   pub ends_at : (s : Stage) (k : ℕ) (how : End) → IsAt c h m x d b t s → Moves s (closed k how) gone → Ended c h t d b how
   ends_at fresh k how at is = absurd is
   ends_at (served u p) k Closed g (given, is) = absurd given
@@ -139,9 +110,7 @@ module _ (c h : List ℕ) (m : List Mark) (x : List ℕ) (d : List Call) (b : Li
     | inl all ↦ absurd (given all.0)
     | inr w ↦ part_last u p g.parses g.calls g.answers w
   ]
-  ends_at (served u p) k Fault g (given, is) =
-      let s = part_none u g.parses (sent_all m t p g.waiting given.1) g.calls g.answers in
-      (s.0, subst IsFaultless (sym s.1) tt)
+  ends_at (served u p) k Fault g (given, is) = absurd given
   ends_at (ending e p) k how (inl o) (inl (same, none), is) =
       subst (λ (end : End). Ended c h t d b end) (sym (same ∙ o.end))
       (ends_input o.rest o.seen o.idle (fronts o.rest o.parses o.sent o.calls o.answers))
@@ -150,8 +119,9 @@ module _ (c h : List ℕ) (m : List Mark) (x : List ℕ) (d : List Call) (b : Li
       subst (λ (end : End). Ended c h t d b end) (sym (same ∙ o.end)) (inl (broken_all e p o none))
   ends_at (ending e p) k how (inr (inl o)) (inr (lost, some), is) = subst (λ (end : End). Ended c h t d b end) (sym lost) (broken_part e p o)
   ends_at (ending e p) k how (inr (inr o)) (inl (same, none), is) =
-      subst (λ (end : End). Ended c h t d b end) (sym (same ∙ o.end)) (ends_stop o.last o.stop o.why (stopped_part e p o))
-  ends_at (ending e p) k how (inr (inr o)) (inr (lost, some), is) = subst (λ (end : End). Ended c h t d b end) (sym lost) (stopped_part e p o).0
+      let part = stopped_part e p o in
+      subst (λ (end : End). Ended c h t d b end) (sym (same ∙ o.end)) (part.0, subst IsFaultless (sym part.1) o.why)
+  ends_at (ending e p) k how (inr (inr o)) (inr (lost, some), is) = absurd (some o.none)
   ends_at gone k how at is = absurd is
 
 pub ends_each : (events : List Event) (last : ℕ → Stage) → ((k : ℕ) → Leads k fresh events (last k)) → EndsEach events

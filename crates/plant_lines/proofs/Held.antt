@@ -6,7 +6,7 @@ use Rattle.std.proofs.lemmas.Bool.{eqb-false}
 use Rattle.std.specs.{List.{remove}, Prelude.{IfSome}}
 use Rattle.plant_call.specs.Cut.{WaitsBelow}
 use Rattle.plant_wire.specs.declared.reads.End.{End}
-use Rattle.plant_wire.specs.declared.reads.End.TheVariants.{Fault, WriteFailed}
+use Rattle.plant_wire.specs.declared.reads.End.TheVariants.{WriteFailed}
 use Rattle.plant_lines.specs.Events.{Event, opened, closed}
 use Rattle.plant_lines.specs.Stages.{AreOpenLines, IsGivenUp, Leads, MayClose, Moves, Stage, fresh, gone, served, line_with, stage_by, stage_held}
 use Rattle.plant_lines.specs.Stages.{stage_in, stage_of}
@@ -246,26 +246,6 @@ lifted_opened count ls l ok is new k = go (nat_eq count k) refl
         stage_same k (count + 1) ls (ls ++ l ∷ []) (pushed_other ls l k (λ w. not (sym is ∙ w))) ∙ counted_other count ls k ok not in
         subst (λ (s : Stage). Leads k (stage_of k count ls) (opened count ∷ []) s) (sym stays)
         (leads_other k count (stage_of k count ls) (opened count ∷ []) (refl, tt) not)
-
--- a connection is accepted and closed again, because memory ran out
-pub lifted_refused : (count : ℕ) (ls : List Line) → AreOpenLines count ls
-    → (k : ℕ) → Leads k (stage_of k count ls) (opened count ∷ closed count Fault ∷ []) (stage_of k (count + 1) ls)
-lifted_refused count ls ok k = go (nat_eq count k) refl
-  where
-    go : (b : Bool) → nat_eq count k ≡ b → Leads k (stage_of k count ls) (opened count ∷ closed count Fault ∷ []) (stage_of k (count + 1) ls)
-    go true e =
-        let same = eqb-true count k e in
-        let before = stage_fresh_at k count ls (omega (arith, same)) in
-        let after = stage_held_at k (count + 1) ls (omega (arith, same)) ∙ ap stage_held (none_above count ls k ok (omega (arith, same))) in
-        rw (before, after) (
-          served [] [],
-          record { own = λ w. refl; other = λ n. absurd (n same) },
-          (gone, record { own = λ w. ((refl, refl), refl); other = λ n. absurd (n same) }, refl),
-        )
-    go false e =
-        let not = eqb-false count k e in
-        subst (λ (s : Stage). Leads k (stage_of k count ls) (opened count ∷ closed count Fault ∷ []) s) (sym (counted_other count ls k ok not))
-        (leads_other k count (stage_of k count ls) (opened count ∷ closed count Fault ∷ []) (refl, (refl, tt)) not)
 
 pub lines_start : (count : ℕ) (ls : List Line) → ls ≡ [] → AreOpenLines count ls
 lines_start count [] e = tt

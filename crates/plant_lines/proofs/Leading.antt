@@ -1,16 +1,20 @@
 -- Events one after another.
-use Rattle.std.proofs.Common.{arith, false, ◌≡◌, ℕ, Bool, List, [], ◌∷◌, ◌++◌, Option, Some, None, refl, sym, ap, subst, ◌∙◌, append_assoc, append-nil}
+use Rattle.std.proofs.Common.{arith, false, ◌≡◌, ℕ, Bool, List, [], ◌∷◌, ◌++◌, Option, Some, None, inl, inr, refl, sym, ap, subst, ◌∙◌, append_assoc, append-nil}
+use Rattle.std.specs.Prelude.{IfSome}
 use Rattle.std.{proofs.{KnownBytes.{Appends-nil, Appends-trans}, lemmas.Grind.{flat_map-append}}}
 use Rattle.plant_model.specs.declared.{call.Call.{Call}, reply.Answer.{Answer}}
 use Rattle.plant_books.specs.declared.books.Books as books
 use Rattle.plant_office.specs.Enduring.{books_state}
 use Rattle.plant_wire.proofs.public.Running.{ran_none, ran_joins}
 use Rattle.plant_lines.specs.Books.{AreQuiet, IsMoment, Makes, MakesEach}
-use Rattle.plant_lines.specs.Events.{AreTold, Event, Logs, Seen, Shows, all_answers, all_calls, answers_in, at_ports, calls_in, port_in, seen_by}
-use Rattle.plant_lines.specs.Stages.{Leads, Stage, stage_in, stage_of}
+use Rattle.plant_lines.specs.Events.{AreTold, Event, Logs, Seen, Shows, all_answers, all_calls, answers_in, at_ports, calls_in, failed, port_in, reading}
+use Rattle.plant_lines.specs.Events.{reported, seen_by, writing}
+use Rattle.plant_lines.specs.Stages.{Leads, Moves, Stage, fresh, gone, served, ending, stage_in, stage_of}
 use Rattle.plant_lines.specs.Happens.{AreOf, Happened, IsTurnOf, Made, Moved, Passed, Turned, Went}
 use Rattle.plant_lines.specs.Faults.{reporting}
-use Rattle.plant_lines.specs.declared.lines.Line.{Line}
+use Rattle.plant_lines.{proofs.Due.{due_none, last_then}, specs.Causes.{IsDueTo, last_of}}
+use Rattle.plant_lines.specs.declared.{lines.Line.{Line}, ports.Ready.{Ready}}
+use Rattle.plant_wire.specs.declared.reads.End.{End, TheVariants.{ReadFailed, WriteFailed}}
 use Rattle.plant_office.specs.declared.office.Faults.{Faults}
 
 pub leads_then : (k : ℕ) (s s' s'' : Stage) (es fs : List Event) → Leads k s es s' → Leads k s' fs s'' → Leads k s (es ++ fs) s''
@@ -136,8 +140,8 @@ module _ {B : Type 0} {b : books.Ghosts B} {x y : B} {s t : Seen} {n m : ℕ} {k
   pub happened_honest : Happened b x y s t n m ks ls → b.is_honest y → b.is_honest x
   happened_honest p = (each_all b x y p.events p.makes).honest
 
-module _ {B : Type 0} {b : books.Ghosts B} {x : B} {s t : Seen} {n m : ℕ} {ks ls : List Line} {comes : Bool} where
-  pub happened_passed : Passed comes s t n m ks ls → Happened b x x s t n m ks ls
+module _ {B : Type 0} {b : books.Ghosts B} {x : B} {s t : Seen} {n m : ℕ} {ks ls : List Line} {cause : Option Event → Type 0} {comes : Bool} where
+  pub happened_passed : Passed cause comes s t n m ks ls → Happened b x x s t n m ks ls
   happened_passed p = record { events = p.events; shown = p.shown; makes = each_quiet b x p.events p.quiet; leads = p.leads }
 
 -- the events of these
@@ -146,8 +150,8 @@ pub events_then : {B : Type 0} {b : books.Ghosts B} {x y z : B} {s t u : Seen} {
 unfolding happened_then
 events_then p q = refl
 
-pub events_passed : {B : Type 0} (b : books.Ghosts B) (x : B) {s t : Seen} {n m : ℕ} {ks ls : List Line} {comes : Bool} (p : Passed comes s t n m ks ls)
-    → (happened_passed {b = b} {x = x} p).events ≡ p.events
+pub events_passed : {B : Type 0} (b : books.Ghosts B) (x : B) {s t : Seen} {n m : ℕ} {ks ls : List Line}
+    {cause : Option Event → Type 0} {comes : Bool} (p : Passed cause comes s t n m ks ls) → (happened_passed {b = b} {x = x} p).events ≡ p.events
 unfolding happened_passed
 events_passed b x p = refl
 
@@ -157,35 +161,44 @@ unfolding happened_none
 events_none b x s n ls = refl
 
 -- nothing happened
-pub passed_none : (comes : Bool) (a a' : Option (List Event)) (log : Option (List ℕ)) (count : ℕ) (ls : List Line) → Logs a a' []
-    → Passed comes (seen_by a log) (seen_by a' log) count count ls ls
-passed_none comes a a' log count ls logged = record {
+pub passed_none : (cause : Option Event → Type 0) (comes : Bool) (a a' : Option (List Event)) (log : Option (List ℕ)) (count : ℕ) (ls : List Line)
+    → Logs a a' [] → Passed cause comes (seen_by a log) (seen_by a' log) count count ls ls
+passed_none cause comes a a' log count ls logged = record {
   events = [];
   quiet = tt;
   one = (0, tt);
+  due = λ before _. due_none before;
   arrives = record { one = omega arith; none = λ _. refl };
   shown = shows_untold a a' log [] logged refl;
   leads = λ k. refl;
 }
 
--- the ports were waited for
-pub happened_waited : {B : Type 0} {b : books.Ghosts B} {x y : B} {s : Seen} {n m : ℕ} {ks ls : List Line} (a a' : Option (List Event))
-    (log : Option (List ℕ)) → Happened b x y s (seen_by a log) n m ks ls → Logs a a' [] → Happened b x y s (seen_by a' log) n m ks ls
-happened_waited a a' log p logged =
-    happened_then p (happened_passed {comes = false} (record {
-      events = [];
-      quiet = tt;
-      one = (0, tt);
-      arrives = record { one = omega arith; none = λ _. refl };
-      shown = shows_untold a a' log [] logged refl;
-      leads = λ k. refl;
-    }))
+-- the ports were asked what can be done next
+reports_moves : (s : Stage) (ready : Ready) → Moves s (reported ready) s
+reports_moves fresh ready = refl
+reports_moves (served u p) ready = refl
+reports_moves (ending end p) ready = refl
+reports_moves gone ready = refl
 
-pub events_waited : {B : Type 0} {b : books.Ghosts B} {x y : B} {s : Seen} {n m : ℕ} {ks ls : List Line} (a a' : Option (List Event))
-    (log : Option (List ℕ)) (p : Happened b x y s (seen_by a log) n m ks ls) (logged : Logs a a' [])
-    → (happened_waited a a' log p logged).events ≡ p.events
-unfolding happened_waited happened_then happened_passed
-events_waited a a' log p logged = append-nil p.events
+pub reports_leads : (k : ℕ) (s : Stage) (ready : Ready) → Leads k s (reported ready ∷ []) s
+reports_leads k s ready = (s, record { own = λ _. reports_moves s ready; other = λ _. refl }, refl)
+
+pub happened_asked : {B : Type 0} {b : books.Ghosts B} {x y : B} {s : Seen} {n m : ℕ} {ks ls : List Line} (a a' : Option (List Event))
+    (log : Option (List ℕ)) (ready : Ready) → Happened b x y s (seen_by a log) n m ks ls → Logs a a' (reported ready ∷ [])
+    → Happened b x y s (seen_by a' log) n m ks ls
+happened_asked {b = b} {y = y} {m = m} {ls = ls} a a' log ready p logged =
+    happened_then p (record {
+      events = reported ready ∷ [];
+      shown = shows_untold a a' log (reported ready ∷ []) logged ([], [], refl, refl, refl);
+      makes = each_quiet b y (reported ready ∷ []) (refl, refl, tt);
+      leads = λ k. reports_leads k (stage_of k m ls) ready;
+    })
+
+pub events_asked : {B : Type 0} {b : books.Ghosts B} {x y : B} {s : Seen} {n m : ℕ} {ks ls : List Line} (a a' : Option (List Event))
+    (log : Option (List ℕ)) (ready : Ready) (p : Happened b x y s (seen_by a log) n m ks ls) (logged : Logs a a' (reported ready ∷ []))
+    → (happened_asked a a' log ready p logged).events ≡ p.events ++ reported ready ∷ []
+unfolding happened_asked happened_then
+events_asked a a' log ready p logged = refl
 
 -- one line
 pub went_then : (es fs : List Event) (l m n : Line) → Went es l m → Went fs m n → Went (es ++ fs) l n
@@ -200,10 +213,12 @@ went_then es fs l m n p q = record {
 
 module _ {B : Type 0} (b : books.Ghosts B) where
   -- a read of the line, an answer and a write
-  pub turned_all : (x y : B) (s t u : Option (List Event)) (l m n o : Line) (reads serves : Bool) (p : Moved s t l m reads)
-      (made : Made b x y m n serves) (q : Moved t u n o false) → IsTurnOf l reads serves (p.events ++ (made.events ++ q.events))
-      → Turned b x y s u l o reads serves
-  turned_all x y s t u l m n o reads serves p made q one = record {
+  pub turned_all : (x y : B) (s t u : Option (List Event)) (l m n o : Line) (reads serves here goes_on : Bool) (over : Option End)
+      (p : Moved s t l m reads reading here) (made : Made b x y m n serves) (q : Moved t u n o false writing goes_on)
+      → IsTurnOf l reads serves (p.events ++ (made.events ++ q.events))
+      → IfSome over (λ end. IsDueTo o end (p.events ++ (made.events ++ q.events)))
+      → Turned b x y s u l o reads serves over
+  turned_all x y s t u l m n o reads serves here goes_on over p made q one why = record {
     events = p.events ++ (made.events ++ q.events);
     logged = logged_then s t u p.events (made.events ++ q.events) p.logged
         (logged_then t t u made.events q.events (subst (λ (es : List Event). Logs t t es) (sym made.unseen) (logs_none t)) q.logged);
@@ -211,26 +226,36 @@ module _ {B : Type 0} (b : books.Ghosts B) where
         (each_then b x y y made.events q.events made.makes (each_quiet b y q.events q.quiet));
     went = went_then p.events (made.events ++ q.events) l m o p.went (went_then made.events q.events m n o made.went q.went);
     one = one;
+    why = why;
   }
 
   -- a read that failed
-  pub turned_short : (x : B) (s t : Option (List Event)) (l m : Line) (reads serves : Bool) (p : Moved s t l m reads) → IsTurnOf l reads serves p.events
-      → Turned b x x s t l m reads serves
+  pub turned_short : (x : B) (s t : Option (List Event)) (l m : Line) (reads serves : Bool) (p : Moved s t l m reads reading false)
+      → IsTurnOf l reads serves p.events → Turned b x x s t l m reads serves (Some ReadFailed)
   turned_short x s t l m reads serves p one = record {
     events = p.events;
     logged = p.logged;
     makes = each_quiet b x p.events p.quiet;
     went = p.went;
     one = one;
+    why = inr (λ before. inl (p.lost refl before ∙ ap (λ k. Some (failed k reading)) (sym p.went.same)));
   }
 
+  -- a write that failed
+  pub lost_write : (x y : B) (s t u : Option (List Event)) (l m n o : Line) (reads serves here : Bool) (p : Moved s t l m reads reading here)
+      (made : Made b x y m n serves) (q : Moved t u n o false writing false) → IsDueTo o WriteFailed (p.events ++ (made.events ++ q.events))
+  lost_write x y s t u l m n o reads serves here p made q =
+      inr (λ before. inl (last_then before p.events (made.events ++ q.events) ∙ last_then (last_of before p.events) made.events q.events
+      ∙ q.lost refl (last_of (last_of before p.events) made.events) ∙ ap (λ k. Some (failed k writing)) (sym q.went.same)))
+
   -- faults of the line were reported
-  pub turned_reported : (x y : B) (s t : Option (List Event)) (l m : Line) (faults : Faults) (reads serves : Bool) → Turned b x y s t l m reads serves
-      → Turned b x y s t l (reporting m faults) reads serves
-  turned_reported x y s t l m faults reads serves p = record {
+  pub turned_reported : (x y : B) (s t : Option (List Event)) (l m : Line) (faults : Faults) (reads serves : Bool) (over : Option End)
+      → Turned b x y s t l m reads serves over → Turned b x y s t l (reporting m faults) reads serves over
+  turned_reported x y s t l m faults reads serves over p = record {
     events = p.events;
     logged = p.logged;
     makes = p.makes;
     went = record { own = p.went.own; same = p.went.same; untold = p.went.untold; leads = p.went.leads };
     one = p.one;
+    why = p.why;
   }

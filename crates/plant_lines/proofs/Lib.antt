@@ -1,4 +1,5 @@
 pub mod public
+mod Due
 mod Leading
 mod Waited
 mod Paced
@@ -12,3 +13,5 @@ mod Whole
 mod Texts
 mod Waits
 mod Apart
+mod Few
+mod Ordered

@@ -1,6 +1,6 @@
 -- From the stages of a connection, what it was sent at every moment.
 use Rattle.std.proofs.Common.{◌≡◌, ◌⊎◌, ℕ, List, [], ◌∷◌, ◌++◌, Bool, true, false, refl, sym, ap, subst, ◌∙◌}
-use Rattle.std.proofs.Common.{append_assoc, append-nil, nat_eq, nat_lt, map, take, drop, length, inl, inr, eq-eqb, eqb-true, lt-ltb}
+use Rattle.std.proofs.Common.{append_assoc, append-nil, nat_eq, nat_lt, map, drop, length, inl, inr, eq-eqb, eqb-true, lt-ltb}
 use Rattle.std.proofs.Common.{length-append, arith}
 use Rattle.std.specs.List.{flat_map}
 use Rattle.std.proofs.lemmas.{Bool.{eqb-false}, Grind.{flat_map-append}, List.{map-append, Elements.{filter_map-append}}}
@@ -8,12 +8,12 @@ use Rattle.plant_model.specs.declared.{call.Call.{Call}, reply.Answer.{Answer}}
 use Rattle.plant_call.{specs.Front.{Item, Parsed, StandsAtFront, body_length, broken, item_of}, specs.declared.causes.Cause.{Cause}}
 use Rattle.plant_call.proofs.public.Cuts.{Parses-append}
 use Rattle.plant_wire.specs.Causes.{cause_text}
-use Rattle.plant_wire.specs.Marks.{Mark, Last, marked_answer, answers_of, call_in, calls_of, marked_item, last_marks, last_text, mark_text, out_of}
-use Rattle.plant_wire.specs.{Session.{IsIdle}, Step.{StandsLast, StopsFor}}
-use Rattle.plant_wire.specs.declared.{reads.End.{End, TheVariants.{BrokenInput}}, step.Stop.{Stop}}
-use Rattle.plant_lines.specs.Events.{Event, opened, came, ended, answered, broke, stopped, left, closed, who, of, of_all, bytes_in, ends_in, marks_in}
-use Rattle.plant_lines.specs.Events.{cut_in, sent_in, calls_in, answers_in}
-use Rattle.plant_lines.specs.Stages.{Goes, Leads, Moves, Stage, end_by, end_for, fresh, served, ending, gone}
+use Rattle.plant_wire.specs.Marks.{IsFaultless, Mark, Last, marked_answer, answers_of, call_in, calls_of, marked_item, last_marks, mark_text, out_of}
+use Rattle.plant_wire.specs.{Session.{IsIdle}, Step.{StandsLast}}
+use Rattle.plant_wire.specs.declared.reads.End.{End, TheVariants.{BrokenInput, Fault}}
+use Rattle.plant_lines.specs.Events.{Event, opened, came, ended, answered, broke, stopped, left, failed, closed, reported, who, of, of_all, bytes_in, ends_in, marks_in}
+use Rattle.plant_lines.specs.Events.{came_to, cut_of, marks_of, sent_to, cut_in, sent_in, calls_in, answers_in}
+use Rattle.plant_lines.specs.Stages.{Goes, Leads, Moves, Stage, end_for, fresh, served, ending, gone}
 use Rattle.plant_lines.specs.Accounts.{AreOfOne, IsAnsweredFor, AtEachMoment}
 
 -- Of a connection: c is what came, h whether the end did, m the requests that were answered, x the text that was cut, d and b the
@@ -64,23 +64,20 @@ pub record HasBroken (c : List ℕ) (m : List Mark) (x : List ℕ) (d : List Cal
   pub sent : t ≡ out_of m ++ before
   pub end : e ≡ BrokenInput
 
--- an answer stopped
+-- memory ran out
 pub record HasStopped (c : List ℕ) (m : List Mark) (x : List ℕ) (d : List Call) (b : List Answer) (t : List ℕ) (e : End)
     (p : List ℕ) : Type 0 where
   pub rest : List ℕ
   pub last : Last
-  pub part : ℕ
-  pub stop : Stop
-  pub before : List ℕ
   pub parses : Parsed c (map marked_item m) rest
   pub stands : StandsLast rest last
-  pub why : StopsFor last stop
-  pub cut : x ≡ take part (last_text last)
-  pub split : x ≡ before ++ p
+  pub why : IsFaultless last
+  pub uncut : x ≡ []
   pub calls : d ≡ calls_of (m ++ last_marks last)
   pub answers : b ≡ answers_of (m ++ last_marks last)
-  pub sent : t ≡ out_of m ++ before
-  pub end : e ≡ end_by stop
+  pub none : p ≡ []
+  pub sent : t ≡ out_of m
+  pub end : e ≡ Fault
 
 abbrev pub IsOver : List ℕ → List ℕ → List Mark → List ℕ → List Call → List Answer → List ℕ → End → List ℕ → Type 0
 IsOver c h m x d b t e p = HasEnded c h m x d b t e p ⊎ (HasBroken c m x d b t e p ⊎ HasStopped c m x d b t e p)
@@ -173,22 +170,21 @@ over_left c h m x d b t e p bytes rest (inr (inl o)) split = inr (inl record {
   sent = sent_more (out_of m) t o.before bytes o.sent;
   end = o.end;
 })
-over_left c h m x d b t e p bytes rest (inr (inr o)) split = inr (inr record {
-  rest = o.rest;
-  last = o.last;
-  part = o.part;
-  stop = o.stop;
-  before = o.before ++ bytes;
-  parses = o.parses;
-  stands = o.stands;
-  why = o.why;
-  cut = o.cut;
-  split = split_more x o.before p bytes rest o.split split;
-  calls = o.calls;
-  answers = o.answers;
-  sent = sent_more (out_of m) t o.before bytes o.sent;
-  end = o.end;
-})
+over_left c h m x d b t e p bytes rest (inr (inr o)) split =
+    let n = none_left bytes rest (sym o.none ∙ split) in
+    inr (inr record {
+      rest = o.rest;
+      last = o.last;
+      parses = o.parses;
+      stands = o.stands;
+      why = o.why;
+      uncut = o.uncut;
+      calls = o.calls;
+      answers = o.answers;
+      none = n.1;
+      sent = ap (λ (l : List ℕ). t ++ l) n.0 ∙ append-nil t ∙ o.sent;
+      end = o.end;
+    })
 
 -- what was sent, and the rest of one text
 texts_cut : (o x before p t : List ℕ) → x ≡ before ++ p → t ≡ o ++ before → o ++ x ≡ t ++ p
@@ -223,15 +219,13 @@ account_over c h m x d b t e p (inr (inl o)) =
       texts = texts_cut (out_of m) x o.before p t o.split o.sent;
       one = (o.before, inl o.split);
     }
-account_over c h m x d b t e p (inr (inr o)) =
-    record {
-      rest =
-          o.rest;
-      pending = p;
-      parses = o.parses;
-      texts = texts_cut (out_of m) x o.before p t o.split o.sent;
-      one = (o.before, inl o.split);
-    }
+account_over c h m x d b t e p (inr (inr o)) = record {
+  rest = o.rest;
+  pending = p;
+  parses = o.parses;
+  texts = texts_whole (out_of m) x t p o.uncut o.none o.sent;
+  one = ([], inl (o.uncut ∙ sym o.none));
+}
 
 account_going : (c : List ℕ) (m : List Mark) (x : List ℕ) (d : List Call) (b : List Answer) (t u p : List ℕ) → IsGoing c m x d b t u p
     → HasAccount c m x t
@@ -307,22 +301,19 @@ moves (served u p) s' (broke k cause) c h m x d b t g (empty, front, is) =
       sent = sent_all m t p g.waiting empty ∙ sym (append-nil (out_of m));
       end = refl;
     }))
-moves (served u p) s' (stopped k last part stop) c h m x d b t g (empty, stands, why, is) =
-    rw (is, append-nil c, append-nil m, append-nil t) (inr (inr record {
+moves (served u p) s' (stopped k last) c h m x d b t g (empty, stands, why, is) =
+    rw (is, append-nil c, append-nil m, append-nil x, append-nil t) (inr (inr record {
       rest = u;
       last = last;
-      part = part;
-      stop = stop;
-      before = [];
       parses = g.parses;
       stands = stands;
       why = why;
-      cut = ap (λ (l : List ℕ). l ++ take part (last_text last)) g.uncut;
-      split = ap (λ (l : List ℕ). l ++ take part (last_text last)) g.uncut;
+      uncut = g.uncut;
       calls = ap (λ (l : List Call). l ++ calls_of (last_marks last)) g.calls ∙ sym (filter_map-append call_in m (last_marks last));
       answers = ap (λ (l : List Answer). l ++ answers_of (last_marks last)) g.answers
           ∙ sym (filter_map-append marked_answer m (last_marks last));
-      sent = sent_all m t p g.waiting empty ∙ sym (append-nil (out_of m));
+      none = refl;
+      sent = sent_all m t p g.waiting empty;
       end = refl;
     }))
 moves (served u p) s' (left k bytes) c h m x d b t g (rest, split, is) =
@@ -335,6 +326,17 @@ moves (served u p) s' (left k bytes) c h m x d b t g (rest, split, is) =
     }
 moves (ending e p) s' (left k bytes) c h m x d b t o (rest, split, is) =
     rw (is, append-nil c, append-nil h, append-nil m, append-nil x, append-nil d, append-nil b) (over_left c h m x d b t e p bytes rest o split)
+moves (served u p) s' (failed k trial) c h m x d b t g is =
+    rw (is, append-nil c, append-nil m, append-nil x, append-nil d, append-nil b, append-nil t) g
+moves (ending e p) s' (failed k trial) c h m x d b t o is =
+    rw (is, append-nil c, append-nil h, append-nil m, append-nil x, append-nil d, append-nil b, append-nil t) o
+moves fresh s' (reported ready) c h m x d b t at is =
+    rw (is, append-nil c, append-nil m, append-nil x, append-nil d, append-nil b, append-nil t) at
+moves (served u p) s' (reported ready) c h m x d b t g is =
+    rw (is, append-nil c, append-nil m, append-nil x, append-nil d, append-nil b, append-nil t) g
+moves (ending e p) s' (reported ready) c h m x d b t o is =
+    rw (is, append-nil c, append-nil h, append-nil m, append-nil x, append-nil d, append-nil b, append-nil t) o
+moves gone s' (reported ready) c h m x d b t a is = rw (is, append-nil c, append-nil m, append-nil x, append-nil t) a
 moves (served u p) s' (closed k how) c h m x d b t g (given, is) =
     rw (is, append-nil c, append-nil m, append-nil x, append-nil t) (account_going c m x d b t u p g)
 moves (ending e p) s' (closed k how) c h m x d b t o (may, is) =
@@ -343,8 +345,9 @@ moves fresh s' (came k y) c h m x d b t at is = absurd is
 moves fresh s' (ended k) c h m x d b t at is = absurd is
 moves fresh s' (answered k mark) c h m x d b t at is = absurd is
 moves fresh s' (broke k cause) c h m x d b t at is = absurd is
-moves fresh s' (stopped k last part stop) c h m x d b t at is = absurd is
+moves fresh s' (stopped k last) c h m x d b t at is = absurd is
 moves fresh s' (left k y) c h m x d b t at is = absurd is
+moves fresh s' (failed k trial) c h m x d b t at is = absurd is
 moves fresh s' (closed k how) c h m x d b t at is = absurd is
 moves (served u p) s' (opened k) c h m x d b t at is = absurd is
 moves (ending e p) s' (opened k) c h m x d b t at is = absurd is
@@ -352,14 +355,15 @@ moves (ending e p) s' (came k y) c h m x d b t at is = absurd is
 moves (ending e p) s' (ended k) c h m x d b t at is = absurd is
 moves (ending e p) s' (answered k mark) c h m x d b t at is = absurd is
 moves (ending e p) s' (broke k cause) c h m x d b t at is = absurd is
-moves (ending e p) s' (stopped k last part stop) c h m x d b t at is = absurd is
+moves (ending e p) s' (stopped k last) c h m x d b t at is = absurd is
 moves gone s' (opened k) c h m x d b t at is = absurd is
 moves gone s' (came k y) c h m x d b t at is = absurd is
 moves gone s' (ended k) c h m x d b t at is = absurd is
 moves gone s' (answered k mark) c h m x d b t at is = absurd is
 moves gone s' (broke k cause) c h m x d b t at is = absurd is
-moves gone s' (stopped k last part stop) c h m x d b t at is = absurd is
+moves gone s' (stopped k last) c h m x d b t at is = absurd is
 moves gone s' (left k y) c h m x d b t at is = absurd is
+moves gone s' (failed k trial) c h m x d b t at is = absurd is
 moves gone s' (closed k how) c h m x d b t at is = absurd is
 
 -- one event more
@@ -426,6 +430,11 @@ at_moment k (x ∷ xs) ys (e ∷ es) done s s' is so (mid, goes, rest) =
 pub so_from : (k : ℕ) (events es fs : List Event) (s : Stage) → events ≡ es ++ fs → Leads k fresh events s
     → (mid : Stage) × IsSo k es mid × Leads k mid fs s
 so_from k events es fs s is leads = at_moment k es fs events [] fresh s is (refl, refl, refl, refl, refl, refl) leads
+
+pub account_so : (k : ℕ) (es : List Event) (s : Stage) → IsSo k es s → HasAccount (came_to k es) (marks_of k es) (cut_of k es) (sent_to k es)
+account_so k es s so =
+    account (of_all bytes_in k es) (of_all ends_in k es) (of_all marks_in k es) (of_all cut_in k es) (of_all calls_in k es)
+    (of_all answers_in k es) (of_all sent_in k es) s so
 
 pub at_each_moment : (k : ℕ) (events : List Event) (s : Stage) → Leads k fresh events s → AtEachMoment (IsAnsweredFor k) events
 at_each_moment k events s leads es fs is =

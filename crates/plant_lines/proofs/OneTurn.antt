@@ -3,11 +3,11 @@ use Rattle.std.proofs.Common.{◌≡◌, ◌+◌, ℕ, List, [], ◌∷◌, ◌+
 use Rattle.std.proofs.lemmas.Grind.{flat_map-append}
 use Rattle.plant_books.specs.declared.books.Books as books
 use Rattle.plant_wire.specs.{declared.reads.End.TheVariants.{ReadFailed}}
-use Rattle.plant_lines.specs.Books.{AreQuiet}
-use Rattle.plant_lines.specs.Events.{Event, all_calls, arrivals, arrivals_in, calls_in, closed, marks_of}
+use Rattle.plant_lines.specs.{Books.{AreQuiet}, Causes.{OffersTo, last_of}}
+use Rattle.plant_lines.specs.Events.{Event, all_calls, arrivals, arrivals_in, calls_in, closed, marks_of, reading, writing}
 use Rattle.plant_lines.specs.Happens.{IsTurnOf, Made, Moved}
 use Rattle.plant_lines.specs.Stages.{Leads, MayClose, Moves, Stage, gone, served, stage_in}
-use Rattle.plant_lines.proofs.{Leading.{quiet_then, went_then}, Waited.{leads_once, not_over, wait_leads, waits_on}}
+use Rattle.plant_lines.proofs.{Due.{due_then}, Leading.{quiet_then, went_then}, Waited.{leads_once, not_over, wait_leads, waits_on}}
 use Rattle.plant_lines.specs.declared.lines.Line.{Line}
 
 no_calls : (es : List Event) → AreQuiet es → all_calls es ≡ []
@@ -26,8 +26,8 @@ arrive_all es fs gs =
     ap length (flat_map-append arrivals_in es (fs ++ gs)) ∙ length-append (arrivals es) (arrivals (fs ++ gs))
     ∙ ap (λ n. length (arrivals es) + n) (ap length (flat_map-append arrivals_in fs gs) ∙ length-append (arrivals fs) (arrivals gs))
 
-module _ {B : Type 0} (b : books.Ghosts B) (x y : B) (s t u : Option (List Event)) (l m n o : Line) (reads serves : Bool) where
-  pub turn_one : (p : Moved s t l m reads) (made : Made b x y m n serves) (q : Moved t u n o false)
+module _ {B : Type 0} (b : books.Ghosts B) (x y : B) (s t u : Option (List Event)) (l m n o : Line) (reads serves here goes_on : Bool) where
+  pub turn_one : (p : Moved s t l m reads reading here) (made : Made b x y m n serves) (q : Moved t u n o false writing goes_on)
       → IsTurnOf l reads serves (p.events ++ (made.events ++ q.events))
   turn_one p made q = record {
     own = (went_then p.events (made.events ++ q.events) l m o p.went (went_then made.events q.events m n o made.went q.went)).own;
@@ -36,28 +36,32 @@ module _ {B : Type 0} (b : books.Ghosts B) (x y : B) (s t u : Option (List Event
       calls_all p.events made.events q.events,
       ap length (no_calls p.events p.quiet),
       ap length (no_calls q.events q.quiet),
-      made.one.once,
+      made.once,
     );
     answers = λ is unread at busy none v leads.
         let on = waits_on l.number (stage_in l) unread v p.events (made.events ++ q.events) at busy leads none in
         let now = leads_once l.number (stage_in l) (stage_in m) (served unread []) p.events p.went.leads on.first in
         let answer = waits_on l.number (served unread []) unread v made.events q.events refl busy on.rest on.none_then in
-        made.one.answers is unread now busy (subst (λ (k : ℕ). marks_of k made.events ≡ []) (sym p.went.same) answer.none) unread
+        made.answers is unread now busy (subst (λ (k : ℕ). marks_of k made.events ≡ []) (sym p.went.same) answer.none) unread
         (subst (λ (st : Stage). Leads m.number st made.events (served unread [])) (sym now)
         (subst (λ (k : ℕ). Leads k (served unread []) made.events (served unread [])) (sym p.went.same) answer.first));
     quiet = λ no.
-        quiet_then p.events (made.events ++ q.events) p.quiet (quiet_then made.events q.events (made.one.quiet no) q.quiet);
+        quiet_then p.events (made.events ++ q.events) p.quiet (quiet_then made.events q.events (made.asks no) q.quiet);
     arrives = record {
-      one = omega (arith, arrive_all p.events made.events q.events, p.arrives.one, made.one.arrives.none refl, q.arrives.none refl);
+      one = omega (arith, arrive_all p.events made.events q.events, p.arrives.one, made.calm, q.arrives.none refl);
       none = λ no.
-          omega (arith, arrive_all p.events made.events q.events, p.arrives.none no, made.one.arrives.none refl, q.arrives.none refl);
+          omega (arith, arrive_all p.events made.events q.events, p.arrives.none no, made.calm, q.arrives.none refl);
     };
+    due = λ before.
+        due_then before p.events (made.events ++ q.events) (p.due before)
+        (made.due (last_of before p.events) q.events q.due
+        (λ some. subst (λ (k : ℕ). OffersTo k q.events) made.went.same (q.offers refl some)));
   }
 
 -- a line on which a request can be answered is not read
-pub short_one : (s t : Option (List Event)) (l m : Line) (reads serves : Bool) (p : Moved s t l m reads) → MayClose m ReadFailed
+pub short_one : (s t : Option (List Event)) (l m : Line) (reads serves here : Bool) (p : Moved s t l m reads reading here) → MayClose m ReadFailed
     → IsTurnOf l reads serves p.events
-short_one s t l m reads serves p may = record {
+short_one s t l m reads serves here p may = record {
   own = p.went.own;
   once = omega (arith, ap length (no_calls p.events p.quiet));
   answers = λ is unread at busy none v leads.
@@ -70,4 +74,5 @@ short_one s t l m reads serves p may = record {
       ];
   quiet = λ _. p.quiet;
   arrives = p.arrives;
+  due = p.due;
 }

@@ -1,21 +1,21 @@
 -- Events of one turn, of no call, and of a turn before which none waits: each keeps what is owed.
 use Rattle.std.proofs.Common.{◌≡◌, ◌≢◌, ◌⊎◌, ◌<◌, ◌≤◌, ◌+◌, ℕ, zero, suc, List, [], ◌∷◌, ◌++◌, Bool, true, false, cond, length, inl, inr}
-use Rattle.std.proofs.Common.{Some, refl, sym, ap, subst, ◌∙◌, append_assoc, arith, nat_eq, eq-eqb, eqb-true, length-append, slice_get, slice_set}
+use Rattle.std.proofs.Common.{None, Option, Some, refl, sym, ap, subst, ◌∙◌, append_assoc, arith, nat_eq, eq-eqb, eqb-true, length-append, slice_get, slice_set}
 use Rattle.std.{specs.List.{remove}, proofs.lemmas.{Bool.{eqb-false}, Grind.{flat_map-append}}}
-use Rattle.plant_lines.specs.Books.{AreQuiet}
+use Rattle.plant_lines.specs.{Books.{AreQuiet}, Causes.{Always, AreDue, last_of}}
 use Rattle.plant_lines.specs.Events.{Event, all_calls, arrivals, arrivals_in, calls_for, calls_in, marks_of, of, who}
 use Rattle.plant_lines.specs.{Accounts.{AtEachMoment}, Fairness.{HasWaited, IsFair, IsSteady, IsWaiting}, Happens.{AreOf, IsTurnOf}, Prompt.{ArePrompt}}
 use Rattle.plant_lines.specs.Paces.{AreKept, AreRising, Came, IsBelow, IsPaced, IsStill, Keeps, Owes, Splits, numbers}
 use Rattle.plant_lines.specs.Stages.{AreOpenLines, Leads, Stage, fresh, served, line_with, stage_of}
-use Rattle.plant_lines.proofs.{Held.{stage_at}, Leading.{leads_then}}
+use Rattle.plant_lines.proofs.{Due.{due_then}, Held.{stage_at}, Leading.{leads_then}}
 use Rattle.plant_lines.proofs.Waited.{WaitedOn, counted_of, held_of, leads_once, leads_parts, none_waits, waited_on, waits_before, waits_calm}
 use Rattle.plant_lines.specs.declared.lines.Line.{Line}
 
 -- Lists in two ways
-abbrev Meets : {A : Type 0} → List A → List A → List A → List A → Type 0
+abbrev pub Meets : {A : Type 0} → List A → List A → List A → List A → Type 0
 Meets {A} es fs xs ys = ((gs : List A) × (es ≡ xs ++ gs) × (ys ≡ gs ++ fs)) ⊎ ((gs : List A) × (xs ≡ es ++ gs) × (fs ≡ gs ++ ys))
 
-two_ways : {A : Type 0} (es fs xs ys : List A) → es ++ fs ≡ xs ++ ys → Meets es fs xs ys
+pub two_ways : {A : Type 0} (es fs xs ys : List A) → es ++ fs ≡ xs ++ ys → Meets es fs xs ys
 two_ways [] fs xs ys e = inr (xs, refl, e)
 two_ways (x ∷ es) fs [] ys e = inl (x ∷ es, refl, sym e)
 two_ways (x ∷ es) fs (y ∷ xs) ys e =
@@ -158,8 +158,18 @@ quiet_paced b es fs paced quiet xs since k j is apart waited =
       | inr p ↦ nothing_owed b k j _ (quiet_calls j since (quiet_last p.0 since (subst AreQuiet p.2 quiet)))
     ]
 
-pub quiet_keeps : (b : ℕ) (stages : ℕ → Stage) (fs : List Event) → AreQuiet fs → length (arrivals fs) ≡ 0 → Keeps b b stages fs
-quiet_keeps b stages fs quiet none es leads kept = record {
+-- there is a cause for what is closed, if this is given of what was before
+abbrev DueAfter : (Option Event → Type 0) → List Event → Type 0
+DueAfter given fs = (before : Option Event) → given before → AreDue before fs
+
+then_due : (given : Option Event → Type 0) (b : ℕ) (es fs : List Event) → given (last_of None es) → AreKept b es → DueAfter given fs
+    → AreDue None (es ++ fs)
+then_due given b es fs now kept due = due_then None es fs kept.due (due (last_of None es) now)
+
+pub quiet_keeps : (given : Option Event → Type 0) (b : ℕ) (stages : ℕ → Stage) (fs : List Event) → AreQuiet fs → length (arrivals fs) ≡ 0
+    → DueAfter given fs → Keeps given b b stages fs
+quiet_keeps given b stages fs quiet none due es now leads kept = record {
+  due = then_due given b es fs now kept due;
   still = quiet_still b es fs kept.still none;
   steady = then_steady es fs kept.steady (λ gs hs e.
       steady_of b (es ++ gs)
@@ -202,11 +212,12 @@ alone_still b m es fs none own =
     one gs since k is waited false same =
         absurd (none k (waits_before k m es gs (own_first m gs since (subst (AreOf m) is own)) (eqb-false m k same) waited.0))
 
-pub alone_keeps : (b c m : ℕ) (count : ℕ) (ls : List Line) (fs : List Event) → ArePrompt ls → AreOf m fs
-    → Keeps b c (λ k. stage_of k count ls) fs
-alone_keeps b c m count ls fs are own es leads kept =
+pub alone_keeps : (given : Option Event → Type 0) (b c m : ℕ) (count : ℕ) (ls : List Line) (fs : List Event) → ArePrompt ls → AreOf m fs
+    → DueAfter given fs → Keeps given b c (λ k. stage_of k count ls) fs
+alone_keeps given b c m count ls fs are own due es now leads kept =
     let none = none_waits count ls es leads are in
     record {
+      due = then_due given b es fs now kept due;
       paced = alone_paced c m es fs none own;
       still = alone_still c m es fs none own;
       steady = then_steady es fs kept.steady (λ gs hs e.
@@ -470,10 +481,11 @@ rising_start (x ∷ ls) e = cc
 
 -- One turn of the line at a place
 pub turn_keeps : (b at count : ℕ) (ls : List Line) (l : Line) (fs : List Event) → AreOpenLines count ls → AreRising (numbers ls)
-    → slice_get ls at ≡ Some l → Splits b (suc at) (numbers ls) → IsTurnOf l false true fs → Keeps b l.number (λ k. stage_of k count ls) fs
-turn_keeps b at count ls l fs ok rising is splits one es leads kept =
+    → slice_get ls at ≡ Some l → Splits b (suc at) (numbers ls) → IsTurnOf l false true fs → Keeps Always b l.number (λ k. stage_of k count ls) fs
+turn_keeps b at count ls l fs ok rising is splits one es now leads kept =
     let below = below_bound b at ls l splits is in
     record {
+      due = then_due Always b es fs now kept (λ before _. one.due before);
       paced = turn_paced b l.number es fs kept.paced one.own one.once below placed answered;
       still = turn_still b l.number es fs kept.still (one.arrives.none refl) one.own placed answered;
       steady = then_steady es fs kept.steady (λ gs hs e.
@@ -500,9 +512,10 @@ turn_keeps b at count ls l fs ok rising is splits one es leads kept =
         one.answers refl u stage busy none v (subst (λ (t : Stage). Leads l.number t fs (served v [])) mid halves.2)
 
 -- before a turn of all lines none had its own, and one thing may come
-pub come_keeps : (count : ℕ) (ls : List Line) (first : ℕ → Stage) (fs : List Event) → AreQuiet fs → length (arrivals fs) ≤ 1
-    → ((k : ℕ) → Leads k (first k) fs (stage_of k count ls)) → Keeps 0 count first fs
-come_keeps count ls first fs quiet few goes es leads kept = record {
+pub come_keeps : (given : Option Event → Type 0) (count : ℕ) (ls : List Line) (first : ℕ → Stage) (fs : List Event) → AreQuiet fs
+    → length (arrivals fs) ≤ 1 → ((k : ℕ) → Leads k (first k) fs (stage_of k count ls)) → DueAfter given fs → Keeps given 0 count first fs
+come_keeps given count ls first fs quiet few goes due es now leads kept = record {
+  due = then_due given 0 es fs now kept due;
   paced = paced;
   still = still;
   fair = then_fair es fs kept.fair (λ gs hs e. fair_of 0 (es ++ gs) (quiet_paced 0 es gs kept.paced (quiet_first gs hs (subst AreQuiet e quiet))));
@@ -532,12 +545,13 @@ come_keeps count ls first fs quiet few goes es leads kept = record {
         record { one = come_steady es fs kept.still few xs since k is waited; none = λ le. absurd (omega arith) }
 
 -- after it all had
-pub keeps_end : (a b count : ℕ) (ls : List Line) (first : ℕ → Stage) (es : List Event)
-    → ((k : ℕ) → Leads k (first k) es (stage_of k count ls)) → Splits b zero (numbers ls) → Keeps a b first es → Keeps a 0 first es
-keeps_end a b count ls first es goes splits p before leads kept = record { paced = paced; still = still; fair = after.fair; steady = after.steady }
+pub keeps_end : (given : Option Event → Type 0) (a b count : ℕ) (ls : List Line) (first : ℕ → Stage) (es : List Event)
+    → ((k : ℕ) → Leads k (first k) es (stage_of k count ls)) → Splits b zero (numbers ls) → Keeps given a b first es → Keeps given a 0 first es
+keeps_end given a b count ls first es goes splits p before held leads kept =
+    record { paced = paced; still = still; fair = after.fair; steady = after.steady; due = after.due }
   where
     after : AreKept b (before ++ es)
-    after = p before leads kept
+    after = p before held leads kept
 
     reached : (k : ℕ) → IsWaiting k (before ++ es) → b ≤ k
     reached k now =
@@ -564,8 +578,10 @@ keeps_end a b count ls first es goes splits p before leads kept = record { paced
           above = λ p q. owes.above le q;
         }
 
-pub keeps_then : (a b c : ℕ) (first next : ℕ → Stage) (es fs : List Event) → ((k : ℕ) → Leads k (first k) es (next k))
-    → Keeps a b first es → Keeps b c next fs → Keeps a c first (es ++ fs)
-keeps_then a b c first next es fs goes p q before leads kept =
+pub keeps_then : (given next_given : Option Event → Type 0) (a b c : ℕ) (first next : ℕ → Stage) (es fs : List Event)
+    → ((k : ℕ) → Leads k (first k) es (next k)) → Keeps given a b first es
+    → ((before : List Event) → given (last_of None before) → ((k : ℕ) → Leads k fresh (before ++ es) (next k)) → next_given (last_of None (before ++ es)))
+    → Keeps next_given b c next fs → Keeps given a c first (es ++ fs)
+keeps_then given next_given a b c first next es fs goes p gives q before now leads kept =
     let all : (k : ℕ) → Leads k fresh (before ++ es) (next k) = λ k. leads_then k fresh (first k) (next k) before es (leads k) (goes k) in
-    subst (AreKept c) (append_assoc before es fs) (q (before ++ es) all (p before leads kept))
+    subst (AreKept c) (append_assoc before es fs) (q (before ++ es) (gives before now all) all (p before now leads kept))

@@ -8,7 +8,8 @@ use Rattle.plant_call.{specs.Front.{Item, StandsAtFront, body_length, broken, it
 use Rattle.plant_call.proofs.public.Cuts.{front_unique}
 use Rattle.plant_wire.specs.{Marks.{mark_text, marked_item}, Session.{IsIdle}}
 use Rattle.plant_wire.specs.declared.reads.End.{End}
-use Rattle.plant_lines.specs.Events.{Event, opened, came, ended, answered, broke, stopped, left, closed, who, of, arrivals, arrivals_in, marks_in, marks_of}
+use Rattle.plant_lines.specs.Events.{Event, opened, came, ended, answered, broke, stopped, left, failed, closed, reported, who, of, arrivals, arrivals_in}
+use Rattle.plant_lines.specs.Events.{marks_in, marks_of}
 use Rattle.plant_lines.specs.{Fairness.{HasWaited, IsWaiting}, Happens.{AreOf}, Prompt.{ArePrompt, IsPrompt}}
 use Rattle.plant_lines.specs.Stages.{Leads, Moves, Stage, fresh, gone, served, ending, line_with, stage_by, stage_held, stage_in, stage_of}
 use Rattle.plant_lines.proofs.Leading.{leads_then}
@@ -45,29 +46,44 @@ moves_once fresh (came k bytes) a b p q = absurd p
 moves_once fresh (ended k) a b p q = absurd p
 moves_once fresh (answered k mark) a b p q = absurd p
 moves_once fresh (broke k cause) a b p q = absurd p
-moves_once fresh (stopped k last part stop) a b p q = absurd p
+moves_once fresh (stopped k last) a b p q = absurd p
 moves_once fresh (left k bytes) a b p q = absurd p
+moves_once fresh (failed k trial) a b p q = absurd p
 moves_once fresh (closed k how) a b p q = absurd p
+moves_once fresh (reported ready) a b p q = p ∙ sym q
 moves_once (served u p) (opened k) a b f g = absurd f
 moves_once (served u p) (came k bytes) a b (now, is) (now', is') = is ∙ sym is'
 moves_once (served u p) (ended k) a b (now, is) (now', is') = is ∙ sym is'
 moves_once (served u p) (answered k mark) a b (none, (n, stands, is)) (none', (m, stands', is')) =
     is ∙ ap (λ i. served (drop i u) (mark_text mark)) (whole_once u (marked_item mark) (marked_item mark) n m stands stands') ∙ sym is'
 moves_once (served u p) (broke k cause) a b (none, stands, is) (none', stands', is') = is ∙ sym is'
-moves_once (served u p) (stopped k last part stop) a b (none, stands, why, is) (none', stands', why', is') = is ∙ sym is'
+moves_once (served u p) (stopped k last) a b (none, stands, why, is) (none', stands', why', is') = is ∙ sym is'
 moves_once (served u p) (left k bytes) a b (rest, split, is) (rest', split', is') =
     is ∙ ap (λ r. served u r) (same_rest bytes rest rest' (sym split ∙ split')) ∙ sym is'
+moves_once (served u p) (failed k trial) a b f g = f ∙ sym g
 moves_once (served u p) (closed k how) a b (given, is) (given', is') = is ∙ sym is'
+moves_once (served u p) (reported ready) a b f g = f ∙ sym g
 moves_once (ending end p) (opened k) a b f g = absurd f
 moves_once (ending end p) (came k bytes) a b f g = absurd f
 moves_once (ending end p) (ended k) a b f g = absurd f
 moves_once (ending end p) (answered k mark) a b f g = absurd f
 moves_once (ending end p) (broke k cause) a b f g = absurd f
-moves_once (ending end p) (stopped k last part stop) a b f g = absurd f
+moves_once (ending end p) (stopped k last) a b f g = absurd f
 moves_once (ending end p) (left k bytes) a b (rest, split, is) (rest', split', is') =
     is ∙ ap (λ r. ending end r) (same_rest bytes rest rest' (sym split ∙ split')) ∙ sym is'
+moves_once (ending end p) (failed k trial) a b f g = f ∙ sym g
 moves_once (ending end p) (closed k how) a b (may, is) (may', is') = is ∙ sym is'
-moves_once gone e a b p q = absurd p
+moves_once (ending end p) (reported ready) a b f g = f ∙ sym g
+moves_once gone (opened k) a b p q = absurd p
+moves_once gone (came k bytes) a b p q = absurd p
+moves_once gone (ended k) a b p q = absurd p
+moves_once gone (answered k mark) a b p q = absurd p
+moves_once gone (broke k cause) a b p q = absurd p
+moves_once gone (stopped k last) a b p q = absurd p
+moves_once gone (left k bytes) a b p q = absurd p
+moves_once gone (failed k trial) a b p q = absurd p
+moves_once gone (closed k how) a b p q = absurd p
+moves_once gone (reported ready) a b p q = p ∙ sym q
 
 pub leads_once : (k : ℕ) (s a b : Stage) (es : List Event) → Leads k s es a → Leads k s es b → a ≡ b
 leads_once k s a b [] p q = p ∙ sym q
@@ -98,7 +114,7 @@ is_over (served u p) = false
 is_over (ending end p) = true
 is_over gone = true
 
-over_moves : (s t : Stage) (e : Event) → Moves s e t → is_over s ≡ true → is_over t ≡ true
+pub over_moves : (s t : Stage) (e : Event) → Moves s e t → is_over s ≡ true → is_over t ≡ true
 over_moves fresh t e is over = cc
 over_moves (served u p) t e is over = cc
 over_moves (ending end p) t (opened k) is over = absurd is
@@ -106,12 +122,23 @@ over_moves (ending end p) t (came k bytes) is over = absurd is
 over_moves (ending end p) t (ended k) is over = absurd is
 over_moves (ending end p) t (answered k mark) is over = absurd is
 over_moves (ending end p) t (broke k cause) is over = absurd is
-over_moves (ending end p) t (stopped k last part stop) is over = absurd is
+over_moves (ending end p) t (stopped k last) is over = absurd is
 over_moves (ending end p) t (left k bytes) (rest, split, is) over = ap is_over is
+over_moves (ending end p) t (failed k trial) is over = ap is_over is
 over_moves (ending end p) t (closed k how) (may, is) over = ap is_over is
-over_moves gone t e is over = absurd is
+over_moves (ending end p) t (reported ready) is over = ap is_over is
+over_moves gone t (opened k) is over = absurd is
+over_moves gone t (came k bytes) is over = absurd is
+over_moves gone t (ended k) is over = absurd is
+over_moves gone t (answered k mark) is over = absurd is
+over_moves gone t (broke k cause) is over = absurd is
+over_moves gone t (stopped k last) is over = absurd is
+over_moves gone t (left k bytes) is over = absurd is
+over_moves gone t (failed k trial) is over = absurd is
+over_moves gone t (closed k how) is over = absurd is
+over_moves gone t (reported ready) is over = ap is_over is
 
-over_leads : (k : ℕ) (s t : Stage) (es : List Event) → Leads k s es t → is_over s ≡ true → is_over t ≡ true
+pub over_leads : (k : ℕ) (s t : Stage) (es : List Event) → Leads k s es t → is_over s ≡ true → is_over t ≡ true
 over_leads k s t [] is over = ap is_over is ∙ over
 over_leads k s t (e ∷ es) (mid, goes, rest) over = over_leads k mid t es rest (one (nat_eq (who e) k) refl)
   where
@@ -123,18 +150,20 @@ pub not_over : {A : Type 0} (s : Stage) (u p : List ℕ) → s ≡ served u p �
 not_over s u p is over = let no : false ≡ true = sym (ap is_over is) ∙ over in cc
 
 -- one event of a connection that waits, other than an answer to a request
-wait_moves : (u : List ℕ) (e : Event) (t : Stage) → (IsIdle u → ⊥) → Moves (served u []) e t → marks_in e ≡ []
+pub wait_moves : (u : List ℕ) (e : Event) (t : Stage) → (IsIdle u → ⊥) → Moves (served u []) e t → marks_in e ≡ []
     → (t ≡ served u []) ⊎ (is_over t ≡ true)
 wait_moves u (opened k) t busy is none = absurd is
 wait_moves u (came k bytes) t busy (now, is) none = absurd (busy now.1)
 wait_moves u (ended k) t busy (now, is) none = absurd (busy now.1)
 wait_moves u (answered k mark) t busy is none = cc
 wait_moves u (broke k cause) t busy (empty, stands, is) none = inr (ap is_over is)
-wait_moves u (stopped k last part stop) t busy (empty, stands, why, is) none = inr (ap is_over is)
+wait_moves u (stopped k last) t busy (empty, stands, why, is) none = inr (ap is_over is)
 wait_moves u (left k bytes) t busy (rest, split, is) none = inl (is ∙ ap (λ r. served u r) (none_of bytes rest (sym split)).1)
+wait_moves u (failed k trial) t busy is none = inl is
 wait_moves u (closed k how) t busy (given, is) none = inr (ap is_over is)
+wait_moves u (reported ready) t busy is none = inl is
 
-own_marks : (k : ℕ) (e : Event) → nat_eq (who e) k ≡ true → of k e (marks_in e) ≡ [] → marks_in e ≡ []
+pub own_marks : (k : ℕ) (e : Event) → nat_eq (who e) k ≡ true → of k e (marks_in e) ≡ [] → marks_in e ≡ []
 own_marks k e is none = sym (ap (λ b. cond b (marks_in e) []) is) ∙ none
 
 pub wait_leads : (k : ℕ) (u : List ℕ) (s t : Stage) (es : List Event) → s ≡ served u [] → (IsIdle u → ⊥) → Leads k s es t → marks_of k es ≡ []
@@ -161,10 +190,21 @@ over_arrives (ending end p) t (came k bytes) is over = absurd is
 over_arrives (ending end p) t (ended k) is over = absurd is
 over_arrives (ending end p) t (answered k mark) is over = refl
 over_arrives (ending end p) t (broke k cause) is over = refl
-over_arrives (ending end p) t (stopped k last part stop) is over = refl
+over_arrives (ending end p) t (stopped k last) is over = refl
 over_arrives (ending end p) t (left k bytes) is over = refl
+over_arrives (ending end p) t (failed k trial) is over = refl
 over_arrives (ending end p) t (closed k how) is over = refl
-over_arrives gone t e is over = absurd is
+over_arrives (ending end p) t (reported ready) is over = refl
+over_arrives gone t (opened k) is over = absurd is
+over_arrives gone t (came k bytes) is over = absurd is
+over_arrives gone t (ended k) is over = absurd is
+over_arrives gone t (answered k mark) is over = absurd is
+over_arrives gone t (broke k cause) is over = absurd is
+over_arrives gone t (stopped k last) is over = absurd is
+over_arrives gone t (left k bytes) is over = absurd is
+over_arrives gone t (failed k trial) is over = absurd is
+over_arrives gone t (closed k how) is over = absurd is
+over_arrives gone t (reported ready) is over = refl
 
 wait_arrives : (u : List ℕ) (e : Event) (t : Stage) → (IsIdle u → ⊥) → Moves (served u []) e t → arrivals_in e ≡ []
 wait_arrives u (opened k) t busy is = absurd is
@@ -172,9 +212,11 @@ wait_arrives u (came k bytes) t busy (now, is) = absurd (busy now.1)
 wait_arrives u (ended k) t busy (now, is) = absurd (busy now.1)
 wait_arrives u (answered k mark) t busy is = refl
 wait_arrives u (broke k cause) t busy is = refl
-wait_arrives u (stopped k last part stop) t busy is = refl
+wait_arrives u (stopped k last) t busy is = refl
 wait_arrives u (left k bytes) t busy is = refl
+wait_arrives u (failed k trial) t busy is = refl
 wait_arrives u (closed k how) t busy is = refl
+wait_arrives u (reported ready) t busy is = refl
 
 over_calm : (k : ℕ) (s t : Stage) (es : List Event) → AreOf k es → Leads k s es t → is_over s ≡ true → length (arrivals es) ≡ 0
 over_calm k s t [] own leads over = refl

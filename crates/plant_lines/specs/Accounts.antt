@@ -7,7 +7,8 @@ use Rattle.plant_call.specs.Front.{Parsed}
 use Rattle.plant_office.specs.{Runs.{AreIsolated, world_after}, Served.{Holds}}
 use Rattle.plant_wire.specs.{Marks.{Mark, marked_item, mark_text, out_of}, Over.{RanOn}, Session.{EndsAs}}
 use Rattle.plant_wire.specs.declared.reads.End.{End}
-use Rattle.plant_lines.specs.{Books.{IsMoment}, Fairness.{IsFair, IsSteady}}
+use Rattle.plant_lines.specs.{Books.{IsMoment}, Causes.{AreCaused, AreOffered, HaveFailed}, Fairness.{IsBounded, IsFair, IsSteady}}
+use Rattle.plant_lines.specs.{Lasting.{Lasts}, Order.{IsInOrder}}
 use Rattle.plant_lines.specs.Events.{Event, Seen, Shows, all_answers, all_calls, answers_for, answers_in, calls_for}
 use Rattle.plant_lines.specs.Events.{calls_in, came_to, closed, cut_of, has_ended, marks_of, sent_to}
 use Rattle.plant_lines.specs.Stages.{Leads, fresh, stage_of}
@@ -78,6 +79,10 @@ pub record AreSent (ran : List Call → List Answer → Type 0) (n : ℕ) (r : O
   pub ends : EndsEach events
   pub fair : AtEachMoment IsFair events
   pub steady : AtEachMoment IsSteady events
+  pub bounded : AtEachMoment IsBounded events
+  pub in_order : IsInOrder events
+  pub caused : AreCaused None events
+  pub offered : AreOffered events
   pub stops : HasOpened n count held r
 
 -- From one state of the books and of what is seen to another: the calls are one run of the books, and the ports and the
@@ -85,7 +90,11 @@ pub record AreSent (ran : List Call → List Answer → Type 0) (n : ℕ) (r : O
 pub record AreServed {B : Type 0} (b : books.Ghosts B) (x y : B) (s t : Seen) (n : ℕ) (r : Outcome) : Type 0 where
   pub sent : AreSent (RanOn b x y) n r
   pub shown : Shows s t sent.events
+  -- it halts with Ports only after the ports failed
+  pub halts : r ≡ Err Ports → HaveFailed sent.events
   -- whatever a crash at a moment leaves of the books is what it may leave after the calls so far
   pub moments : (es fs : List Event) → sent.events ≡ es ++ fs → IsMoment b x y es fs
+  -- and it has what was confirmed, once a byte of the answer has left
+  pub lasting : (es fs : List Event) (is : sent.events ≡ es ++ fs) → Lasts b x (moments es fs is).books es
   pub apart : (m : Content) → b.represents x m → (w : World) → IsLegalWorld w → Holds m w → b.is_honest y
       → AreEachIsolated w sent.events

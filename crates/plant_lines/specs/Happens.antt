@@ -1,9 +1,9 @@
 -- What is done at connections: by one line, and by all.
-use Rattle.std.specs.Prelude.{◌≡◌, ◌≤◌, ℕ, Bool, false, true, List, [], ◌∷◌, length}
-use Rattle.plant_wire.specs.Session.{IsIdle}
+use Rattle.std.specs.Prelude.{◌≡◌, ◌≢◌, ◌≤◌, ℕ, Bool, false, true, List, [], ◌∷◌, ◌++◌, length, IfSome, Option, Some}
+use Rattle.plant_wire.specs.{Session.{IsIdle}, declared.reads.End.{End}}
 use Rattle.plant_books.specs.declared.books.Books.{Ghosts}
-use Rattle.plant_lines.specs.Books.{AreQuiet, MakesEach}
-use Rattle.plant_lines.specs.Events.{AreTold, Event, Log, Logs, Seen, Shows, all_calls, arrivals, at_ports, marks_of, who}
+use Rattle.plant_lines.specs.{Books.{AreQuiet, MakesEach}, Causes.{AreDue, IsDueTo, OffersTo, last_of}}
+use Rattle.plant_lines.specs.Events.{AreTold, Event, Log, Logs, Seen, Shows, Trial, all_calls, arrivals, at_ports, failed, marks_of, who, writing}
 use Rattle.plant_lines.specs.Stages.{Leads, served, stage_in, stage_of}
 use Rattle.plant_lines.specs.declared.lines.Line.{Line}
 
@@ -29,6 +29,7 @@ pub record IsTurnOf (l : Line) (reads serves : Bool) (events : List Event) : Typ
   pub answers : serves ≡ true → Answers l events
   pub quiet : serves ≡ false → AreQuiet events
   pub arrives : Arrives reads events
+  pub due : (before : Option Event) → AreDue before events
 
 -- one line went by these events, none of which is in the log of lines
 pub record Went (events : List Event) (before after : Line) : Type 0 where
@@ -37,29 +38,40 @@ pub record Went (events : List Event) (before after : Line) : Type 0 where
   pub untold : AreTold events []
   pub leads : Leads before.number (stage_in before) events (stage_in after)
 
--- its ports were asked, and no call was made
-pub record Moved (s t : Log) (before after : Line) (reads : Bool) : Type 0 where
+-- Its ports were asked, and no call was made. Where a write was tried, what waits to leave was offered; if the line does
+-- not go on, what was tried failed.
+pub record Moved (s t : Log) (before after : Line) (reads : Bool) (trial : Trial) (goes_on : Bool) : Type 0 where
   pub events : List Event
   pub quiet : AreQuiet events
   pub arrives : Arrives reads events
   pub logged : Logs s t (at_ports events)
   pub went : Went events before after
+  pub due : (last : Option Event) → AreDue last events
+  pub offers : trial ≡ writing → before.pending.text.items ≢ [] → OffersTo before.number events
+  pub lost : goes_on ≡ false → (last : Option Event) → last_of last events ≡ Some (failed before.number trial)
 
--- the office was asked, and nothing came or left
+-- The office was asked, and nothing came or left. Each answer is offered at once, if what it left to leave is.
 pub record Made {B : Type 0} (b : Ghosts B) (from to : B) (before after : Line) (serves : Bool) : Type 0 where
   pub events : List Event
   pub unseen : at_ports events ≡ []
   pub makes : MakesEach b from events to
   pub went : Went events before after
-  pub one : IsTurnOf before false serves events
+  pub once : length (all_calls events) ≤ 1
+  pub answers : serves ≡ true → Answers before events
+  pub asks : serves ≡ false → AreQuiet events
+  pub calm : length (arrivals events) ≡ 0
+  pub due : (last : Option Event) (later : List Event) → ((each : Option Event) → AreDue each later)
+      → (after.pending.text.items ≢ [] → OffersTo before.number later) → AreDue last (events ++ later)
 
--- both, one after another
-pub record Turned {B : Type 0} (b : Ghosts B) (from to : B) (s t : Log) (before after : Line) (reads serves : Bool) : Type 0 where
+-- both, one after another; it may then be closed so
+pub record Turned {B : Type 0} (b : Ghosts B) (from to : B) (s t : Log) (before after : Line) (reads serves : Bool)
+    (over : Option End) : Type 0 where
   pub events : List Event
   pub logged : Logs s t (at_ports events)
   pub makes : MakesEach b from events to
   pub went : Went events before after
   pub one : IsTurnOf before reads serves events
+  pub why : IfSome over (λ end. IsDueTo after end events)
 
 -- All of it, where n had come and m have, and these lines were held and are: the events are what the ports saw and what
 -- the office did, all calls one after another, whatever the connection, and each connection goes by its own events
@@ -70,11 +82,12 @@ pub record Happened {B : Type 0} (b : Ghosts B) (x y : B) (s t : Seen) (n m : �
   pub makes : MakesEach b x events y
   pub leads : (k : ℕ) → Leads k (stage_of k n ls) events (stage_of k m ms)
 
--- the same at one connection, where no call was made
-pub record Passed (comes : Bool) (s t : Seen) (n m : ℕ) (ls ms : List Line) : Type 0 where
+-- the same at one connection, where no call was made; there is a cause for it, if what was before gives it
+pub record Passed (cause : Option Event → Type 0) (comes : Bool) (s t : Seen) (n m : ℕ) (ls ms : List Line) : Type 0 where
   pub events : List Event
   pub quiet : AreQuiet events
   pub one : (k : ℕ) × AreOf k events
+  pub due : (before : Option Event) → cause before → AreDue before events
   pub arrives : Arrives comes events
   pub shown : Shows s t events
   pub leads : (k : ℕ) → Leads k (stage_of k n ls) events (stage_of k m ms)

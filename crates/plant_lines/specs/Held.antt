@@ -1,8 +1,9 @@
 -- The lines that are held.
-use Rattle.std.specs.Prelude.{Bool, false, true, ℕ, suc, List, [], Some, slice_get, remove, ◌⊎◌, ◌≡◌, ◌≤◌}
+use Rattle.std.specs.Prelude.{Bool, false, true, ℕ, suc, length, List, [], Option, Some, slice_get, remove, ◌⊎◌, ◌≡◌, ◌≤◌}
 use Rattle.std.specs.declared.io.Write as write
 use Rattle.plant_books.specs.declared.books.Books.{Ghosts}
-use Rattle.plant_lines.specs.{Events.{Seen, seen_by}, Happens.{Happened}, Paces.{AreKept, AreRising, Keeps, Splits, numbers}, Prompt.{ArePrompt}}
+use Rattle.plant_lines.specs.{Causes.{Always}, Events.{Event, Seen, reports, seen_by}, Happens.{Happened}}
+use Rattle.plant_lines.specs.{Paces.{AreKept, AreRising, Keeps, Splits, numbers}, Prompt.{ArePrompt}}
 use Rattle.plant_lines.specs.{Stages.{AreOpenLines, stage_of}, declared.lines.Line.{Line}}
 use Rattle.plant_lines.specs.declared.ports.Ports as ports
 use Rattle.plant_lines.specs.declared.serving.{Held.{Held}, Reports.{Reports}}
@@ -13,50 +14,52 @@ pub record IsHeld (held : Held) : Type 0 where
   pub few : held.count ≤ held.n
   pub rising : AreRising (numbers held.lines.items)
 
--- what happened, and it keeps the turns going, from this bound on
-pub record IsRound {B : Type 0} (from : ℕ) (b : Ghosts B) (x y : B) (s t : Seen) (n m : ℕ) (ls ms : List Line) : Type 0 where
+-- what happened, and it keeps the turns going, from this bound on, if this is given of what was before
+pub record IsRound {B : Type 0} (given : Option Event → Type 0) (from : ℕ) (b : Ghosts B) (x y : B) (s t : Seen) (n m : ℕ) (ls ms : List Line) : Type 0 where
   pub happened : Happened b x y s t n m ls ms
-  pub keeps : Keeps from 0 (λ k. stage_of k n ls) happened.events
+  pub keeps : Keeps given from 0 (λ k. stage_of k n ls) happened.events
 
 -- the same within a turn of all lines, from the last one to this place: those from the bound on had their turns
 pub record IsWithinRound {B : Type 0} (b : Ghosts B) (x y : B) (s t : Seen) (n m : ℕ) (ls ms : List Line) (at : ℕ) : Type 0 where
   pub happened : Happened b x y s t n m ls ms
   pub bound : ℕ
   pub splits : Splits bound at (numbers ms)
-  pub keeps : Keeps n bound (λ k. stage_of k n ls) happened.events
+  pub keeps : Keeps Always n bound (λ k. stage_of k n ls) happened.events
 
--- a service so far
-pub record IsUnderWay {B : Type 0} (b : Ghosts B) (x y : B) (s t : Seen) (n : ℕ) (ls : List Line) : Type 0 where
+-- a service so far, after so many turns
+pub record IsUnderWay {B : Type 0} (b : Ghosts B) (x y : B) (s t : Seen) (turns n : ℕ) (ls : List Line) : Type 0 where
   pub happened : Happened b x y s t 0 n [] ls
   pub kept : AreKept 0 happened.events
+  pub asked : turns ≤ length (reports happened.events)
 
 -- One turn, from one state of the books, of what is seen and of the lines to another. Where `left` is false, it leaves
--- no request that can be answered now, if there was none before.
-pub record IsTurn {B : Type 0} (b : Ghosts B) (x y : B) (s t : Seen) (before after : Held) (serves left : Bool) : Type 0 where
+-- no request that can be answered now, if there was none before. This is given of what was before.
+pub record IsTurn {B : Type 0} (given : Option Event → Type 0) (b : Ghosts B) (x y : B) (s t : Seen) (before after : Held)
+    (serves left : Bool) : Type 0 where
   pub happened : Happened b x y s t before.count after.count before.lines.items after.lines.items
   pub held : IsHeld after
   pub same : after.n ≡ before.n
   pub prompt : ArePrompt before.lines.items → left ≡ false → ArePrompt after.lines.items
   -- requests are answered in it only if none was left before
   pub alone : serves ≡ true → ArePrompt before.lines.items
-      → Keeps 0 0 (λ k. stage_of k before.count before.lines.items) happened.events
-  pub busy : serves ≡ false → Keeps 0 after.count (λ k. stage_of k before.count before.lines.items) happened.events
+      → Keeps given 0 0 (λ k. stage_of k before.count before.lines.items) happened.events
+  pub busy : serves ≡ false → Keeps given 0 after.count (λ k. stage_of k before.count before.lines.items) happened.events
 
 -- A turn of the line at this place: it has its turn after those from the bound on, and its number is the next bound.
 pub record IsTurnAt {B : Type 0} (b : Ghosts B) (x y : B) (s t : Seen) (before after : Held) (at : ℕ)
     (reads serves left : Bool) : Type 0 where
-  pub turn : IsTurn b x y s t before after serves left
+  pub turn : IsTurn Always b x y s t before after serves left
   pub paces : reads ≡ false → serves ≡ true → (bound : ℕ) (l : Line) → slice_get before.lines.items at ≡ Some l
       → Splits bound (suc at) (numbers before.lines.items)
-      → Keeps bound l.number (λ k. stage_of k before.count before.lines.items) turn.happened.events
+      → Keeps Always bound l.number (λ k. stage_of k before.count before.lines.items) turn.happened.events
   pub others : (numbers after.lines.items ≡ numbers before.lines.items)
       ⊎ (numbers after.lines.items ≡ remove (numbers before.lines.items) at)
 
 -- a turn, where what is seen is what these ports and this log of lines show
-abbrev pub Turns : {B P W E : Type 0} → Ghosts B → ports.Ghosts P → write.Ghosts W → B → B → P → P
+abbrev pub Turns : {B P W E : Type 0} → (Option Event → Type 0) → Ghosts B → ports.Ghosts P → write.Ghosts W → B → B → P → P
     → Reports W E → Reports W E → Held → Held → Bool → Bool → Type 0
-Turns b p w x y from to told_before told_after before after serves left =
-    IsTurn b x y (seen_by (p.seen from) (w.contents told_before.log)) (seen_by (p.seen to) (w.contents told_after.log))
+Turns given b p w x y from to told_before told_after before after serves left =
+    IsTurn given b x y (seen_by (p.seen from) (w.contents told_before.log)) (seen_by (p.seen to) (w.contents told_after.log))
     before after serves left
 
 abbrev pub TurnsAt : {B P W E : Type 0} → Ghosts B → ports.Ghosts P → write.Ghosts W → B → B → P → P

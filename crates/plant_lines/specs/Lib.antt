@@ -1,8 +1,12 @@
 pub mod Events
 pub mod Stages
+pub mod Drafts
 pub mod Books
+pub mod Causes
 pub mod Happens
 pub mod Fairness
+pub mod Order
+pub mod Lasting
 pub mod Accounts
 pub mod Paces
 pub mod Held

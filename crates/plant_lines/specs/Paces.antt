@@ -1,7 +1,8 @@
 -- How the turns of lines keep what a connection waits for small: within a turn of all lines, from the last line to the
 -- first, those from a bound on have had theirs.
-use Rattle.std.specs.Prelude.{◌≡◌, ◌≤◌, ◌<◌, ℕ, zero, suc, List, [], ◌∷◌, ◌++◌, length, map}
-use Rattle.plant_lines.specs.{Accounts.{AtEachMoment}, Events.{Event, arrivals, calls_for}, Fairness.{HasWaited, IsFair, IsSteady}}
+use Rattle.std.specs.Prelude.{◌≡◌, ◌≤◌, ◌<◌, ℕ, zero, suc, List, [], ◌∷◌, ◌++◌, length, map, None, Option}
+use Rattle.plant_lines.specs.{Accounts.{AtEachMoment}, Causes.{AreDue, last_of}, Events.{Event, arrivals, calls_for}}
+use Rattle.plant_lines.specs.Fairness.{HasWaited, IsFair, IsSteady}
 use Rattle.plant_lines.specs.Stages.{Leads, Stage, fresh}
 use Rattle.plant_lines.specs.declared.lines.Line.{Line}
 
@@ -50,9 +51,10 @@ pub record AreKept (bound : ℕ) (events : List Event) : Type 0 where
   pub still : IsStill bound events
   pub fair : AtEachMoment IsFair events
   pub steady : AtEachMoment IsSteady events
+  pub due : AreDue None events
 
--- whatever happened before, if each connection came so far by it: with these events more the turns go on from one bound
--- to the other
-abbrev pub Keeps : ℕ → ℕ → (ℕ → Stage) → List Event → Type 0
-Keeps from to stages events = (es : List Event) → ((k : ℕ) → Leads k fresh es (stages k)) → AreKept from es
-    → AreKept to (es ++ events)
+-- whatever happened before, if each connection came so far by it, and if this is given of the last event: with these
+-- events more the turns go on from one bound to the other
+abbrev pub Keeps : (Option Event → Type 0) → ℕ → ℕ → (ℕ → Stage) → List Event → Type 0
+Keeps given from to stages events = (es : List Event) → given (last_of None es) → ((k : ℕ) → Leads k fresh es (stages k))
+    → AreKept from es → AreKept to (es ++ events)

@@ -1,13 +1,11 @@
 -- How one connection goes from event to event.
-use Rattle.std.specs.Prelude.{◌≡◌, ◌≢◌, ◌⊎◌, ◌<◌, ℕ, List, [], ◌∷◌, ◌++◌, drop, take, Option, Some, None}
+use Rattle.std.specs.Prelude.{◌≡◌, ◌≢◌, ◌⊎◌, ◌<◌, ℕ, List, [], ◌∷◌, ◌++◌, drop, Option, Some, None}
 use Rattle.std.specs.Prelude.{if◌then◌else◌, nat_eq, nat_lt}
 use Rattle.plant_call.specs.{Cut.{WaitsBelow}, Front.{StandsAtFront, broken, whole}}
-use Rattle.plant_wire.specs.{Causes.{cause_text}, Marks.{marked_item, last_text, mark_text}, Session.{IsIdle}}
-use Rattle.plant_wire.specs.Step.{StandsLast, StopsFor}
+use Rattle.plant_wire.specs.{Causes.{cause_text}, Marks.{IsFaultless, marked_item, mark_text}, Session.{IsIdle}}
+use Rattle.plant_wire.specs.Step.{StandsLast}
 use Rattle.plant_wire.specs.declared.reads.End.{End, TheVariants.{BrokenInput, Closed, Fault, ReadFailed, WriteFailed}}
-use Rattle.plant_wire.specs.declared.step.Stop.{Stop}
-use Rattle.plant_wire.specs.declared.step.Stop.TheVariants as stops
-use Rattle.plant_lines.specs.Events.{Event, opened, came, ended, answered, broke, stopped, left, closed, who}
+use Rattle.plant_lines.specs.Events.{Event, opened, came, ended, answered, broke, stopped, left, failed, closed, reported, who}
 use Rattle.plant_lines.specs.declared.lines.Line.{Line}
 
 -- It has not come; it is served, with these bytes unread and these to leave; it is to end so once these have left; it
@@ -23,21 +21,16 @@ abbrev pub end_for : List ℕ → End
 end_for [] = Closed
 end_for (x ∷ xs) = BrokenInput
 
--- and where an answer stops
-abbrev pub end_by : Stop → End
-end_by stops.WriteFailed = WriteFailed
-end_by stops.Fault = Fault
-
 -- it is read only where no answer waits to leave and no whole request is unread
 abbrev pub IsOpen : List ℕ → List ℕ → Type 0
 IsOpen unread pending = (pending ≡ []) × IsIdle unread
 
--- The end of a connection that is served and is given up: a read failed, or it was silent too long; a write failed, or
--- it took nothing of an answer for too long; or, before anything came, there was no memory for it.
+-- The end of a connection that is served and is given up: a read failed, or it was silent too long; or a write failed,
+-- or it took nothing of an answer for too long.
 abbrev pub IsGivenUp : List ℕ → List ℕ → End → Type 0
 IsGivenUp unread pending ReadFailed = IsOpen unread pending
 IsGivenUp unread pending WriteFailed = pending ≢ []
-IsGivenUp unread pending Fault = (unread ≡ []) × (pending ≡ [])
+IsGivenUp unread pending Fault = ⊥
 IsGivenUp unread pending Closed = ⊥
 IsGivenUp unread pending BrokenInput = ⊥
 
@@ -45,7 +38,8 @@ IsGivenUp unread pending BrokenInput = ⊥
 abbrev pub IsEndOf : End → List ℕ → End → Type 0
 IsEndOf end pending how = ((how ≡ end) × (pending ≡ [])) ⊎ ((how ≡ WriteFailed) × (pending ≢ []))
 
--- An event of this connection. A request is answered only where no answer waits to leave.
+-- An event of this connection. A request is answered only where no answer waits to leave. At Fault, what was begun is
+-- not the answer to a call that got a fault of the office: for that memory is kept.
 abbrev pub Moves : Stage → Event → Stage → Type 0
 Moves fresh (opened k) s = s ≡ served [] []
 Moves (served unread pending) (came k bytes) s = IsOpen unread pending × (s ≡ served (unread ++ bytes) [])
@@ -55,19 +49,25 @@ Moves (served unread pending) (answered k mark) s =
     × (s ≡ served (drop n unread) (mark_text mark)))
 Moves (served unread pending) (broke k cause) s =
     (pending ≡ []) × StandsAtFront unread (broken cause) × (s ≡ ending BrokenInput (cause_text cause))
-Moves (served unread pending) (stopped k last part stop) s =
-    (pending ≡ []) × StandsLast unread last × StopsFor last stop
-    × (s ≡ ending (end_by stop) (take part (last_text last)))
+Moves (served unread pending) (stopped k last) s =
+    (pending ≡ []) × StandsLast unread last × IsFaultless last × (s ≡ ending Fault [])
 Moves (served unread pending) (left k bytes) s = (rest : List ℕ) × (pending ≡ bytes ++ rest) × (s ≡ served unread rest)
 Moves (ending end pending) (left k bytes) s = (rest : List ℕ) × (pending ≡ bytes ++ rest) × (s ≡ ending end rest)
+Moves (served unread pending) (failed k trial) s = s ≡ served unread pending
+Moves (ending end pending) (failed k trial) s = s ≡ ending end pending
 Moves (served unread pending) (closed k how) s = IsGivenUp unread pending how × (s ≡ gone)
 Moves (ending end pending) (closed k how) s = IsEndOf end pending how × (s ≡ gone)
+Moves fresh (reported ready) s = s ≡ fresh
+Moves (served unread pending) (reported ready) s = s ≡ served unread pending
+Moves (ending end pending) (reported ready) s = s ≡ ending end pending
+Moves gone (reported ready) s = s ≡ gone
 Moves fresh (came k bytes) s = ⊥
 Moves fresh (ended k) s = ⊥
 Moves fresh (answered k mark) s = ⊥
 Moves fresh (broke k cause) s = ⊥
-Moves fresh (stopped k last part stop) s = ⊥
+Moves fresh (stopped k last) s = ⊥
 Moves fresh (left k bytes) s = ⊥
+Moves fresh (failed k trial) s = ⊥
 Moves fresh (closed k how) s = ⊥
 Moves (served unread pending) (opened k) s = ⊥
 Moves (ending end pending) (opened k) s = ⊥
@@ -75,8 +75,16 @@ Moves (ending end pending) (came k bytes) s = ⊥
 Moves (ending end pending) (ended k) s = ⊥
 Moves (ending end pending) (answered k mark) s = ⊥
 Moves (ending end pending) (broke k cause) s = ⊥
-Moves (ending end pending) (stopped k last part stop) s = ⊥
-Moves gone e s = ⊥
+Moves (ending end pending) (stopped k last) s = ⊥
+Moves gone (opened k) s = ⊥
+Moves gone (came k bytes) s = ⊥
+Moves gone (ended k) s = ⊥
+Moves gone (answered k mark) s = ⊥
+Moves gone (broke k cause) s = ⊥
+Moves gone (stopped k last) s = ⊥
+Moves gone (left k bytes) s = ⊥
+Moves gone (failed k trial) s = ⊥
+Moves gone (closed k how) s = ⊥
 
 -- an event: another connection's changes nothing
 pub record Goes (k : ℕ) (s : Stage) (e : Event) (s' : Stage) : Type 0 where

@@ -1,20 +1,20 @@
-ghost use Rattle.std.specs.Prelude.{◌≡◌, ◌≤◌, ◌<◌, [], None, length, drop, false, true, IfSome};
+ghost use Rattle.std.specs.Prelude.{◌≡◌, ◌≤◌, ◌<◌, [], None, Some, length, drop, false, true, IfSome};
 ghost use Rattle.std.specs.Bool.{OnTrue};
 ghost use Rattle.plant_call.specs.{Cut.{WaitsBelow}, Front.{StandsAtFront, waits}};
 ghost use Rattle.plant_wire.specs.{Limits.{least_room}, Session.{IsIdle}};
 ghost use Rattle.plant_wire.specs.declared.reads.End.TheVariants as ends;
 ghost use Rattle.plant_lines.specs.{Happens.{Made, Moved, Turned}, Prompt.{AreFew, IsPrompt, IsSettled}};
 ghost use Rattle.plant_lines.specs.Faults.{added, reporting, without};
-ghost use Rattle.plant_lines.specs.Stages.{IsOpen, MayClose, end_by, end_for};
+ghost use Rattle.plant_lines.specs.{Events.{reading, writing}, Stages.{IsOpen, MayClose, end_for}};
 
-use crate::answers::Answers;
+use crate::answers::{Answers, Draft};
 use crate::desk::Desk;
 use crate::ports::{Ports, Sent, Taken};
 use plant_connections::say_faults;
 use plant_head::FieldRoom;
 use plant_office::{Books, Faults, Office};
 use plant_route::Routes;
-use plant_wire::{End, Step, Stop, answer_next};
+use plant_wire::{End, Step, answer_next};
 use std::alloc::Global;
 use std::io::Write;
 
@@ -91,7 +91,8 @@ impl Line {
 
     /// How it ends, if nothing more is read or answered and all answers have left.
     pub fn over(&self) -> Option<End>
-        ensures { IfSome result (λ end. MayClose self.now end) }
+        ensures may { IfSome result (λ end. MayClose self.now end) }
+        ensures named { IfSome result (λ end. self.now.end ≡ Some end) }
     {
         if self.pending.text.is_empty() {
             return self.end;
@@ -137,22 +138,12 @@ fn end_of(unread: &[u8]) -> End
     End::BrokenInput
 }
 
-/// How a line ends if an answer stopped on it.
-fn end_at(stop: Stop) -> End
-    ensures { result ≡ end_by stop }
-{
-    match stop {
-        Stop::WriteFailed => End::WriteFailed,
-        Stop::Fault => End::Fault,
-    }
-}
-
 /// One read of a line, if it is served, no answer waits to leave on it and no whole request is unread. Whether it goes
 /// on.
 pub(crate) fn read_line<P: Ports>(ports: &mut P, chunk: &mut [u8], line: &mut Line) -> bool
     requires room { least_room ≤ length chunk.old }
     requires waits { WaitsBelow line.old.unread.items line.old.wanted }
-    ensures moved { Moved (P.seen ports.old) (P.seen ports.new) line.old line.new true }
+    ensures moved { Moved (P.seen ports.old) (P.seen ports.new) line.old line.new true reading result }
     ensures waits { WaitsBelow line.new.unread.items line.new.wanted }
     ensures failed { result ≡ false → MayClose line.new ends.ReadFailed }
     ensures kept { length chunk.new ≡ length chunk.old }
@@ -179,7 +170,7 @@ pub(crate) fn read_line<P: Ports>(ports: &mut P, chunk: &mut [u8], line: &mut Li
 /// One write of the answer that waits to leave. Whether the line goes on.
 pub(crate) fn write_line<P: Ports>(alloc: Global, ports: &mut P, line: &mut Line) -> bool
     requires waits { WaitsBelow line.old.unread.items line.old.wanted }
-    ensures moved { Moved (P.seen ports.old) (P.seen ports.new) line.old line.new false }
+    ensures moved { Moved (P.seen ports.old) (P.seen ports.new) line.old line.new false writing result }
     ensures waits { WaitsBelow line.new.unread.items line.new.wanted }
     ensures failed { result ≡ false → MayClose line.new ends.WriteFailed }
 {
@@ -209,7 +200,8 @@ fn wanted_next(unread: &[u8], more: usize) -> usize
 }
 
 /// Answers the request at the front of a line that is served, if it is whole and no answer waits to leave on it. After
-/// that nothing can be answered before more bytes come or the answer has left.
+/// that nothing can be answered before more bytes come or the answer has left. If memory runs out for the answer,
+/// nothing of it leaves; for the answer to a fault it never does, since that much was taken before the call.
 pub(crate) fn serve_line<B: Books>(
     alloc: Global,
     routes: &Routes,
@@ -225,19 +217,26 @@ pub(crate) fn serve_line<B: Books>(
     if line.is_prompt() {
         return;
     }
-    match answer_next(alloc, routes, room, &line.unread, &mut line.pending, office) {
+    let Ok(mut draft) = Draft::new(alloc) else {
+        line.wanted = 0;
+        line.end = Some(End::Fault);
+        return;
+    };
+    match answer_next(alloc, routes, room, &line.unread, &mut draft, office) {
         Ok(Step::Waits(more)) => line.wanted = wanted_next(&line.unread, more),
         Ok(Step::Took(n)) => {
             drop_front(alloc, &mut line.unread, n);
             line.wanted = 0;
+            line.pending = draft.into_answers();
         }
         Ok(Step::Broken) => {
             line.wanted = 0;
             line.end = Some(End::BrokenInput);
+            line.pending = draft.into_answers();
         }
-        Err(stop) => {
+        Err(_) => {
             line.wanted = 0;
-            line.end = Some(end_at(stop));
+            line.end = Some(End::Fault);
         }
     }
 }
@@ -246,7 +245,7 @@ pub(crate) fn serve_line<B: Books>(
 fn read_if<P: Ports>(reads: bool, ports: &mut P, chunk: &mut [u8], line: &mut Line) -> bool
     requires room { least_room ≤ length chunk.old }
     requires waits { WaitsBelow line.old.unread.items line.old.wanted }
-    ensures moved { Moved (P.seen ports.old) (P.seen ports.new) line.old line.new reads }
+    ensures moved { Moved (P.seen ports.old) (P.seen ports.new) line.old line.new reads reading result }
     ensures waits { WaitsBelow line.new.unread.items line.new.wanted }
     ensures failed { result ≡ false → MayClose line.new ends.ReadFailed }
     ensures kept { length chunk.new ≡ length chunk.old }
@@ -295,7 +294,7 @@ pub(crate) fn turn_line<P: Ports, B: Books>(
 ) -> Option<End>
     requires waits { WaitsBelow line.old.unread.items line.old.wanted }
     ensures turned { Turned B.Books office.old.books office.new.books (P.seen ports.old) (P.seen ports.new) line.old
-        line.new asked.reads asked.serves }
+        line.new asked.reads asked.serves result }
     ensures waits { WaitsBelow line.new.unread.items line.new.wanted }
     ensures may { IfSome result (λ end. MayClose line.new end) }
 {
@@ -360,7 +359,7 @@ pub(crate) fn turn_and_report<P: Ports, B: Books, E: Write>(
 ) -> Option<End>
     requires waits { WaitsBelow line.old.unread.items line.old.wanted }
     ensures turned { Turned B.Books office.old.books office.new.books (P.seen ports.old) (P.seen ports.new) line.old
-        line.new asked.reads asked.serves }
+        line.new asked.reads asked.serves result }
     ensures waits { WaitsBelow line.new.unread.items line.new.wanted }
     ensures may { IfSome result (λ end. MayClose line.new end) }
 {

@@ -1,6 +1,6 @@
-ghost use Rattle.std.specs.Prelude.{◌≡◌, ◌≤◌, [], ◌∷◌, length, true, take as first, List, Option, if◌then◌else◌};
+ghost use Rattle.std.specs.Prelude.{◌≡◌, ◌≢◌, ◌≤◌, [], ◌∷◌, length, true, take as first, List, Option, if◌then◌else◌};
 ghost use Rattle.plant_wire.specs.Limits.{least_room};
-ghost use Rattle.plant_lines.specs.Events.{Event, Logs, opened, came, ended, left, closed};
+ghost use Rattle.plant_lines.specs.Events.{Event, Logs, opened, closed, reported};
 ghost use Rattle.plant_lines.specs.{PortSteps.{IsTaken, IsSent}, Prompt.{ArePrompt}};
 
 use crate::lines::Line;
@@ -49,7 +49,7 @@ pub trait Ports {
     /// is accepted only if `accepts` says so.
     fn next(&mut self, lines: &[Line], accepts: bool, may_wait: bool) -> Ready
         requires prompt { may_wait ≡ true → ArePrompt lines.now }
-        ensures { Logs (seen self.old) (seen self.new) [] };
+        ensures { Logs (seen self.old) (seen self.new) (reported result ∷ []) };
 
     /// Accepts a connection under this number, unless that fails.
     fn accept(&mut self, number: u64) -> bool
@@ -62,6 +62,7 @@ pub trait Ports {
 
     /// Sends some bytes from the front of these, as many as the connection takes.
     fn put(&mut self, number: u64, bytes: &[u8]) -> Sent
+        requires some { bytes.now ≢ [] }
         ensures { IsSent (seen self.old) (seen self.new) number bytes.now result };
 
     /// Closes a connection, which ended so. What it was sent is to reach its client, even one that is still sending.

@@ -1,8 +1,8 @@
-ghost use Rattle.std.specs.Prelude.{◌≡◌, ◌<◌, Err, IfSome, IsTrue, length, remove, slice_get, Some, true, false};
+ghost use Rattle.std.specs.Prelude.{◌≡◌, ◌<◌, ℕ, List, Option, Err, IfSome, IsTrue, length, remove, slice_get, Some, true, false};
 ghost use Rattle.std.specs.Bool.{OnTrue};
 ghost use Rattle.plant_books.specs.Books.{WasHonest};
 ghost use Rattle.plant_lines.specs.declared.lines.Line.{Line};
-ghost use Rattle.plant_lines.specs.{Accounts.{AreServed}, Events.{seen_by}, Happens.{Passed}};
+ghost use Rattle.plant_lines.specs.{Accounts.{AreServed}, Causes.{Always, CausedAt, ExpiredAt, HasReported}, Events.{seen_by}, Happens.{Passed}};
 ghost use Rattle.plant_lines.specs.{Held.{IsHeld, IsRound, Turns, TurnsAt}, Prompt.{ArePrompt}, Stages.{AreOpenLines, MayClose}};
 
 use crate::desk::Desk;
@@ -49,12 +49,19 @@ pub(crate) struct Held {
 
 /// The place of the line with this number.
 fn place_of(lines: &[Line], number: u64) -> Option<usize>
-    ensures { IfSome result (λ at. at < length lines.now) }
+    ensures within { IfSome result (λ at. at < length lines.now) }
+    ensures named { IfSome result (λ at. (line : Line) → slice_get lines.now at ≡ Some line → line.number ≡ number) }
 {
-    match lines.binary_search_by_key(&number, |line| line.number) {
-        Ok(at) if at < lines.len() => Some(at),
-        _ => None,
+    let Ok(at) = lines.binary_search_by_key(&number, |line| line.number) else {
+        return None;
+    };
+    if at >= lines.len() {
+        return None;
     }
+    if lines[at].number != number {
+        return None;
+    }
+    Some(at)
 }
 
 /// Closes a line, which ended so, and writes that to the log.
@@ -69,7 +76,7 @@ fn close_line<P: Ports, W: Write>(
     requires within { at < length held.old.lines.items }
     requires held { IsHeld held.old }
     requires may { (line : Line) → slice_get held.old.lines.items at ≡ Some line → MayClose line end }
-    ensures passed { Passed false (seen_by (P.seen ports.old) (W.contents log.old))
+    ensures passed { Passed (CausedAt held.old.lines.items at end) false (seen_by (P.seen ports.old) (W.contents log.old))
         (seen_by (P.seen ports.new) (W.contents log.new))
         held.old.count held.new.count held.old.lines.items held.new.lines.items }
     ensures held { IsHeld held.new }
@@ -109,7 +116,7 @@ fn turn_at<P: Ports, B: Books, W: Write, E: Write>(
     !held.lines[at].is_prompt()
 }
 
-/// Gives up the line at this place, unless a request is left on it that can be answered.
+/// Gives up the line at this place, whose time is over, unless a request is left on it that can be answered.
 fn give_up<P: Ports, W: Write>(
     alloc: Global,
     ports: &mut P,
@@ -119,7 +126,7 @@ fn give_up<P: Ports, W: Write>(
 )
     requires within { at < length held.old.lines.items }
     requires held { IsHeld held.old }
-    ensures passed { Passed false (seen_by (P.seen ports.old) (W.contents log.old))
+    ensures passed { Passed (ExpiredAt held.old.lines.items at) false (seen_by (P.seen ports.old) (W.contents log.old))
         (seen_by (P.seen ports.new) (W.contents log.new))
         held.old.count held.new.count held.old.lines.items held.new.lines.items }
     ensures held { IsHeld held.new }
@@ -131,12 +138,11 @@ fn give_up<P: Ports, W: Write>(
     }
 }
 
-/// Accepts a connection, and counts it.
-fn accept<P: Ports, W: Write>(alloc: Global, ports: &mut P, log: &mut W, held: &mut Held)
+/// Accepts a connection, and counts it. Without memory for it, it goes on waiting.
+fn accept<P: Ports>(alloc: Global, ports: &mut P, held: &mut Held)
     requires { IsHeld held.old }
-    ensures passed { Passed true (seen_by (P.seen ports.old) (W.contents log.old))
-        (seen_by (P.seen ports.new) (W.contents log.new))
-        held.old.count held.new.count held.old.lines.items held.new.lines.items }
+    ensures passed { (log : Option (List ℕ)) → Passed Always true (seen_by (P.seen ports.old) log)
+        (seen_by (P.seen ports.new) log) held.old.count held.new.count held.old.lines.items held.new.lines.items }
     ensures held { IsHeld held.new }
     ensures same { held.new.n ≡ held.old.n }
     ensures prompt { ArePrompt held.old.lines.items → ArePrompt held.new.lines.items }
@@ -145,14 +151,15 @@ fn accept<P: Ports, W: Write>(alloc: Global, ports: &mut P, log: &mut W, held: &
     if number == held.n {
         return;
     }
+    let places = held.lines.len();
+    if held.lines.push(Line::new(alloc, number)).is_err() {
+        return;
+    }
     if !ports.accept(number) {
+        held.lines.truncate(places);
         return;
     }
     held.count = number + 1;
-    if held.lines.push(Line::new(alloc, number)).is_err() {
-        ports.close(number, End::Fault);
-        say_end(alloc, log, number + 1, End::Fault);
-    }
 }
 
 /// One turn of each line on which a request is left, from the last line to the first.
@@ -164,7 +171,7 @@ fn serve_turn<P: Ports, B: Books, W: Write, E: Write>(
     office: &mut Office<B>,
 )
     requires { IsHeld held.old }
-    ensures round { IsRound held.old.count B.Books office.old.books office.new.books
+    ensures round { IsRound Always held.old.count B.Books office.old.books office.new.books
         (seen_by (P.seen ports.old) (W.contents reports.old.log)) (seen_by (P.seen ports.new) (W.contents reports.new.log))
         held.old.count held.new.count held.old.lines.items held.new.lines.items }
     ensures held { IsHeld held.new }
@@ -194,7 +201,7 @@ fn turn_of<P: Ports, B: Books, W: Write, E: Write>(
     office: &mut Office<B>,
 ) -> bool
     requires { IsHeld held.old }
-    ensures { Turns B.Books P.Ports W.Write office.old.books office.new.books ports.old ports.new
+    ensures { Turns Always B.Books P.Ports W.Write office.old.books office.new.books ports.old ports.new
         reports.old reports.new held.old held.new asked.serves result }
 {
     match place_of(&held.lines, number) {
@@ -215,12 +222,12 @@ fn step<P: Ports, B: Books, W: Write, E: Write>(
     office: &mut Office<B>,
 ) -> bool
     requires { IsHeld held.old }
-    ensures { Turns B.Books P.Ports W.Write office.old.books office.new.books ports.old ports.new
+    ensures { Turns (HasReported ready) B.Books P.Ports W.Write office.old.books office.new.books ports.old ports.new
         reports.old reports.new held.old held.new serves result }
 {
     match ready {
         Ready::Came => {
-            accept(desk.alloc, ports, &mut reports.log, held);
+            accept(desk.alloc, ports, held);
             false
         }
         Ready::Readable(number) => {
@@ -273,7 +280,7 @@ fn turn<P: Ports, B: Books, W: Write, E: Write>(
 ) -> bool
     requires held { IsHeld held.old }
     requires prompt { busy ≡ false → ArePrompt held.old.lines.items }
-    ensures round { IsRound 0 B.Books office.old.books office.new.books
+    ensures round { IsRound (HasReported ready) 0 B.Books office.old.books office.new.books
         (seen_by (P.seen ports.old) (W.contents reports.old.log)) (seen_by (P.seen ports.new) (W.contents reports.new.log))
         held.old.count held.new.count held.old.lines.items held.new.lines.items }
     ensures held { IsHeld held.new }
@@ -298,7 +305,9 @@ fn is_over<B: Books>(while_open: bool, office: &Office<B>) -> bool
 /// Serves n connections, as many at once as the ports accept, and writes to the log how each ended. All calls, whatever
 /// their connection, are made one after another; each connection is sent the answers to its own requests, in their
 /// order, and no byte of an answer before its call was made; and what one connection sends changes nothing of another's
-/// but through the office.
+/// but through the office. Each answer is offered to its connection at once. A connection is given up only as a read or
+/// a write of it has failed, or the ports have just said that its time is over; and the service halts with `Ports` only
+/// after the ports failed.
 ///
 /// If it is to go on only `while_open`, it halts once a failure has shut the store: after the turn in which that was
 /// answered, and in which the ports took what they could of the answer. Then it also writes to the errors which kinds
@@ -328,7 +337,7 @@ pub fn serve_lines<P: Ports, B: Books, W: Write, E: Write>(
         reports: while_open,
     };
     let mut busy = false;
-    'turns: for _ in 0..u64::MAX {
+    'turns: for count in 0..u64::MAX {
         if held.count == n && held.lines.is_empty() {
             return Ok(());
         }
@@ -336,7 +345,7 @@ pub fn serve_lines<P: Ports, B: Books, W: Write, E: Write>(
             return Err(Halted::Shut);
         }
         let ready = ports.next(&held.lines, held.count < n, !busy);
-        if matches!(ready, Ready::Failed) {
+        if let Ready::Failed = ready {
             return Err(Halted::Ports);
         }
         busy = turn(&mut desk, ports, reports, &mut held, ready, busy, office);

@@ -14,9 +14,6 @@ const LAST_READS: u32 = 256;
 /// At most how many of them one after another, before others have their turns.
 const READS_A_TURN: u32 = 4;
 
-/// At most how long each of them waits, in milliseconds.
-const LAST_WAIT: u64 = 1000;
-
 /// A connection that is held, or whose client may still be sending after its last answer. Times are in milliseconds
 /// since the port was opened.
 #[derive(Drop)]
@@ -24,10 +21,16 @@ pub(crate) struct Client {
     stream: TcpStream,
     /// When it will have been silent for too long.
     pub until: u64,
+    /// When bytes of it last came or left.
+    pub heard: u64,
+    /// When it came, or its last answer left.
+    pub since: u64,
     /// By when the request that is coming in must be whole, if one is.
     pub whole: Option<u64>,
     /// Whether bytes, or its end, may wait to be read.
     pub readable: bool,
+    /// Whether bytes of it wait unread because there is no room.
+    pub crowded: bool,
     /// Whether nothing will come but what waits.
     closing: bool,
     /// Whether it may take bytes.
@@ -40,12 +43,15 @@ pub(crate) struct Client {
 
 impl Client {
     /// A connection that was just accepted.
-    pub fn new(stream: TcpStream, until: u64) -> Client {
+    pub fn new(stream: TcpStream, now: u64, until: u64) -> Client {
         Client {
             stream,
             until,
+            heard: now,
+            since: now,
             whole: None,
             readable: false,
+            crowded: false,
             closing: false,
             writable: false,
             queued: false,
@@ -106,8 +112,8 @@ impl Client {
 
     /// Ends the sending side alone, if the client may still be sending: to close a socket with bytes unread would break
     /// the connection, and the client might lose the answers that are on their way. Whether what it still sends is to
-    /// be read out.
-    pub fn linger(&mut self, end: End, now: u64) -> bool {
+    /// be read out, until it is quiet.
+    pub fn linger(&mut self, end: End, quiet: u64) -> bool {
         let may_send = match end {
             End::BrokenInput | End::Fault => true,
             End::Closed | End::ReadFailed | End::WriteFailed => false,
@@ -116,13 +122,13 @@ impl Client {
             return false;
         }
         self.lingers = Some(LAST_READS);
-        self.until = now.saturating_add(LAST_WAIT);
+        self.until = quiet;
         true
     }
 
     /// Reads some of what a client still sends after its last answer, and throws it away. Whether more may wait; if
     /// nothing more is to be read, `lingers` is at 0 after it.
-    pub fn read_out(&mut self, scratch: &mut [u8], now: u64) -> bool {
+    pub fn read_out(&mut self, scratch: &mut [u8], quiet: u64) -> bool {
         for _ in 0..READS_A_TURN {
             let left = match self.lingers {
                 Some(left) if left > 0 => left,
@@ -140,11 +146,30 @@ impl Client {
                 }
                 Ok(_) => {
                     self.lingers = Some(left - 1);
-                    self.until = now.saturating_add(LAST_WAIT);
+                    self.until = quiet;
                 }
             }
         }
         true
+    }
+
+    /// Moves all its times on by so many milliseconds.
+    pub fn move_on(&mut self, passed: u64) {
+        self.until = self.until.saturating_add(passed);
+        self.heard = self.heard.saturating_add(passed);
+        self.since = self.since.saturating_add(passed);
+        self.whole = match self.whole {
+            Some(whole) => Some(whole.saturating_add(passed)),
+            None => None,
+        };
+    }
+
+    /// Whether what it still sends after its last answer is read out.
+    pub fn is_read_out(&self, now: u64) -> bool {
+        match self.lingers {
+            Some(left) => left > 0 && now < self.until,
+            None => false,
+        }
     }
 
     /// Whether a write may succeed that its line waits for.
@@ -156,9 +181,4 @@ impl Client {
 /// Whether the request that is coming of a line may be whole with so many bytes more.
 pub(crate) fn may_finish(line: &Line, more: usize) -> bool {
     line.wanted <= line.unread.len().saturating_add(more)
-}
-
-/// Whether a line holds nothing at all: no bytes unread and none to leave.
-pub(crate) fn holds_nothing(line: &Line) -> bool {
-    line.end.is_none() && line.unread.is_empty() && line.pending.text.is_empty()
 }

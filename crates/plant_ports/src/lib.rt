@@ -2,6 +2,8 @@
 #![tactic(auto)]
 
 mod clients;
+mod descriptors;
 mod sockets;
 
+pub use descriptors::has_few_descriptors;
 pub use sockets::{Limits, Sockets};

@@ -1,6 +1,6 @@
 ghost use Rattle.std.specs.Prelude.{None};
 
-use crate::clients::{Client, holds_nothing, may_finish};
+use crate::clients::{Client, may_finish};
 use mio::net::{TcpListener, TcpStream};
 use mio::{Events, Interest, Poll, Token};
 use plant_lines::{Line, Ports, Ready, Sent, Taken};
@@ -14,33 +14,60 @@ use std::time::{Duration, Instant};
 const LISTENER: Token = Token(usize::MAX);
 
 /// How many events one wait may report.
-const EVENTS: usize = 256;
+const EVENTS_A_WAIT: usize = 256;
 
-/// After at most how many turns the system is asked for new events.
+/// After at most how many turns the system is asked for new events while no requests are left from turn to turn.
 const TURNS: u32 = 64;
 
-/// The longest wait, and how often deadlines are looked at, in milliseconds.
-const SECOND: u64 = 1000;
+/// The same while requests of the only client are left.
+const TURNS_OF_ONE: u32 = 16;
+
+/// After how many others a client of which requests were left is read before more of them.
+const MOST_AHEAD: u32 = 16;
+
+/// How many milliseconds a second has.
+const SECOND_MS: u64 = 1000;
+
+/// The longest wait, in milliseconds.
+const LONGEST_WAIT_MS: u64 = 1000;
+
+/// How often deadlines are looked at, in milliseconds.
+const DEADLINES_EVERY_MS: u64 = 1000;
+
+/// How long none is accepted, in milliseconds, after the system refused to or memory ran out.
+const PAUSE_MS: u64 = 1000;
 
 /// If more time passes between two looks at the clock, in milliseconds, the program was stopped: all deadlines then
 /// move on by that time.
-const STOPPED: u64 = 3000;
+const STOPPED_MS: u64 = 3000;
 
-/// How often a client that can give up its place is looked for, in milliseconds, while another waits for one.
-const LOOK: u64 = 10;
+/// How often a client that gives up its place or its room is looked for, in milliseconds, while others wait for one.
+const LOOK_EVERY_MS: u64 = 10;
+
+/// How long a client keeps its place after its last answer, and its room after its last byte, in milliseconds, while
+/// others wait for one.
+const KEPT_MS: u64 = 2000;
 
 /// How many times the silence that is allowed a request may take from its first byte to its last.
-const REQUEST: u64 = 4;
+const REQUEST_SILENCES: u64 = 4;
 
-/// How many bytes of requests all connections together may hold: 64 MiB. Above that only two kinds of connections are
-/// read: those whose request can be whole with a few more bytes, and the one that holds most.
-const HELD: usize = 67_108_864;
+/// How many bytes of requests all connections together may hold before only some are read: 64 MiB.
+const HELD_BYTES: usize = 67_108_864;
 
-/// How many bytes a connection may be read of above that.
-const FEW: usize = 4096;
+/// How many bytes of a request are read of each connection, even then.
+const FREE_BYTES: usize = 65_536;
+
+/// How many bytes a connection may be read of then if its request can be whole with them.
+const LAST_BYTES: usize = 4096;
 
 /// The room that each read of what comes after a last answer is offered, in bytes.
-const LAST_ROOM: usize = 65536;
+const SCRATCH_BYTES: usize = 65_536;
+
+/// How long a client may be quiet after its last answer before it is closed, in milliseconds.
+const QUIET_MS: u64 = 1000;
+
+/// The same once the service is over.
+const LAST_QUIET_MS: u64 = 50;
 
 /// At most how many waits are made for what comes after last answers, once the service is over.
 const LAST_WAITS: u32 = 25_600;
@@ -65,6 +92,10 @@ pub struct Sockets<'a> {
     clients: BTreeMap<u64, Client>,
     /// Clients that may go on, in the order of their turns.
     ready: VecDeque<u64>,
+    /// Clients that may be read, but of which requests are left that were read.
+    aside: VecDeque<u64>,
+    /// How many went on before these.
+    ahead: u32,
     /// Clients that are to be given up.
     expired: VecDeque<u64>,
     /// A connection that waits for a place.
@@ -77,8 +108,16 @@ pub struct Sockets<'a> {
     now: u64,
     /// When deadlines are looked at next.
     check: u64,
-    /// When room is looked for next.
+    /// When a client that gives up its place or its room is looked for next.
     look: u64,
+    /// Whether the last turn accepted first.
+    accepts_first: bool,
+    /// Whether a connection was offered that waits for a place.
+    offered: bool,
+    /// Whether a client was not read because there is no room.
+    crowded: bool,
+    /// How long a client may be quiet after its last answer.
+    quiet: u64,
     /// How many turns went since the last wait.
     turns: u32,
     /// At least so many bytes of requests are held.
@@ -91,7 +130,7 @@ pub struct Sockets<'a> {
 /// The milliseconds of a length of time.
 fn millis(time: Duration) -> u64 {
     time.as_secs()
-        .saturating_mul(SECOND)
+        .saturating_mul(SECOND_MS)
         .saturating_add(time.subsec_millis() as u64)
 }
 
@@ -125,6 +164,21 @@ fn fullest(lines: &[Line]) -> Option<u64> {
     number
 }
 
+/// How many bytes may be read of this line's request, freely or while too many are held.
+fn room_of(line: &Line, freely: bool) -> usize {
+    if freely {
+        return usize::MAX;
+    }
+    let free = FREE_BYTES.saturating_sub(line.unread.len());
+    if free > 0 {
+        return free;
+    }
+    if may_finish(line, LAST_BYTES) {
+        return LAST_BYTES;
+    }
+    0
+}
+
 impl<'a> Sockets<'a> {
     /// Listens on the port with this number, or on a free one for 0.
     pub fn listen(rt: &'a HostRuntime, number: u16, limits: Limits) -> io::Result<Sockets<'a>> {
@@ -136,23 +190,29 @@ impl<'a> Sockets<'a> {
         Ok(Sockets {
             rt,
             poll,
-            events: Events::with_capacity(rt.alloc(), EVENTS)?,
+            events: Events::with_capacity(rt.alloc(), EVENTS_A_WAIT)?,
             listener,
             limits,
             clients: BTreeMap::new(rt.alloc()),
             ready: VecDeque::new(rt.alloc()),
+            aside: VecDeque::new(rt.alloc()),
+            ahead: 0,
             expired: VecDeque::new(rt.alloc()),
             accepted: None,
             may_accept: true,
             paused: 0,
             start: Instant::now(rt)?,
             now: 0,
-            check: SECOND,
+            check: DEADLINES_EVERY_MS,
             look: 0,
+            accepts_first: false,
+            offered: false,
+            crowded: false,
+            quiet: QUIET_MS,
             turns: 0,
             held: 0,
             most: usize::MAX,
-            scratch: vec![in rt.alloc(); 0u8; LAST_ROOM]?,
+            scratch: vec![in rt.alloc(); 0u8; SCRATCH_BYTES]?,
         })
     }
 
@@ -163,21 +223,24 @@ impl<'a> Sockets<'a> {
 
     /// Ends the sending to all clients that are still served. What the system took of their answers is to reach them.
     fn end_all(&mut self) {
-        let now = self.now;
+        let quiet = self.now.saturating_add(self.quiet);
         for (number, client) in self.clients.iter_mut() {
-            if client.lingers.is_none() && client.linger(End::Fault, now) && !client.queued {
+            client.until = client.until.min(quiet);
+            if client.lingers.is_none() && client.linger(End::Fault, quiet) && !client.queued {
                 client.queued = self.ready.push_back(*number).is_ok();
             }
         }
-        self.clients.retain(|_, client| client.lingers.is_some());
     }
 
-    /// Once the service is over: reads out what clients still send after their last answers, so that these reach them.
+    /// Once the service is over: reads out what clients still send after their last answers, so that these reach them,
+    /// until each has been quiet for a moment.
     pub fn finish(&mut self) {
+        self.quiet = LAST_QUIET_MS;
         self.end_all();
         for _ in 0..LAST_WAITS {
-            self.look_at_deadlines(&[]);
-            if self.clients.is_empty() || self.wait(LOOK).is_err() {
+            let now = self.now;
+            self.clients.retain(|_, client| client.is_read_out(now));
+            if self.clients.is_empty() || self.wait(LOOK_EVERY_MS).is_err() {
                 return;
             }
             let _ = self.next_ready(&[]);
@@ -197,7 +260,7 @@ impl<'a> Sockets<'a> {
         match self.limits.idle {
             Some(idle) => Some(
                 self.now
-                    .saturating_add(millis(idle).saturating_mul(REQUEST)),
+                    .saturating_add(millis(idle).saturating_mul(REQUEST_SILENCES)),
             ),
             None => None,
         }
@@ -236,13 +299,9 @@ impl<'a> Sockets<'a> {
         let now = millis(self.start.elapsed(self.rt)?);
         let passed = now.saturating_sub(self.now);
         self.now = now;
-        if passed > STOPPED {
+        if passed > STOPPED_MS {
             for client in self.clients.values_mut() {
-                client.until = client.until.saturating_add(passed);
-                client.whole = match client.whole {
-                    Some(whole) => Some(whole.saturating_add(passed)),
-                    None => None,
-                };
+                client.move_on(passed);
             }
         }
         Ok(())
@@ -263,10 +322,10 @@ impl<'a> Sockets<'a> {
         if !may_wait {
             return 0;
         }
-        if self.accepted.is_some() {
-            return LOOK;
+        if self.accepted.is_some() || self.crowded {
+            return LOOK_EVERY_MS;
         }
-        SECOND
+        LONGEST_WAIT_MS
     }
 
     /// Accepts the next connection, if one waits. Whether there is one, and a place for it.
@@ -277,11 +336,12 @@ impl<'a> Sockets<'a> {
                 Err(error) => match error.kind() {
                     ErrorKind::WouldBlock => self.may_accept = false,
                     ErrorKind::ConnectionAborted | ErrorKind::Interrupted => {}
-                    _ => self.paused = self.now.saturating_add(SECOND),
+                    _ => self.paused = self.now.saturating_add(PAUSE_MS),
                 },
             }
         }
-        accepts && self.accepted.is_some() && self.clients.len() < self.limits.clients
+        let has_one = accepts && self.accepted.is_some() && self.paused <= self.now;
+        has_one && self.clients.len() < self.limits.clients
     }
 
     /// Looks for connections whose time is over: those that are silent, that take nothing of an answer, or that have
@@ -290,8 +350,9 @@ impl<'a> Sockets<'a> {
         if self.now < self.check {
             return;
         }
-        self.check = self.now.saturating_add(SECOND);
+        self.check = self.now.saturating_add(DEADLINES_EVERY_MS);
         let now = self.now;
+        let until = self.until();
         let whole = self.whole();
         for line in lines {
             let Some(client) = self.clients.get_mut(&line.number) else {
@@ -300,6 +361,10 @@ impl<'a> Sockets<'a> {
             if line.unread.is_empty() {
                 client.whole = None;
             } else if client.whole.is_none() {
+                client.whole = whole;
+            }
+            if client.crowded {
+                client.until = until;
                 client.whole = whole;
             }
             let late = match client.whole {
@@ -313,87 +378,214 @@ impl<'a> Sockets<'a> {
                 client.queued = self.ready.push_back(line.number).is_ok();
             }
         }
-        self.clients.retain(|_, client| match client.lingers {
-            Some(left) => left > 0 && now < client.until,
-            None => true,
-        });
+        self.clients.retain(|_, client| client.lingers.is_none() || client.is_read_out(now));
     }
 
-    /// If all places are held and a client waits, the connection that gives its place up: the one that was silent
-    /// longest with nothing unread and nothing to leave. Connections that only linger are closed first.
-    fn gives_way(&mut self, lines: &[Line]) -> Option<u64> {
-        if self.accepted.is_none()
-            || self.clients.len() < self.limits.clients
-            || self.now < self.look
-        {
-            return None;
-        }
-        self.look = self.now.saturating_add(LOOK);
-        let before = self.clients.len();
-        self.clients.retain(|_, client| client.lingers.is_none());
-        if self.clients.len() < before {
-            return None;
-        }
+    /// Whether all places are held and a client waits for one.
+    fn wants_place(&self) -> bool {
+        self.accepted.is_some() && self.clients.len() >= self.limits.clients
+    }
+
+    /// The connection that gives its place up: of those that have neither a whole request nor an answer on its way, the
+    /// one whose last answer left longest ago, or that came longest ago, if that is at least two seconds.
+    fn gives_place(&self, lines: &[Line]) -> Option<u64> {
         let mut first = u64::MAX;
         let mut number = None;
         for line in lines {
             let Some(client) = self.clients.get(&line.number) else {
                 continue;
             };
-            if holds_nothing(line)
-                && !client.readable
-                && (number.is_none() || client.until < first)
-            {
-                first = client.until;
+            let kept = client.since.saturating_add(KEPT_MS) > self.now;
+            if line.is_open() && !client.readable && !kept && client.since < first {
+                first = client.since;
                 number = Some(line.number);
             }
         }
         number
     }
 
+    /// The connection that gives its room up: of those that hold more than each may, the one of which a byte came
+    /// longest ago, if that is at least two seconds and none waits unread.
+    fn gives_room(&self, lines: &[Line]) -> Option<u64> {
+        let mut first = u64::MAX;
+        let mut number = None;
+        for line in lines {
+            let Some(client) = self.clients.get(&line.number) else {
+                continue;
+            };
+            let kept = client.heard.saturating_add(KEPT_MS) > self.now;
+            let holds = line.is_open() && line.unread.len() > FREE_BYTES;
+            if holds && !client.readable && !kept && client.heard < first {
+                first = client.heard;
+                number = Some(line.number);
+            }
+        }
+        number
+    }
+
+    /// The connection that is closed for others that wait for a place or for room, if any. Connections that only linger
+    /// are closed first.
+    fn gives_way(&mut self, lines: &[Line]) -> Option<u64> {
+        let wants_place = self.wants_place();
+        if !(wants_place || self.crowded) || self.now < self.look {
+            return None;
+        }
+        self.look = self.now.saturating_add(LOOK_EVERY_MS);
+        if wants_place {
+            let before = self.clients.len();
+            self.clients.retain(|_, client| client.lingers.is_none());
+            if self.clients.len() < before {
+                return None;
+            }
+            if let Some(number) = self.gives_place(lines) {
+                return Some(number);
+            }
+        }
+        if !self.crowded {
+            return None;
+        }
+        self.gives_room(lines)
+    }
+
     /// Whether more bytes are held than may be.
     fn is_full(&mut self, lines: &[Line]) -> bool {
-        if self.held <= HELD {
+        if self.held <= HELD_BYTES {
+            self.crowded = false;
             return false;
         }
         self.held = held_of(lines);
-        self.held > HELD
+        self.crowded = self.crowded && self.held > HELD_BYTES;
+        self.held > HELD_BYTES
     }
 
-    /// The next client of the queue that can go on. One that can't go on now, but may later, goes to the end.
+    /// Looks at a client that waited for its turn: what can be done for it, if anything. It waits again if more may be
+    /// done later: behind the others if it can go on, and aside while requests of it are left that were read.
+    fn look_at(
+        &mut self,
+        number: u64,
+        lines: &[Line],
+        full: bool,
+        first: Option<u64>,
+    ) -> Option<Ready> {
+        let quiet = self.now.saturating_add(self.quiet);
+        let client = self.clients.get_mut(&number)?;
+        client.queued = false;
+        if client.lingers.is_some() {
+            if client.read_out(&mut self.scratch, quiet) {
+                client.queued = self.ready.push_back(number).is_ok();
+            } else if client.lingers == Some(0) {
+                drop(self.clients.remove(&number));
+            }
+            return None;
+        }
+        let line = line_at(lines, number)?;
+        if client.may_write(line) {
+            client.queued = self.ready.push_back(number).is_ok();
+            return Some(Ready::Writable(number));
+        }
+        if !client.readable || line.end.is_some() || !line.pending.text.is_empty() {
+            return None;
+        }
+        if !line.is_open() {
+            client.queued = self.aside.push_back(number).is_ok();
+            return None;
+        }
+        client.queued = self.ready.push_back(number).is_ok();
+        let most = room_of(line, !full || first == Some(number));
+        client.crowded = most == 0;
+        if most == 0 {
+            self.crowded = true;
+            return None;
+        }
+        self.most = most;
+        Some(Ready::Readable(number))
+    }
+
+    /// The next client that can go on, of those that wait for their turns.
+    fn next_in_turn(&mut self, lines: &[Line], full: bool, first: Option<u64>) -> Option<Ready> {
+        for _ in 0..self.ready.len() {
+            let number = self.ready.pop_front()?;
+            if let Some(ready) = self.look_at(number, lines, full, first) {
+                return Some(ready);
+            }
+        }
+        None
+    }
+
+    /// The same, of those of which requests were left.
+    fn next_aside(&mut self, lines: &[Line], full: bool, first: Option<u64>) -> Option<Ready> {
+        for _ in 0..self.aside.len() {
+            let number = self.aside.pop_front()?;
+            if let Some(ready) = self.look_at(number, lines, full, first) {
+                return Some(ready);
+            }
+        }
+        None
+    }
+
+    /// What can be done next for a client. One of which requests were left is read only if no other can go on, or after
+    /// some others.
     fn next_ready(&mut self, lines: &[Line]) -> Option<Ready> {
         let full = self.is_full(lines);
         let first = if full { fullest(lines) } else { None };
-        for _ in 0..self.ready.len() {
-            let number = self.ready.pop_front()?;
-            let Some(client) = self.clients.get_mut(&number) else {
-                continue;
-            };
-            client.queued = false;
-            if client.lingers.is_some() {
-                if client.read_out(&mut self.scratch, self.now) {
-                    client.queued = self.ready.push_back(number).is_ok();
-                } else if client.lingers == Some(0) {
-                    drop(self.clients.remove(&number));
-                }
-                continue;
+        if self.ahead < MOST_AHEAD {
+            if let Some(ready) = self.next_in_turn(lines, full, first) {
+                self.ahead = self.ahead.saturating_add(1);
+                return Some(ready);
             }
-            let Some(line) = line_at(lines, number) else {
-                continue;
-            };
-            let writes = client.may_write(line);
-            let reads = client.readable && line.end.is_none() && line.pending.text.is_empty();
-            if writes || reads {
-                client.queued = self.ready.push_back(number).is_ok();
-            }
-            if writes {
-                return Some(Ready::Writable(number));
-            }
-            let freely = !full || first == Some(number);
-            if reads && line.is_open() && (freely || may_finish(line, FEW)) {
-                self.most = if freely { usize::MAX } else { FEW };
-                return Some(Ready::Readable(number));
-            }
+        }
+        self.ahead = 0;
+        if let Some(ready) = self.next_aside(lines, full, first) {
+            return Some(ready);
+        }
+        self.next_in_turn(lines, full, first)
+    }
+}
+
+impl Sockets<'_> {
+    /// If a connection was offered and not accepted, memory ran out for it: none is offered for a while.
+    fn note_refusal(&mut self) {
+        if self.offered {
+            self.offered = false;
+            self.paused = self.now.saturating_add(PAUSE_MS);
+        }
+    }
+
+    /// Whether the system is asked for new events before the next turn. While requests are left from turn to turn it is
+    /// asked in each, so that one that arrives is read in the next, but for the only client's.
+    fn is_to_ask(&self, may_wait: bool) -> bool {
+        let most = if may_wait {
+            TURNS
+        } else if self.clients.len() > 1 {
+            1
+        } else {
+            TURNS_OF_ONE
+        };
+        self.turns >= most
+    }
+
+    /// Looks for connections whose time is over, and for one that gives way to others. The first of these.
+    fn given_up(&mut self, lines: &[Line]) -> Option<u64> {
+        self.look_at_deadlines(lines);
+        if let Some(number) = self.expired.pop_front() {
+            return Some(number);
+        }
+        self.gives_way(lines)
+    }
+
+    /// What can be done next: of each two turns one accepts first, the other reads or writes first.
+    fn next_of_all(&mut self, lines: &[Line], accepts: bool) -> Option<Ready> {
+        self.accepts_first = !self.accepts_first;
+        if self.accepts_first && self.has_next(accepts) {
+            self.offered = true;
+            return Some(Ready::Came);
+        }
+        if let Some(ready) = self.next_ready(lines) {
+            return Some(ready);
+        }
+        if self.has_next(accepts) {
+            self.offered = true;
+            return Some(Ready::Came);
         }
         None
     }
@@ -406,30 +598,34 @@ impl Ports for Sockets<'_> {
         if let Some(number) = self.expired.pop_front() {
             return Ready::Expired(number);
         }
-        let goes_on = self.turns < TURNS;
-        if goes_on {
-            self.turns += 1;
-            if self.turns % 2 == 0 && self.has_next(accepts) {
-                return Ready::Came;
+        self.note_refusal();
+        let asks = self.is_to_ask(may_wait);
+        if asks {
+            if self.wait(0).is_err() {
+                return Ready::Failed;
             }
-            if let Some(ready) = self.next_ready(lines) {
-                return ready;
-            }
-            if self.has_next(accepts) {
-                return Ready::Came;
+            if let Some(number) = self.given_up(lines) {
+                return Ready::Expired(number);
             }
         }
-        if self.wait(self.longest(may_wait && goes_on)).is_err() {
+        self.turns = self.turns.saturating_add(1);
+        if let Some(ready) = self.next_of_all(lines, accepts) {
+            return ready;
+        }
+        if asks && !may_wait {
+            return Ready::Nothing;
+        }
+        if self.wait(self.longest(may_wait)).is_err() {
             return Ready::Failed;
         }
-        self.look_at_deadlines(lines);
-        match self.gives_way(lines) {
+        match self.given_up(lines) {
             Some(number) => Ready::Expired(number),
             None => Ready::Nothing,
         }
     }
 
     fn accept(&mut self, number: u64) -> bool {
+        self.offered = false;
         let Some(mut stream) = self.accepted.take() else {
             return false;
         };
@@ -446,7 +642,7 @@ impl Ports for Sockets<'_> {
         }
         let until = self.until();
         self.clients
-            .insert(number, Client::new(stream, until))
+            .insert(number, Client::new(stream, self.now, until))
             .is_ok()
     }
 
@@ -459,6 +655,8 @@ impl Ports for Sockets<'_> {
         let taken = client.take(buf, self.most);
         if let Taken::Bytes(n) = taken {
             client.until = until;
+            client.heard = self.now;
+            client.crowded = false;
             if client.whole.is_none() {
                 client.whole = whole;
             }
@@ -476,6 +674,8 @@ impl Ports for Sockets<'_> {
         if let Sent::Bytes(n) = sent {
             if n > 0 {
                 client.until = until;
+                client.heard = self.now;
+                client.since = self.now;
                 client.whole = None;
             }
             self.queue(number);
@@ -484,11 +684,11 @@ impl Ports for Sockets<'_> {
     }
 
     fn close(&mut self, number: u64, end: End) {
-        let now = self.now;
+        let quiet = self.now.saturating_add(self.quiet);
         let Some(client) = self.clients.get_mut(&number) else {
             return;
         };
-        if client.linger(end, now) {
+        if client.linger(end, quiet) {
             self.queue(number);
         } else {
             drop(self.clients.remove(&number));

@@ -51,6 +51,10 @@ module _ (ran also : List Call → List Answer → Type 0)
     ends = s.ends;
     fair = s.fair;
     steady = s.steady;
+    bounded = s.bounded;
+    in_order = s.in_order;
+    caused = s.caused;
+    offered = s.offered;
     stops = s.stops;
   }
 

@@ -29,7 +29,7 @@ use plant_line::{Line, LineError, Service, Task, line_of};
 use plant_lines::{Halted, Reports, serve_lines};
 use plant_mirror::{Copies, Mirror};
 use plant_office::{Books, Office};
-use plant_ports::{Limits, Sockets};
+use plant_ports::{Limits, Sockets, has_few_descriptors};
 use plant_store::{StoreFault, Tables};
 use plant_types::Person;
 use plant_types::limits::MAX_ROWS_AT_HAND;
@@ -262,6 +262,9 @@ fn serve_at_once<B: Books, W: Write, E: Write>(
         return Err(Halted::Ports);
     };
     say_address(rt.alloc(), output, address);
+    if has_few_descriptors(service.clients as usize) {
+        say(errors, b"net: few file descriptors\n");
+    }
     let mut reports = Reports {
         log: output,
         errors,

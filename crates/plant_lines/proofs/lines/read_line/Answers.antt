@@ -1,9 +1,24 @@
-use Rattle.std.proofs.Common.{ap, refl, take, ◌∙◌, ◌≡◌, ◌++◌, Some}
+use Rattle.std.proofs.Common.{ap, refl, take, true, ◌∙◌, ◌≡◌, ◌++◌, Some}
 use Rattle.plant_call.proofs.public.Waiting.{waits_more}
 use Rattle.plant_wire.specs.declared.reads.End.TheVariants.{Fault, ReadFailed}
-use Rattle.plant_lines.specs.Stages.{ending, served, end_for}
-use Rattle.plant_lines.proofs.{Handled.{moved_came, moved_ended, moved_lost}, Held.{gives_up}, Waits.{on_true}}
+use Rattle.plant_lines.specs.{Events.{reading, writing}, Stages.{ending, served, end_for}}
+use Rattle.plant_lines.proofs.{Handled.{moved_came, moved_ended, moved_failed, moved_lost, moved_none}, Held.{gives_up}, Leading.{logs_none}, Waits.{on_true}}
 use Rattle.plant_lines.proofs.lines.read_line.Goals as goal
+
+pub returns-then-not-is_open-clause-moved : goal.returns-then-not-is_open-clause-moved
+returns-then-not-is_open-clause-moved g c =
+    let seen = g.P.Ports.seen c.args.ports.now in
+    moved_none seen seen c.args.line.now c.args.line.now refl true reading (λ (is : reading ≡ writing). cc) (logs_none seen) refl
+
+pub returns-in-Nothing-clause-moved : goal.returns-in-Nothing-clause-moved
+returns-in-Nothing-clause-moved g c =
+    moved_none (g.P.Ports.seen c.args.ports.now) (g.P.Ports.seen c.take.new.self) c.args.line.now c.args.line.now refl true reading
+    (λ (is : reading ≡ writing). cc) c.in-Nothing.ensures refl
+
+pub returns-in-Failed-clause-moved : goal.returns-in-Failed-clause-moved
+returns-in-Failed-clause-moved g c =
+    moved_failed (g.P.Ports.seen c.args.ports.now) (g.P.Ports.seen c.take.new.self) c.args.line.now c.args.line.now refl true reading
+    c.in-Failed.ensures refl
 
 pub returns-in-Failed-clause-failed : goal.returns-in-Failed-clause-failed
 returns-in-Failed-clause-failed g c none =

@@ -1,8 +1,8 @@
-use Rattle.std.proofs.Common.{ap, refl, true, sym, ◌∙◌, ◌++◌, Some, append-nil, inr}
+use Rattle.std.proofs.Common.{ap, refl, true, sym, ◌∙◌, ◌++◌, Some, inr}
 use Rattle.plant_wire.specs.Marks.{mark_text}
-use Rattle.plant_wire.specs.declared.reads.End.TheVariants.{BrokenInput}
+use Rattle.plant_wire.specs.declared.reads.End.TheVariants.{BrokenInput, Fault}
 use Rattle.plant_lines.specs.Stages.{ending, served}
-use Rattle.plant_lines.proofs.{Handled.{made_answered, made_broke, made_none, made_stopped, made_waiting}, Texts.{mark_some}, Waited.{idle_stage}, Waits.{on_true}}
+use Rattle.plant_lines.proofs.{Handled.{made_answered, made_broke, made_none, made_part, made_short, made_waiting}, Texts.{text_some}, Waited.{idle_stage}, Waits.{on_true}}
 use Rattle.plant_lines.proofs.lines.serve_line.Goals as goal
 
 pub returns-then-is_prompt-clause-made : goal.returns-then-is_prompt-clause-made
@@ -21,8 +21,8 @@ returns-in-Ok-Waits-clause-made g c =
     let live = c.is_prompt.ensures.served c.if-is_prompt.false in
     let h = rw (c.in-Ok-Waits.field-0-is, c.deref.ensures.value) at c.in-Ok-Waits.ensures.does in
     made_waiting g.B.Books c.args.office.now.books c.answer_next.new.office.books c.in-Ok-Waits.ensures.honest l
-    (record l { wanted = c.wanted_next-line.result; pending = c.answer_next.new.outlet })
-    refl h.served (rw live (ap (served l.unread.items) (h.writes ∙ append-nil l.pending.text.items))) (inr h.stands)
+    (record l { wanted = c.wanted_next-line.result })
+    refl h.served refl (inr h.stands)
 
 pub wanted_next-line-requires-clause-waiting : goal.wanted_next-line-requires-clause-waiting
 wanted_next-line-requires-clause-waiting g c =
@@ -38,39 +38,53 @@ returns-in-Ok-Waits-clause-waits g c = rw c.deref-in-Ok-Waits.ensures.value at c
 pub returns-in-Ok-Waits-clause-settled : goal.returns-in-Ok-Waits-clause-settled
 returns-in-Ok-Waits-clause-settled g c live none = inr (rw c.deref-in-Ok-Waits.ensures.value at c.wanted_next-line.ensures.more)
 
+pub returns-in_default-clause-made : goal.returns-in_default-clause-made
+returns-in_default-clause-made g c =
+    let l = c.args.line.now in
+    let live = c.is_prompt.ensures.served c.if-is_prompt.false in
+    let empty = c.is_prompt.ensures.empty c.if-is_prompt.false in
+    made_short g.B.Books c.args.office.now.books l (record l { wanted = 0; end = Some Fault }) refl live empty (ap (ending Fault) empty)
+
 pub returns-in-Ok-Took-clause-made : goal.returns-in-Ok-Took-clause-made
 returns-in-Ok-Took-clause-made g c =
     let l = c.args.line.now in
     let live = c.is_prompt.ensures.served c.if-is_prompt.false in
     let h = rw (c.in-Ok-Took.field-0-is, c.deref.ensures.value) at c.in-Ok-Took.ensures.does in
+    let text = c.into_answers.ensures in
     made_answered g.B.Books c.args.office.now.books c.answer_next.new.office.books c.in-Ok-Took.ensures.honest l
-    (record l { unread = c.drop_front.new.buffer; wanted = 0; pending = c.answer_next.new.outlet })
+    (record l { unread = c.drop_front.new.buffer; wanted = 0; pending = c.into_answers.result })
     refl live (c.is_prompt.ensures.empty c.if-is_prompt.false)
-    c.in-Ok-Took.n c.answer_next.new.outlet.text.items h.2
-    (rw live (ap (λ u. served u c.answer_next.new.outlet.text.items) c.drop_front.ensures))
+    c.in-Ok.draft.text.items c.in-Ok.ensures
+    c.in-Ok-Took.n (rw text h.2)
+    (rw live (ap (λ u. served u c.into_answers.result.text.items) c.drop_front.ensures))
 
 pub returns-in-Ok-Took-clause-settled : goal.returns-in-Ok-Took-clause-settled
 returns-in-Ok-Took-clause-settled g c live none =
     let h = rw (c.in-Ok-Took.field-0-is, c.deref.ensures.value) at c.in-Ok-Took.ensures.does in
-    let empty = c.is_prompt.ensures.empty c.if-is_prompt.false in
-    absurd (mark_some h.2.mark (sym (h.2.writes ∙ ap (λ t. t ++ mark_text h.2.mark) empty) ∙ none))
+    absurd
+    (text_some h.2.mark c.in-Ok.draft.text.items c.answer_next.new.outlet.text.items c.into_answers.result.text.items c.in-Ok.ensures h.2.writes
+    c.into_answers.ensures none)
 
 pub returns-in-Ok-Broken-clause-made : goal.returns-in-Ok-Broken-clause-made
 returns-in-Ok-Broken-clause-made g c =
     let l = c.args.line.now in
     let live = c.is_prompt.ensures.served c.if-is_prompt.false in
     let h = rw (c.in-Ok-Broken.field-0-is, c.deref.ensures.value) at c.in-Ok-Broken.ensures.does in
+    let text = c.into_answers-in-Ok-Broken.ensures in
     made_broke g.B.Books c.args.office.now.books c.answer_next.new.office.books c.in-Ok-Broken.ensures.honest l
-    (record l { wanted = 0; pending = c.answer_next.new.outlet; end = Some BrokenInput })
+    (record l { wanted = 0; pending = c.into_answers-in-Ok-Broken.result; end = Some BrokenInput })
     refl live (c.is_prompt.ensures.empty c.if-is_prompt.false)
-    c.answer_next.new.outlet.text.items h refl
+    c.in-Ok.draft.text.items c.in-Ok.ensures
+    (rw text h) refl
 
 pub returns-in-Err-clause-made : goal.returns-in-Err-clause-made
 returns-in-Err-clause-made g c =
     let l = c.args.line.now in
     let live = c.is_prompt.ensures.served c.if-is_prompt.false in
+    let empty = c.is_prompt.ensures.empty c.if-is_prompt.false in
     let h = rw c.deref.ensures.value at c.in-Err.ensures.does in
-    made_stopped g.B.Books c.args.office.now.books c.answer_next.new.office.books c.in-Err.ensures.honest l
-    (record l { wanted = 0; pending = c.answer_next.new.outlet; end = Some c.end_at.result })
-    refl live (c.is_prompt.ensures.empty c.if-is_prompt.false)
-    c.in-Err.stop c.answer_next.new.outlet.text.items h (ap (λ e. ending e c.answer_next.new.outlet.text.items) c.end_at.ensures)
+    let draft = c.answer_next.new.outlet in
+    made_part g.B.Books c.args.office.now.books c.answer_next.new.office.books c.in-Err.ensures.honest l
+    (record l { wanted = 0; end = Some Fault })
+    refl live empty c.in-Ok.draft.text.items c.in-Ok.ensures
+    _ draft.text.items _ draft.failed h c.in-Err.ensures.stalls draft.full (ap (ending Fault) empty)

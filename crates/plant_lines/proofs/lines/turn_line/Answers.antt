@@ -1,13 +1,19 @@
-use Rattle.plant_lines.proofs.{Leading.{turned_all, turned_short}, OneTurn.{short_one, turn_one}}
+use Rattle.std.proofs.Common.{subst, false, Bool, Some, ◌++◌}
+use Rattle.plant_wire.specs.declared.reads.End.TheVariants.{WriteFailed}
+use Rattle.plant_lines.specs.{Events.{reading, writing}, Happens.{Moved}}
+use Rattle.plant_lines.proofs.{Due.{over_due}, Leading.{lost_write, turned_all, turned_short}, OneTurn.{short_one, turn_one}}
 use Rattle.plant_lines.proofs.lines.turn_line.Goals as goal
 
 pub returns-then-not-read_if-clause-turned : goal.returns-then-not-read_if-clause-turned
 returns-then-not-read_if-clause-turned g c =
     let s = g.P.Ports.seen c.args.ports.now in
     let t = g.P.Ports.seen c.read_if.new.ports in
-    turned_short g.B.Books c.args.office.now.books s t c.args.line.now c.read_if.new.line c.args.asked.reads c.args.asked.serves c.read_if.ensures.moved
-    (short_one s t c.args.line.now c.read_if.new.line c.args.asked.reads c.args.asked.serves c.read_if.ensures.moved
-    (c.read_if.ensures.failed c.if-not-read_if.true))
+    let l = c.args.line.now in
+    let m = c.read_if.new.line in
+    let reads = c.args.asked.reads in
+    let lost = subst (λ (b : Bool). Moved s t l m reads reading b) c.if-not-read_if.true c.read_if.ensures.moved in
+    turned_short g.B.Books c.args.office.now.books s t l m reads c.args.asked.serves lost
+    (short_one s t l m reads c.args.asked.serves false lost (c.read_if.ensures.failed c.if-not-read_if.true))
 
 pub returns-then-not-write_line-clause-turned : goal.returns-then-not-write_line-clause-turned
 returns-then-not-write_line-clause-turned g c =
@@ -17,10 +23,16 @@ returns-then-not-write_line-clause-turned g c =
     let s = g.P.Ports.seen c.args.ports.now in
     let t = g.P.Ports.seen c.read_if.new.ports in
     let u = g.P.Ports.seen c.write_line.new.ports in
-    turned_all b x y s t u c.args.line.now c.read_if.new.line c.serve_if.new.line c.write_line.new.line c.args.asked.reads c.args.asked.serves
-    c.read_if.ensures.moved c.serve_if.ensures.made c.write_line.ensures.moved
-    (turn_one b x y s t u c.args.line.now c.read_if.new.line c.serve_if.new.line c.write_line.new.line c.args.asked.reads c.args.asked.serves
-    c.read_if.ensures.moved c.serve_if.ensures.made c.write_line.ensures.moved)
+    let l = c.args.line.now in
+    let m = c.read_if.new.line in
+    let n = c.serve_if.new.line in
+    let o = c.write_line.new.line in
+    let reads = c.args.asked.reads in
+    let serves = c.args.asked.serves in
+    let lost = subst (λ (goes_on : Bool). Moved t u n o false writing goes_on) c.if-not-write_line.true c.write_line.ensures.moved in
+    turned_all b x y s t u l m n o reads serves c.read_if.result false (Some WriteFailed) c.read_if.ensures.moved c.serve_if.ensures.made lost
+    (turn_one b x y s t u l m n o reads serves c.read_if.result false c.read_if.ensures.moved c.serve_if.ensures.made lost)
+    (lost_write b x y s t u l m n o reads serves c.read_if.result c.read_if.ensures.moved c.serve_if.ensures.made lost)
 
 pub returns-clause-turned : goal.returns-clause-turned
 returns-clause-turned g c =
@@ -30,7 +42,14 @@ returns-clause-turned g c =
     let s = g.P.Ports.seen c.args.ports.now in
     let t = g.P.Ports.seen c.read_if.new.ports in
     let u = g.P.Ports.seen c.write_line.new.ports in
-    turned_all b x y s t u c.args.line.now c.read_if.new.line c.serve_if.new.line c.write_line.new.line c.args.asked.reads c.args.asked.serves
-    c.read_if.ensures.moved c.serve_if.ensures.made c.write_line.ensures.moved
-    (turn_one b x y s t u c.args.line.now c.read_if.new.line c.serve_if.new.line c.write_line.new.line c.args.asked.reads c.args.asked.serves
-    c.read_if.ensures.moved c.serve_if.ensures.made c.write_line.ensures.moved)
+    let l = c.args.line.now in
+    let m = c.read_if.new.line in
+    let n = c.serve_if.new.line in
+    let o = c.write_line.new.line in
+    let reads = c.args.asked.reads in
+    let serves = c.args.asked.serves in
+    let here = c.read_if.result in
+    let goes_on = c.write_line.result in
+    turned_all b x y s t u l m n o reads serves here goes_on c.over.result c.read_if.ensures.moved c.serve_if.ensures.made c.write_line.ensures.moved
+    (turn_one b x y s t u l m n o reads serves here goes_on c.read_if.ensures.moved c.serve_if.ensures.made c.write_line.ensures.moved)
+    (over_due o (c.read_if.ensures.moved.events ++ (c.serve_if.ensures.made.events ++ c.write_line.ensures.moved.events)) c.over.result c.over.ensures.named)

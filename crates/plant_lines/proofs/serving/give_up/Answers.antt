@@ -1,6 +1,6 @@
 use Rattle.std.proofs.{Common.{false, refl, length, subst, sym}, lemmas.Option.{slice_get_read}}
-use Rattle.plant_lines.specs.{Prompt.{ArePrompt}, Stages.{MayClose}, declared.lines.Line.{Line}}
-use Rattle.plant_lines.proofs.Leading.{logs_none, passed_none}
+use Rattle.plant_lines.specs.{Causes.{ExpiredAt}, Prompt.{ArePrompt}, Stages.{MayClose}, declared.lines.Line.{Line}}
+use Rattle.plant_lines.proofs.{Handled.{passed_expired}, Leading.{logs_none, passed_none}}
 use Rattle.plant_lines.proofs.Held.{prompt_removed, read_one, waits_at}
 use Rattle.plant_lines.proofs.serving.give_up.Goals as goal
 
@@ -12,10 +12,13 @@ close_line-requires-clause-may g c line is =
     subst (λ (t : Line). MayClose t c.in-Some.end) (read_one ls c.args.at c.index.result.now line is c.index.ensures)
     (c.in-Some.ensures waits)
 
+pub returns-in-Some-clause-passed : goal.returns-in-Some-clause-passed
+returns-in-Some-clause-passed g c = passed_expired c.args.at c.in-Some.end c.close_line.ensures.passed
+
 pub returns-in_default-clause-passed : goal.returns-in_default-clause-passed
 returns-in_default-clause-passed g c =
     let seen = g.P.Ports.seen c.args.ports.now in
-    passed_none false seen seen (g.W.Write.contents c.args.log.now) c.args.held.now.count c.args.held.now.lines.items (logs_none seen)
+    passed_none (ExpiredAt c.args.held.now.lines.items c.args.at) false seen seen (g.W.Write.contents c.args.log.now) c.args.held.now.count c.args.held.now.lines.items (logs_none seen)
 
 pub returns-in-Some-clause-prompt : goal.returns-in-Some-clause-prompt
 returns-in-Some-clause-prompt g c are =

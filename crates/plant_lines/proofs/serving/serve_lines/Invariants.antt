@@ -5,7 +5,7 @@ use Rattle.plant_lines.proofs.serving.serve_lines.Given as goal
 abbrev pub invariant-turns : goal.invariant-turns
 invariant-turns g l = record {
   way : IsUnderWay g.B.Books l.fn.office.books l.office.books (seen_by (g.P.Ports.seen l.fn.ports) (g.W.Write.contents l.fn.reports.log))
-      (seen_by (g.P.Ports.seen l.ports) (g.W.Write.contents l.reports.log)) l.held.count l.held.lines.items;
+      (seen_by (g.P.Ports.seen l.ports) (g.W.Write.contents l.reports.log)) l.count l.held.count l.held.lines.items;
   held : IsHeld l.held;
   same : l.held.n ≡ l.n;
   prompt : l.busy ≡ false → ArePrompt l.held.lines.items;

@@ -1,4 +1,5 @@
 use Rattle.std.proofs.Common.{ap, not}
+use Rattle.plant_lines.specs.Causes.{HasReported}
 use Rattle.plant_lines.proofs.{Leading.{happened_then}, Rounds.{joined}}
 use Rattle.plant_lines.proofs.serving.turn.Goals as goal
 
@@ -11,7 +12,7 @@ returns-then-not-busy-clause-round g c = record {
 pub returns-clause-round : goal.returns-clause-round
 returns-clause-round g c = record {
   happened = happened_then c.step-left.ensures.happened c.serve_turn.ensures.round.happened;
-  keeps = joined 0 c.step-left.new.held.count 0 c.step-left.ensures.happened c.serve_turn.ensures.round.happened
+  keeps = joined (HasReported c.args.ready) 0 c.step-left.new.held.count 0 c.step-left.ensures.happened c.serve_turn.ensures.round.happened
       (c.step-left.ensures.busy (ap not c.if-not-busy.false))
       c.serve_turn.ensures.round.keeps;
 }

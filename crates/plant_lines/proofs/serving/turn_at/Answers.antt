@@ -1,9 +1,9 @@
 use Rattle.std.{specs.List.{remove}, proofs.{Common.{ap, inl, inr, refl, length, slice_set, subst, sym, List, ℕ, ◌∙◌}, lemmas.Option.{slice_get_read}}}
 use Rattle.plant_call.specs.Cut.{WaitsBelow}
-use Rattle.plant_lines.specs.{Paces.{AreRising, Keeps, numbers}, Prompt.{ArePrompt, IsPrompt}, Stages.{Leads, stage_of}, declared.lines.Line.{Line}}
+use Rattle.plant_lines.specs.{Causes.{Always, CausedAt}, Paces.{AreRising, Keeps, numbers}, Prompt.{ArePrompt, IsPrompt}, Stages.{Leads, stage_of}, declared.lines.Line.{Line}}
 use Rattle.plant_lines.proofs.{Handled.{happened_line}, Held.{lifted, prompt_closed, prompt_set, read_one, set_got, set_lines, waits_at}}
 use Rattle.plant_lines.proofs.{Leading.{happened_passed, happened_then}, Paced.{numbers_removed, numbers_set}, Waits.{not_false, on_true}}
-use Rattle.plant_lines.proofs.Rounds.{joined, line_alone, line_busy, line_paces, passed_keeps}
+use Rattle.plant_lines.proofs.Rounds.{joined_for, line_alone, line_busy, line_closes, line_paces, passed_keeps}
 use Rattle.plant_lines.proofs.serving.turn_at.Goals as goal
 
 pub turn_and_report-requires : goal.turn_and_report-requires
@@ -43,10 +43,13 @@ returns-in-Some g c =
     let turned = c.turn_and_report.ensures.turned in
     let reads = c.args.asked.reads in
     let serves = c.args.asked.serves in
+    let over = c.turn_and_report.result in
     let lifted_line : (k : ℕ) → Leads k (stage_of k count ls) turned.events (stage_of k count (slice_set ls c.args.at l')) =
     lifted count ls c.args.at l l' turned.events ok is turned.went.same turned.went.own turned.went.leads in
-    let first = happened_line b x y s t log count ls c.args.at l l' reads serves ok is turned in
+    let first = happened_line b x y s t log count ls c.args.at l l' reads serves over ok is turned in
     let closed = happened_passed {b = b} {x = y} c.close_line.ensures.passed in
+    let cause = CausedAt (slice_set ls c.args.at l') c.args.at c.in-Some.end in
+    let closes = line_closes b x y s t log count ls c.args.at l l' reads serves over ok is turned c.turn_and_report.ensures.waits c.in-Some.end c.in-Some.is in
     record {
       turn = record {
         happened = happened_then first closed;
@@ -54,18 +57,18 @@ returns-in-Some g c =
         same = c.close_line.ensures.same;
         prompt = λ are none. subst ArePrompt (sym c.close_line.ensures.others) (prompt_closed ls c.args.at l' are);
         alone = λ _ are.
-            joined 0 0 0 first closed (line_alone b x y s t log count ls c.args.at l l' reads serves ok is turned are)
-            (passed_keeps b y c.close_line.ensures.passed refl 0);
+            joined_for Always cause 0 0 0 first closed (line_alone b x y s t log count ls c.args.at l l' reads serves over ok is turned are)
+            (λ es _. closes es) (passed_keeps b y c.close_line.ensures.passed refl 0);
         busy = λ unserved.
-            subst (λ (m : ℕ). Keeps 0 m (λ k. stage_of k count ls) (happened_then first closed).events) (sym c.close_line.ensures.count)
-            (joined 0 count count first closed
-            (line_busy b x y s t log count ls c.args.at l l' reads serves ok is turned count (slice_set ls c.args.at l') unserved lifted_line)
-            (passed_keeps b y c.close_line.ensures.passed refl count));
+            subst (λ (m : ℕ). Keeps Always 0 m (λ k. stage_of k count ls) (happened_then first closed).events) (sym c.close_line.ensures.count)
+            (joined_for Always cause 0 count count first closed
+            (line_busy b x y s t log count ls c.args.at l l' reads serves over ok is turned count (slice_set ls c.args.at l') unserved lifted_line)
+            (λ es _. closes es) (passed_keeps b y c.close_line.ensures.passed refl count));
       };
       paces = λ unread serving bound m is_m splits.
-          joined bound m.number m.number first closed
-          (line_paces b x y s t log count ls c.args.at l l' reads serves ok is turned c.requires.held.rising unread serving bound m is_m splits)
-          (passed_keeps b y c.close_line.ensures.passed refl m.number);
+          joined_for Always cause bound m.number m.number first closed
+          (line_paces b x y s t log count ls c.args.at l l' reads serves over ok is turned c.requires.held.rising unread serving bound m is_m splits)
+          (λ es _. closes es) (passed_keeps b y c.close_line.ensures.passed refl m.number);
       others = inr (ap numbers c.close_line.ensures.others ∙ numbers_removed (slice_set ls c.args.at l') c.args.at
           ∙ ap (λ (ns : List ℕ). remove ns c.args.at) (numbers_set ls c.args.at l l' is turned.went.same));
     }
@@ -87,12 +90,13 @@ returns g c =
     let turned = c.turn_and_report.ensures.turned in
     let reads = c.args.asked.reads in
     let serves = c.args.asked.serves in
+    let over = c.turn_and_report.result in
     let same_number = turned.went.same in
     let lifted_line : (k : ℕ) → Leads k (stage_of k count ls) turned.events (stage_of k count (slice_set ls c.args.at l')) =
     lifted count ls c.args.at l l' turned.events ok is turned.went.same turned.went.own turned.went.leads in
     record {
       turn = record {
-        happened = happened_line b x y s t log count ls c.args.at l l' reads serves ok is turned;
+        happened = happened_line b x y s t log count ls c.args.at l l' reads serves over ok is turned;
         held = record {
           lines = set_lines count ls c.args.at l l' ok is same_number c.turn_and_report.ensures.waits;
           few = c.requires.held.few;
@@ -106,9 +110,9 @@ returns g c =
             (on_true c.is_prompt.result _
             (c.is_prompt.ensures.prompt (subst (λ (t : Line). WaitsBelow t.unread.items t.wanted) (sym same) c.turn_and_report.ensures.waits))
             (not_false c.is_prompt.result none)));
-        alone = λ _ are. line_alone b x y s t log count ls c.args.at l l' reads serves ok is turned are;
-        busy = λ unserved. line_busy b x y s t log count ls c.args.at l l' reads serves ok is turned count (slice_set ls c.args.at l') unserved lifted_line;
+        alone = λ _ are. line_alone b x y s t log count ls c.args.at l l' reads serves over ok is turned are;
+        busy = λ unserved. line_busy b x y s t log count ls c.args.at l l' reads serves over ok is turned count (slice_set ls c.args.at l') unserved lifted_line;
       };
-      paces = line_paces b x y s t log count ls c.args.at l l' reads serves ok is turned c.requires.held.rising;
+      paces = line_paces b x y s t log count ls c.args.at l l' reads serves over ok is turned c.requires.held.rising;
       others = inl (numbers_set ls c.args.at l l' is same_number);
     }
