@@ -97,34 +97,28 @@ class Site:
         self.office.wait()
 
     def write_site(self):
-        (self.folder / "users").write_text("".join(f"{name}:{{PLAIN}}{name}\n" for name in self.people))
+        subprocess.run([self.top / "examples/deploy/on-loopback", self.folder, *self.people], check=True)
         board = self.top / "examples/board"
         (self.folder / "board").mkdir()
         for name in ["index.html", "board.css"]:
             shutil.copy(board / name, self.folder / "board")
         shutil.copytree(board / "js", self.folder / "board/js")
-        site = (self.top / "examples/deploy/shelfoffice.nginx").read_text()
-        for old, new in [
+        self.replace(
+            "site",
             ("127.0.0.1:8080", f"127.0.0.1:{self.relay_port}"),
             ("127.0.0.1:8081", f"127.0.0.1:{self.port}"),
-            ("/etc/nginx/shelfoffice.users", f"{self.folder}/users"),
-            ("/usr/local/share/shelfoffice", str(self.folder)),
             # the relay ends each connection after its request
             ("    keepalive 16;\n", ""),
-            ('proxy_set_header Connection "";', "proxy_set_header Connection close;"),
-        ]:
-            expect(site.count(old), 1, f"{old} in the site")
-            site = site.replace(old, new)
-        (self.folder / "site").write_text(site)
-        paths = "".join(
-            f"    {name}_temp_path {self.folder}/{name};\n" for name in ["client_body", "proxy", "fastcgi", "uwsgi", "scgi"]
         )
-        (self.folder / "nginx.conf").write_text(
-            ("user root;\n" if os.getuid() == 0 else "")
-            + f"daemon off;\nworker_processes 1;\nenv TZ=UTC;\npid {self.folder}/nginx.pid;\n"
-            + f"error_log {self.folder}/error.log;\nevents {{ worker_connections 64; }}\n"
-            + f"http {{\n    include /etc/nginx/mime.types;\n    access_log off;\n{paths}    include {self.folder}/site;\n}}\n"
-        )
+        self.replace("snippets/shelfoffice.conf", ('proxy_set_header Connection "";', "proxy_set_header Connection close;"))
+
+    def replace(self, name, *pairs):
+        """Replaces texts in one of nginx's files, each of which stands there once."""
+        text = (self.folder / name).read_text()
+        for old, new in pairs:
+            expect(text.count(old), 1, f"{old} in {name}")
+            text = text.replace(old, new)
+        (self.folder / name).write_text(text)
 
     def start_proxy(self):
         self.proxy = subprocess.Popen(
