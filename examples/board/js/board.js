@@ -6,6 +6,7 @@ import {get} from "./asking.js";
 import {askChanges, forgetChanges} from "./changes.js";
 import {$, make, put, say} from "./elements.js";
 import {askFloods, forgetFloods} from "./floods.js";
+import "./focus.js";
 import {VIEWS, addressOf, here, maySee, readAddress, rolesHeld} from "./here.js";
 import {forgetFile, showImport} from "./import.js";
 import {openLegend} from "./legend.js";

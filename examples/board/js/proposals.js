@@ -178,23 +178,37 @@ function showChange() {
 
     const own = isOwn(change);
     $("own").hidden = !(isWaiting && own && holds("Approver"));
-    const buttons = {approve: isWaiting && !own && holds("Approver"), withdraw: isWaiting && own && holds("Engineer")};
-    const hadFocus = ["approve", "reject", "withdraw"].includes(document.activeElement.id);
-    $("approve").hidden = $("reject").hidden = !buttons.approve;
-    $("withdraw").hidden = !buttons.withdraw;
-    if (hadFocus && document.activeElement.hidden) {
+    $("approve").hidden = $("reject").hidden = !(isWaiting && !own && holds("Approver"));
+    $("withdraw").hidden = !(isWaiting && own && holds("Engineer"));
+}
+
+const isForCaller = (change) => change.state === "Proposed" && holds(isOwn(change) ? "Engineer" : "Approver");
+
+// After a decision the keyboard goes to the next proposal of the list that the caller may decide, else to the one that was decided.
+function focusNext(number) {
+    const numbers = [...changeList.place.children].map((node) => Number(node.dataset.number));
+    const place = numbers.indexOf(number);
+    const next = [...numbers.slice(place + 1), ...numbers.slice(0, Math.max(0, place))]
+        .find((each) => each !== number && isForCaller(storeOf(here.unit).known.get(each)));
+    if (next === undefined) {
         $("change-title").focus();
+    } else {
+        focusChange(next);
     }
 }
 
-function decide(action, done) {
+async function decide(action, done) {
     const {unit, number} = here;
-    act(form, {
+    const accepted = await act(form, {
         subject: `change ${number}`,
         path: `/units/${unit}/changes/${number}/${action}`,
         done: () => `Change ${number} is ${done}.`,
         stands: () => standsOfChange(unit, number),
-    }).then(forgetChanges);
+    });
+    if (accepted && here.unit === unit && here.number === number && form.contains(document.activeElement)) {
+        focusNext(number);
+    }
+    forgetChanges();
 }
 
 form.addEventListener("submit", (event) => event.preventDefault());

@@ -23,6 +23,24 @@ MADE_OF_TEXT = "img, i, u, s, script:not([src]), q *, b:not(#strip b, .left, #fl
 # the focus, as its id, its name or its text
 FOCUS = "((node) => node.id || node.getAttribute('aria-label') || node.textContent.trim() || node.tagName)(document.activeElement)"
 
+# notes each time that what had the keyboard loses it to the page's body, unless by Tab, which goes round by it
+LOST_FOCUS = """
+    window.lostFocus = [];
+    window.countOfFocus = 0;
+    let last = null, key = "";
+    addEventListener("keydown", (event) => { key = event.key; }, true);
+    addEventListener("focusin", () => { window.countOfFocus += 1; }, true);
+    setInterval(() => {
+        const active = document.activeElement;
+        if (active && active !== document.body) {
+            last = active.id || active.getAttribute("aria-label") || active.textContent.trim();
+        } else if (last !== null) {
+            if (key !== "Tab") window.lostFocus.push(`${last} at ${location.hash}`);
+            last = null;
+        }
+    }, 10);
+"""
+
 # texts with a contrast below 4.5 to what lies behind them, and marks with one below 3, by the computed colours
 LOW_CONTRAST = """(() => {
     const numbers = (colour) => colour.match(/[\\d.]+/g).map(Number);
@@ -170,6 +188,7 @@ class Page:
             self.send(f"{domain}.enable")
         self.resize(width, height)
         self.send("Emulation.setFocusEmulationEnabled", enabled=True)
+        self.send("Page.addScriptToEvaluateOnNewDocument", source=LOST_FOCUS)
         self.send("Page.navigate", url=address)
         if is_empty:
             wait_for("the page", lambda: self.value("document.readyState === 'complete'"))
@@ -271,6 +290,11 @@ class Page:
         self.tab_to(field)
         self.type(text)
 
+    def check_focus(self, what):
+        """No action has left the keyboard on the page's body. How often the keyboard has moved."""
+        expect(self.value("window.lostFocus"), [], f"{what}: what lost the keyboard")
+        return self.value("window.countOfFocus")
+
     # ---- what holds of each view
 
     def check_looks(self, what):
@@ -348,4 +372,5 @@ class Page:
 
     def close(self):
         expect(self.errors(), [], "errors in the page")
+        self.check_focus("the whole visit")
         self.browser.send("Target.closeTarget", targetId=self.target)

@@ -131,6 +131,7 @@ def try_engineer(site, browser, pictures):
     expect(page.value(COMPARISON)[1], ["Limit", seconds_text(7200), seconds_text(600)], "the comparison")
     page.press("withdraw")
     page.await_text("#deciding .answer", "Change 27 is taken back.")
+    page.await_focus(f"26: Record of {NEW}, waits", "the next proposal of one's own")
     expect(site.json("ann", "/units/U1/changes/27")["state"], "Withdrawn", "change 27")
     page.go("#U1/changes/23")
     page.await_text("#change-title", "Change 23: Limit of PT-301")
@@ -180,6 +181,7 @@ def try_approver(site, browser, pictures):
         page.picture(pictures / "board-change.png", 900)
     page.press("approve")
     page.await_text("#deciding .answer", "Change 24 is approved and in force.")
+    page.await_focus("23: Limit of PT-301, waits", "the next proposal")
     page.await_text("#change-facts > div:nth-child(4) dd", re.compile(r"approved by amy, .*"))
     check_changes(site, page, "amy", 28)
     page.go("#U1/changes/26")
@@ -192,6 +194,7 @@ def try_approver(site, browser, pictures):
     wait_for("the markup", lambda: page.is_shown("#reject") and page.value(COMPARISON)[-1][-1] == WORDS)
     page.press("reject")
     page.await_text("#deciding .answer", "Change 22 is rejected.")
+    page.await_focus("28: Matrix, waits", "the next proposal, from the list's top")
 
     # a matrix, and one that is behind it then
     page.go("#U1/changes/28")
@@ -201,11 +204,13 @@ def try_approver(site, browser, pictures):
     page.check_narrow("a matrix")
     page.press("approve")
     page.await_text("#deciding .answer", "Change 28 is approved and in force.")
+    page.await_focus("25: Matrix, waits", "the next proposal")
     page.go("#U1/changes/25")
     page.await_text("#behind", "Revision 1 is in force meanwhile, so the office will refuse to approve this.")
     expect(page.texts("#change-content .differs"), ["N\nwas P4"], "what differs in the matrix")
     page.press("approve")
     page.await_text("#deciding .answer", re.compile(r"change 25: Revision 1 is in force meanwhile\. .* \(BaseChanged\)"))
+    page.await_focus("approve", "the focus after a refusal")
     page.go("#U1/changes/99")
     page.await_text("#change-missing", "The unit has no change of this number.")
     for number, state in {24: "Approved", 26: "Approved", 22: "Rejected", 28: "Approved", 25: "Proposed"}.items():

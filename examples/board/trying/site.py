@@ -81,6 +81,7 @@ class Site:
         self.program, self.folder, self.top, self.people = program, folder, top, people
         self.office_port, self.relay_port, self.port = free_port(), free_port(), free_port()
         self.office = self.proxy = None
+        self.calls = 0  # the trial's own, of those that came to the office and change something
         self.relay = Relay(self.relay_port, self.office_port)
 
     def start_office(self):
@@ -162,6 +163,7 @@ class Site:
         answer = client.getresponse()
         text = answer.read().decode()
         client.close()
+        self.calls += body is not None and text.startswith("{")
         return answer.status, text
 
     def read(self, person, path):

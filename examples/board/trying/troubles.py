@@ -199,8 +199,8 @@ def try_markup(site, page):
     print("tags, states, names and a refusal with markup are shown as they are")
 
 
-def check_requests(site, pages, others):
-    """No two requests at a time, and each call of a page came to the office once. `others` are the trial's own calls."""
+def check_requests(site, pages):
+    """No two requests at a time, and each call of a page came to the office once."""
     count = 0
     sent = []
     for page in pages:
@@ -213,5 +213,5 @@ def check_requests(site, pages, others):
             # the office was stopped and the proxy had it
             sys.exit(f"{path} did not come to the office")
         came.remove(path)
-    expect(len(came), others, f"calls that no page sent: {came}")
+    expect(len(came), site.calls, f"calls that no page sent: {came}")
     print(f"{count} requests, one at a time, and {len(sent)} calls that change something, each sent once")
