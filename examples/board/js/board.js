@@ -3,7 +3,8 @@
 import {changeAlarm, askAlarm} from "./alarm.js";
 import {askAlarms, focusAlarm, forgetAlarms, showAlarms} from "./alarms.js";
 import {get} from "./asking.js";
-import {askChanges, forgetChanges} from "./changes.js";
+import {askInForce} from "./change.js";
+import {askChanges, forgetChanges, lookOn} from "./changes.js";
 import {$, make, put, say} from "./elements.js";
 import {askFloods, forgetFloods} from "./floods.js";
 import "./focus.js";
@@ -13,8 +14,9 @@ import {openLegend} from "./legend.js";
 import {MINE_COLUMNS, askList} from "./lists.js";
 import {runAllDown} from "./marks.js";
 import {forgetMatrix, showMatrix} from "./matrix.js";
-import {askInForce, focusChange, forgetProposals, showChanges} from "./proposals.js";
-import "./record.js";
+import {focusChange, forgetProposals, showChanges} from "./proposals.js";
+import {lookAtRecords} from "./pricing.js";
+import {showPrice} from "./record.js";
 import "./register.js";
 import {forgetRoles} from "./roles.js";
 import {askNow, askOn, eachRound, outOfDate, secondsToNext} from "./rounds.js";
@@ -110,6 +112,7 @@ function showWhere() {
     });
     const roles = unit === null ? "no role in any unit at this moment" : rolesHeld().join(", ");
     say($("person"), here.person === "" ? "" : `${here.person}: ${roles}`);
+    here.isComparing = false;
     showTitle();
     showAlarms();
     showChanges();
@@ -220,10 +223,17 @@ document.addEventListener("visibilitychange", () => {
 });
 
 [askUnits, askAlarms, askFloods, askAlarm, askChanges, askInForce].forEach(eachRound);
+const showSeen = () => {
+    showChanges();
+    showMatrix();
+    showPrice();
+};
 eachRound(async () => () => {
     showTitle();
-    showMatrix();
+    showSeen();
     showImport();
+    lookOn(showSeen);
+    lookAtRecords(showSeen);
 });
 showWhere();
 setInterval(tick, 250);

@@ -6,6 +6,8 @@ import {onAlarm, shown} from "./alarm.js";
 import {$, areRight, say, sayAnswer} from "./elements.js";
 import {here, holds} from "./here.js";
 import {forgetChanges, standsOfProposal} from "./changes.js";
+import {makeOffer, makePrice, priceOf} from "./pricing.js";
+import {outOfDate} from "./rounds.js";
 import {REMARK_WANTED, SECONDS_WANTED, isRemark, numberOf, spanText} from "./texts.js";
 
 const REMARKS = ["cause", "consequence", "action"];
@@ -84,6 +86,34 @@ const limit = makeProposal(limitForm, {
     revisionOf: ({alarm}) => alarm.limit_revision,
     fieldsOf: ({alarm}) => ({max: alarm.limit}),
 });
+
+// The priority of the record that is being drawn up, by the matrix in force, beside the one that the alarm has.
+let pricedAs = "";
+export function showPrice() {
+    here.isPricing = shown.alarm !== null && holds("Engineer") && recordForm.closest("details").open;
+    const response = numberOf($("response").value);
+    if (!here.isPricing) {
+        return;
+    }
+    const held = shown.record;
+    const price = response === null ? {priority: null, words: "–"} : priceOf(here.unit, {severity: Number($("severity").value), response}, held);
+    const built = JSON.stringify([here.unit, shown.tag, held?.priority, price]);
+    if (built !== pricedAs) {
+        pricedAs = built;
+        say($("price-now"), held ? `now ${held.priority}, with this record ` : "none now, with this record ");
+        $("price-after").replaceChildren(makePrice(price));
+        $("price-offer").replaceChildren(price.priority === null && response !== null ? makeOffer(here.unit) : "");
+    }
+}
+recordForm.addEventListener("input", showPrice);
+recordForm.addEventListener("change", showPrice);
+recordForm.closest("details").addEventListener("toggle", () => {
+    showPrice();
+    if (here.isPricing) {
+        outOfDate(); // the changes are asked for at once
+    }
+});
+onAlarm(showPrice);
 
 onAlarm(() => {
     $("proposing").hidden = shown.alarm === null || !holds("Engineer");

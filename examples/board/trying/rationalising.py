@@ -7,9 +7,10 @@ from trying.browser import Page
 from trying.common import expect, moment_now, wait_for
 from trying.example import MATRIX, WORDS, record_of
 from trying.operating import HOSTILE
-from trying.shown import CHANGES, COMPARISON, check_alarm, check_changes, seconds_text
+from trying.shown import CHANGES, COMPARISON, GRID, check_alarm, check_changes, seconds_text
 
 NEW = "PT-777"
+UNKNOWN = "not known: no matrix was approved yet, and no call gives the one that the unit was opened with"
 RECORD = {"cause": "a <b>bold</b> cause", "consequence": HOSTILE, "action": "x' onclick='document.title=1", "severity": 3, "response": 120}
 
 
@@ -78,9 +79,8 @@ def try_engineer(site, browser, pictures):
     # a matrix: a broken order shows at once and is not sent
     page.tab_to("Matrix", back=True)
     page.key("Enter")
-    page.await_text("#matrix-note", "No matrix was approved among the changes 8 to 27.")
-    page.press("older")
-    page.await_text("#matrix-note", "In force is the matrix that the unit was opened with, revision 0. The office does not give its cells.")
+    page.await_text("#matrix-note", "In force is the matrix that the unit was opened with, revision 0. No call gives its cells. "
+                    "Propose the same one once, by the papers of the opening: then everybody can read it.")
     expect(page.value("document.querySelector('#matrix-base').value"), "0", "the base")
     page.press("add-severity")
     for _ in range(3):
@@ -148,6 +148,7 @@ def wanted_comparison(change, before, revision):
         return "–" if name not in record else seconds_text(record[name]) if name == "response" else str(record[name])
 
     rows = [[title, text(name, before), text(name, change["content"])] for name, title in names.items()]
+    rows.insert(0, ["Priority", before.get("priority", "–"), UNKNOWN])
     return [["", f"In force, revision {revision}", "Proposed"], *rows]
 
 
@@ -155,28 +156,27 @@ def try_approver(site, browser, pictures):
     page = Page(browser, site.address("amy", "#U1"))
     expect(page.texts("#views a"), ["Alarms", "Proposals"], "the views of an approver")
     page.press("Proposals")
-    changes = check_changes(site, page, "amy")
-    expect(page.text("#changes-note"), "Changes 9 to 28 were looked through.", "what was looked through")
+    changes = check_changes(site, page, "amy", 28)
+    page.await_text("#changes-note", "All 28 changes were looked at.")
     asked = [int(path.split("/")[-1]) for method, path in page.requests() if "/changes/" in path]
     expect(sorted(set(asked[:9])), [1, 3, 7, 15, 23, 27, 28, 29, 31], "the last number by doubling and halving")
+    expect(asked[9:24], [26, 25, 24, 22, 21, 20, 19, 18, 17, 16, 14, 13, 12, 11, 10], "then the newest")
     page.check_looks("the proposals")
     page.check_narrow("the proposals")
-    page.press("more")
-    check_changes(site, page, "amy", 28)
-    page.tab_to("only-waiting", back=True)
-    page.key(" ")
+    page.tab_to("show-changes", back=True)
+    page.key("ArrowDown")
     wanted = [change["number"] for change in changes if change["state"] == "Proposed"]
     wait_for("those that wait", lambda: [row[0] for row in page.value(CHANGES)] == wanted)
     expect(wanted, [28, 26, 25, 24, 23, 22], "the changes that wait")
-    page.key(" ")
+    page.key("ArrowUp")
 
     # a change whole, with what is in force beside it, the texts with markup as they are
     page.tab_to("24: Record of PT-301, waits")
     page.key("Enter")
     page.await_focus("change-title", "the focus in the change")
-    record = record_of("PT-301")
+    record = site.json("ann", "/units/U1/alarms/PT-301/record")
     wait_for("the comparison", lambda: page.value(COMPARISON) == wanted_comparison(changes[4], record, 1))
-    expect(page.texts("#change-content .differs"), [seconds_text(120), "open XV-302"], "what differs")
+    expect(page.texts("#change-content .differs"), [UNKNOWN, seconds_text(120), "open XV-302"], "what differs")
     if pictures:
         page.picture(pictures / "board-change.png", 900)
     page.press("approve")
@@ -199,7 +199,7 @@ def try_approver(site, browser, pictures):
     # a matrix, and one that is behind it then
     page.go("#U1/changes/28")
     grid = [["Severity 3", "P1", "P2", "P3"], ["Severity 2", "P2", "P3", "P4"], ["Severity 1", "P3", "P4", "P4"]]
-    wait_for("the grid", lambda: page.value(COMPARISON)[1:] == grid)
+    wait_for("the grid", lambda: page.value(GRID) == grid)
     page.check_looks("a matrix")
     page.check_narrow("a matrix")
     page.press("approve")
@@ -207,7 +207,7 @@ def try_approver(site, browser, pictures):
     page.await_focus("25: Matrix, waits", "the next proposal")
     page.go("#U1/changes/25")
     page.await_text("#behind", "Revision 1 is in force meanwhile, so the office will refuse to approve this.")
-    expect(page.texts("#change-content .differs"), ["N\nwas P4"], "what differs in the matrix")
+    wait_for("what differs in the matrix", lambda: page.texts("#change-content .differs") == ["N\nwas P4\n2 records"])
     page.press("approve")
     page.await_text("#deciding .answer", re.compile(r"change 25: Revision 1 is in force meanwhile\. .* \(BaseChanged\)"))
     page.await_focus("approve", "the focus after a refusal")
@@ -231,7 +231,7 @@ def try_own(site, browser):
     """Someone who both proposes and approves, but not the same."""
     page = Page(browser, site.address("kim", "#U1/changes/23"))
     page.await_text("#change-title", "Change 23: Limit of PT-301")
-    check_changes(site, page, "kim")
+    check_changes(site, page, "kim", 28)
     page.await_text("#own", "You proposed this, so you cannot approve it: another approver decides.")
     buttons = [page.is_shown(f"#{button}") for button in ("approve", "reject", "withdraw")]
     expect(buttons, [False, False, True], "the buttons for one's own")

@@ -33,6 +33,9 @@ CHANGES = """[...document.querySelectorAll("#change-list li")].map((line) => [Nu
     line.querySelector(".title").textContent, line.querySelector(".standing-of").textContent])"""
 COMPARISON = """[...document.querySelectorAll("#change-content tr")].map((row) => [...row.children].map((cell) => cell.textContent))"""
 
+GRID = """[...document.querySelectorAll("#change-content tbody tr")].map((row) =>
+    [...row.children].map((cell) => (cell.querySelector(".letters") ?? cell).textContent))"""
+
 
 def span_text(seconds):
     seconds = int(seconds)
