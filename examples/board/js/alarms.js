@@ -4,7 +4,7 @@ import {$, fill, make, makeLink, put, say} from "./elements.js";
 import {addressOf, here} from "./here.js";
 import {ALARM_COLUMNS, SHELF_COLUMNS, STANDING_COLUMNS, askList} from "./lists.js";
 import {asksForAttention, atRest, isSuppressed, isUnacknowledged, makeFlags, makeMark, makeShelf, makeState} from "./marks.js";
-import {FLAGS, minuteText, plainMoment, spanText} from "./texts.js";
+import {FLAGS, minuteText, plainMoment, lengthText} from "./texts.js";
 import {momentNow} from "./time.js";
 
 const DAY = 86400000;
@@ -71,7 +71,7 @@ const alarmList = {
             mark.show(alarm);
             state.show(alarm);
             flags.show(alarm);
-            say(limit, spanText(Number(alarm.limit) * 1000));
+            say(limit, lengthText(Number(alarm.limit)));
             second.hidden = alarm.shelf === null;
             if (alarm.shelf) {
                 shelf.show(alarm.shelf);

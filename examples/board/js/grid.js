@@ -3,14 +3,14 @@
 
 import {make} from "./elements.js";
 import {atRest, makeMark} from "./marks.js";
-import {spanText} from "./texts.js";
+import {lengthText} from "./texts.js";
 
 export const CELLS = ["P1", "P2", "P3", "P4", "N"]; // the highest first
 const height = (cell) => CELLS.length - CELLS.indexOf(cell);
 
 // The times of a column in words, from its bands in seconds.
 export function timesText(bands, column) {
-    const [from, until] = [bands[column - 1], bands[column]].map((band) => band && spanText(band * 1000));
+    const [from, until] = [bands[column - 1], bands[column]].map((band) => band && lengthText(band));
     if (!from && !until) {
         return "any time";
     }

@@ -7,7 +7,7 @@ import {CELLS, brokenPairs, timesText} from "./grid.js";
 import {here, holds} from "./here.js";
 import {atRest, makeMark} from "./marks.js";
 import {compareRecords, makeComparedList} from "./pricing.js";
-import {numberOf} from "./texts.js";
+import {LENGTH_WANTED, lengthText, secondsOf} from "./texts.js";
 
 const MOST_SEVERITIES = 5;
 const MOST_BANDS = 4;
@@ -15,13 +15,13 @@ const MOST_BANDS = 4;
 // ---- To draw up
 
 const form = $("matrix");
-const draft = {bands: ["300"], cells: [["P3", "P4"], ["P1", "P2"]]}; // the bands as they were typed
+const draft = {bands: ["5 min"], cells: [["P3", "P4"], ["P1", "P2"]]}; // the bands as they were typed
 let filledFor = null; // the unit and the revision that the draft was filled for
 let isTouched = false;
 let isWhole = false; // whether the draft's order is broken nowhere
 let comparedAs = ""; // what the list of records was built of
 
-const bandsOf = () => draft.bands.map((band) => numberOf(band));
+const bandsOf = () => draft.bands.map((band) => secondsOf(band));
 const fieldOf = (row, column) => form.querySelector(`[data-cell="${row} ${column}"]`);
 
 function makeCell(row, column) {
@@ -45,16 +45,15 @@ function makeHead(column) {
     head.scope = "col";
     if (column < draft.bands.length) {
         const field = make("input", "band");
-        field.inputMode = "numeric";
         field.autocomplete = "off";
         field.value = draft.bands[column];
-        put(field, "aria-label", `End of time ${column + 1} in seconds`);
+        put(field, "aria-label", `End of time ${column + 1}`);
         field.addEventListener("input", () => {
             draft.bands[column] = field.value;
             isTouched = true;
             check();
         });
-        head.append(field, make("span", "word", " s"));
+        head.append(field);
     }
     return head;
 }
@@ -88,7 +87,7 @@ function check() {
         put(field, "aria-invalid", isRight ? null : "true");
         if (!isRight) {
             words.push(bands[column] === null
-                ? `Time ${column + 1} has to end with a whole number of seconds, 1 to 604800.`
+                ? `The end of time ${column + 1} has to be ${LENGTH_WANTED}.`
                 : `Time ${column + 1} has to end later than time ${column}.`);
         }
     });
@@ -148,7 +147,7 @@ export function showMatrix() {
         filledFor = key;
         $("matrix-base").value = String(inForce.revision);
         if (inForce.content) {
-            draft.bands = inForce.content.bands.map(String);
+            draft.bands = inForce.content.bands.map(lengthText);
             draft.cells = inForce.content.cells.map((row) => [...row]);
             build();
         }
@@ -161,7 +160,7 @@ export function forgetMatrix() {
     filledFor = null;
     isTouched = false;
     $("matrix-base").value = "";
-    Object.assign(draft, {bands: ["300"], cells: [["P3", "P4"], ["P1", "P2"]]});
+    Object.assign(draft, {bands: ["5 min"], cells: [["P3", "P4"], ["P1", "P2"]]});
     sayAnswer(form, "", "");
     build();
 }
@@ -175,7 +174,7 @@ function reshape(change) {
 $("add-severity").addEventListener("click", () => reshape(() => draft.cells.push([...draft.cells.at(-1)])));
 $("drop-severity").addEventListener("click", () => reshape(() => draft.cells.pop()));
 $("add-band").addEventListener("click", () => reshape(() => {
-    draft.bands.push(String(2 * (numberOf(draft.bands.at(-1) ?? "") ?? 150)));
+    draft.bands.push(lengthText(Math.min(2 * (secondsOf(draft.bands.at(-1) ?? "") ?? 150), 604800)));
     draft.cells.forEach((row) => row.push(row.at(-1)));
 }));
 $("drop-band").addEventListener("click", () => reshape(() => {

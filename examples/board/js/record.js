@@ -8,7 +8,7 @@ import {here, holds} from "./here.js";
 import {forgetChanges, standsOfProposal} from "./changes.js";
 import {makeOffer, makePrice, priceOf} from "./pricing.js";
 import {outOfDate} from "./rounds.js";
-import {REMARK_WANTED, SECONDS_WANTED, isRemark, numberOf, spanText} from "./texts.js";
+import {REMARK_WANTED, LENGTH_WANTED, isRemark, lengthText, secondsOf} from "./texts.js";
 
 const REMARKS = ["cause", "consequence", "action"];
 
@@ -79,19 +79,19 @@ const record = makeProposal(recordForm, {
         consequence: held?.consequence ?? "",
         action: held?.action ?? "",
         severity: held?.severity ?? 1,
-        response: held?.response ?? "",
+        response: held ? lengthText(held.response) : "",
     }),
 });
 const limit = makeProposal(limitForm, {
     revisionOf: ({alarm}) => alarm.limit_revision,
-    fieldsOf: ({alarm}) => ({max: alarm.limit}),
+    fieldsOf: ({alarm}) => ({max: lengthText(alarm.limit)}),
 });
 
 // The priority of the record that is being drawn up, by the matrix in force, beside the one that the alarm has.
 let pricedAs = "";
 export function showPrice() {
     here.isPricing = shown.alarm !== null && holds("Engineer") && recordForm.closest("details").open;
-    const response = numberOf($("response").value);
+    const response = secondsOf($("response").value);
     if (!here.isPricing) {
         return;
     }
@@ -121,10 +121,10 @@ onAlarm(() => {
 
 recordForm.addEventListener("submit", (event) => {
     event.preventDefault();
-    const response = numberOf($("response").value);
+    const response = secondsOf($("response").value);
     const isRight = areRight(recordForm, [
         ...REMARKS.map((id) => [$(id), isRemark($(id).value), `Give the ${id} in ${REMARK_WANTED}.`]),
-        [$("response"), response !== null, `How long is there to respond? Give ${SECONDS_WANTED}.`],
+        [$("response"), response !== null, `How long is there to respond? Give ${LENGTH_WANTED}.`],
     ]);
     if (isRight) {
         const remarks = Object.fromEntries(REMARKS.map((id) => [id, $(id).value]));
@@ -134,17 +134,17 @@ recordForm.addEventListener("submit", (event) => {
 
 limitForm.addEventListener("submit", (event) => {
     event.preventDefault();
-    const max = numberOf($("max").value);
-    if (areRight(limitForm, [[$("max"), max !== null, `Give ${SECONDS_WANTED}.`]])) {
+    const max = secondsOf($("max").value);
+    if (areRight(limitForm, [[$("max"), max !== null, `Give ${LENGTH_WANTED}.`]])) {
         limit.send("limit", {max});
     }
 });
 
-// what the seconds in a field come to
+// what the length of time in a field comes to
 for (const [field, place] of [["response", "response-span"], ["max", "max-span"]]) {
     const show = () => {
-        const seconds = numberOf($(field).value);
-        say($(place), seconds === null ? "" : spanText(seconds * 1000));
+        const seconds = secondsOf($(field).value);
+        say($(place), seconds === null ? "" : lengthText(seconds));
     };
     $(field).addEventListener("input", show);
     onAlarm(show);

@@ -24,7 +24,8 @@ def try_lists(site, page, pictures):
     time.sleep(2)
     second, end = page.value(SHELVES), time.monotonic()
     for before, after in zip(first, second):
-        if abs(seconds_of(before[2]) - seconds_of(after[2]) - (end - begin)) > 1.5:
+        (left, exact), (later, _) = seconds_of(before[2]), seconds_of(after[2])
+        if not -1.5 - (exact > 2) * 3 <= left - later - (end - begin) <= exact - 0.5:
             sys.exit(f"{before[0]}: {before[2]} and {end - begin:.1f} s later {after[2]}")
     looks = page.check_looks("the lists")
     page.check_narrow("the lists")
@@ -58,13 +59,13 @@ def try_shelving(site, page, pictures):
     page.write("words", "float is stuck")
     page.key("Enter")
     page.await_text(
-        "#shelving .answer", "LT-202: The time is longer than the limit of this alarm, 7200 seconds. (ShelvingTimeOutOfRange)"
+        "#shelving .answer", "LT-202: The time is longer than the limit of this alarm, 2 h. (ShelvingTimeOutOfRange)"
     )
     expect("LT-202" in site.read("ann", "/units/U1/shelves"), False, "LT-202 is shelved")
     page.tab_to("seconds", back=True)
-    page.type("5400")
+    page.type("1 h 30 min")
     page.key("Enter")
-    page.await_text("#shelving .answer", "LT-202 is shelved for 1:30:00.")
+    page.await_text("#shelving .answer", "LT-202 is shelved for 1 h 30 min.")
     [shelf] = [row for row in shelves_of(site, "U1") if row[0] == "LT-202"]
     expect([shelf[1], *shelf[4:]], ["timed", "ann", "float is stuck"], "the shelf")
     if not 5380 <= int(shelf[3]) <= 5400:
@@ -85,7 +86,7 @@ def try_shelving(site, page, pictures):
     check_alarm(site, page, "PT-301")
     page.write("seconds", "1.5")
     page.press("shelve")
-    page.await_text("#shelving .answer", "For how long? Give a whole number of seconds, 1 to 604800.")
+    page.await_text("#shelving .answer", "For how long? Give a time of 1 s to 7 d, as 45 min, 2 h or 1 d 6 h.")
     page.await_focus("seconds", "the focus in the wrong field")
     page.type("3600")
     page.press("shelve")

@@ -23,7 +23,7 @@ def try_engineer(site, browser, pictures):
     page.await_focus("register-title", "the focus in the view")
     page.write("new-tag", HOSTILE[:24])
     page.write("new-max", "7200")
-    expect(page.text("#new-max-span"), "2:00:00", "the seconds in words")
+    expect(page.text("#new-max-span"), "2 h", "the seconds in words")
     page.key("Enter")
     page.await_text("#register .answer", "A tag is 1 to 24 capitals, digits, dashes, dots and underlines.")
     page.check_plain("a tag with markup")
@@ -31,7 +31,7 @@ def try_engineer(site, browser, pictures):
     page.tab_to("latching")
     page.key(" ")
     page.key("Enter")
-    page.await_text("#register .answer", f"{NEW} is registered, with a limit of 2:00:00 (7200 s). Show {NEW}")
+    page.await_text("#register .answer", f"{NEW} is registered, with a limit of 2 h (7200 s). Show {NEW}")
     page.check_looks("the registering")
     page.check_narrow("the registering")
     page.write("new-tag", NEW)
@@ -69,7 +69,8 @@ def try_engineer(site, browser, pictures):
     page.go("#U1/PT-301")
     check_alarm(site, page, "PT-301")
     fields = {name: page.value(f"document.querySelector('#{name}').value") for name in record_of("PT-301")}
-    expect(fields, {name: str(value) for name, value in record_of("PT-301").items()}, "the fields of a proposal")
+    wanted = {name: str(value) for name, value in record_of("PT-301").items()} | {"response": "1 min"}
+    expect(fields, wanted, "the fields of a proposal")
     page.value("document.querySelector('details').open = true")
     page.write("response", "90")
     if pictures:
@@ -88,12 +89,12 @@ def try_engineer(site, browser, pictures):
     page.check_narrow("the widest matrix")
     for _ in range(2):
         page.press("drop-band")
-    expect(page.texts("#grid .times"), ["under 0:05:00", "0:05:00 to under 0:10:00", "0:10:00 and more"], "the times")
-    page.tab_to("End of time 2 in seconds", back=True)
+    expect(page.texts("#grid .times"), ["under 5 min", "5 min to under 10 min", "10 min and more"], "the times")
+    page.tab_to("End of time 2", back=True)
     page.type("200")
     page.await_text("#broken-lines", "Time 2 has to end later than time 1.")
     page.type("900")
-    page.tab_to("Severity 3, under 0:05:00")
+    page.tab_to("Severity 3, under 5 min")
     page.choose("P4")
     wait_for("the broken order", lambda: page.is_shown("#broken"))
     expect(
@@ -110,8 +111,8 @@ def try_engineer(site, browser, pictures):
     page.await_text("#matrix .answer", "The matrix was not sent: its order is broken where it is marked.")
     expect(len(site.relay.calls), calls, "calls for a broken matrix")
     for label, cell in [
-        ("Severity 3, under 0:05:00", "P1"), ("Severity 3, 0:05:00 to under 0:15:00", "P2"), ("Severity 3, 0:15:00 and more", "P3"),
-        ("Severity 2, under 0:05:00", "P2"), ("Severity 2, 0:05:00 to under 0:15:00", "P3"), ("Severity 2, 0:15:00 and more", "P4"),
+        ("Severity 3, under 5 min", "P1"), ("Severity 3, 5 min to under 15 min", "P2"), ("Severity 3, 15 min and more", "P3"),
+        ("Severity 2, under 5 min", "P2"), ("Severity 2, 5 min to under 15 min", "P3"), ("Severity 2, 15 min and more", "P4"),
     ]:  # fmt: skip
         if page.focus() != label:
             page.tab_to(label)

@@ -57,7 +57,7 @@ def try_lost_answers(site, pages, folder, count):
     check_alarm(site, page, "XA-901")
     page.write("seconds", "600")
     page.write("words", "lost <i>answer</i>")
-    found = r"XA-901 is shelved for a time by ann, 0:\d\d:\d\d left: “lost <i>answer</i>”, and in service\."
+    found = r"XA-901 is shelved for a time by ann, (10 min|9 min \d+ s) left: “lost <i>answer</i>”, and in service\."
     lose(site, page, "#shelving .answer", "XA-901", lambda: page.key("Enter"), found)
     check_alarm(site, page, "XA-901")
     page.check_looks("a call in doubt")
@@ -83,7 +83,7 @@ def try_lost_answers(site, pages, folder, count):
     page.go("#U1/register")
     page.write("new-tag", "PT-778")
     page.write("new-max", "60")
-    lose(site, page, "#register .answer", "PT-778", lambda: page.key("Enter"), r"PT-778 is registered, with a limit of 0:01:00 \(60 s\)\.")
+    lose(site, page, "#register .answer", "PT-778", lambda: page.key("Enter"), r"PT-778 is registered, with a limit of 1 min \(60 s\)\.")
     page.go("#U1/LT-204")
     check_alarm(site, page, "LT-204")
     page.press("Another limit")
