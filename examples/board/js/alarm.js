@@ -2,7 +2,7 @@
 
 import {getUnless} from "./asking.js";
 import {$, makeFacts, makeLink, put, say, showFact} from "./elements.js";
-import {addressOf, here} from "./here.js";
+import {addressOf, here, isShut} from "./here.js";
 import {atRest, makeMark, makeShelf, makeState} from "./marks.js";
 import {sinceText} from "./alarms.js";
 import {isTag, plainMoment, secondsText, TAG_WANTED} from "./texts.js";
@@ -27,7 +27,7 @@ const decided = new Map(); // changes that were approved, by unit and number: th
 
 export async function askAlarm() {
     const {unit, tag} = here;
-    if (unit === null || tag === null || !isTag(tag)) {
+    if (isShut() || tag === null || !isTag(tag)) {
         return null;
     }
     const path = `/units/${unit}/alarms/${tag}`;

@@ -1,7 +1,7 @@
 // The alarms of the unit, the standing ones, and the strip that counts those that ask for attention.
 
 import {$, fill, make, makeLink, put, say} from "./elements.js";
-import {addressOf, here} from "./here.js";
+import {addressOf, here, isShut} from "./here.js";
 import {ALARM_COLUMNS, SHELF_COLUMNS, STANDING_COLUMNS, askList} from "./lists.js";
 import {asksForAttention, atRest, isSuppressed, isUnacknowledged, makeFlags, makeMark, makeShelf, makeState} from "./marks.js";
 import {FLAGS, minuteText, plainMoment, lengthText} from "./texts.js";
@@ -12,7 +12,7 @@ const DAY = 86400000;
 // ---- Asking
 
 export async function askAlarms() {
-    if (here.unit === null) {
+    if (isShut()) {
         return null;
     }
     const unit = here.unit;

@@ -3,6 +3,7 @@
 import {CAUSES, FAULTS, PROXY, REFUSALS} from "./texts.js";
 
 const PATIENCE = 20000; // milliseconds that an answer is waited for
+const LONGER = 120000; // while another window has the keyboard, as that in which the browser asks for a password
 
 // Anything but the wanted answer: `words` say what it is, `name` is the office's own name of it.
 export class Trouble extends Error {
@@ -60,9 +61,27 @@ export async function getUnless(name, path) {
     }
 }
 
+let pending = null; // the request that is under way
+
+export const waitingSeconds = () => (pending === null ? 0 : (performance.now() - pending.begun) / 1000);
+
+// Gives up a question that is under way. A call that changes something is waited for.
+export function askAnew() {
+    if (pending?.method === "GET") {
+        pending.stop.abort();
+    }
+}
+
 async function send(method, path, body) {
     const stop = new AbortController();
-    const timer = setTimeout(() => stop.abort(), PATIENCE);
+    const begun = performance.now();
+    const timer = setInterval(() => {
+        const waited = performance.now() - begun;
+        if (waited >= LONGER || (waited >= PATIENCE && document.hasFocus())) {
+            stop.abort();
+        }
+    }, 1000);
+    pending = {method, begun, stop};
     let status;
     let text;
     try {
@@ -71,9 +90,10 @@ async function send(method, path, body) {
         status = answer.status;
         text = await answer.text();
     } catch {
-        throw new Trouble(stop.signal.aborted ? "No answer for 20 seconds." : "No connection to the proxy.", "", {lost: true});
+        throw new Trouble(stop.signal.aborted ? "No answer came in time." : "No connection to the proxy.", "", {lost: true});
     } finally {
-        clearTimeout(timer);
+        clearInterval(timer);
+        pending = null;
     }
     if (status !== 200) {
         throw troubleOf(status, text);

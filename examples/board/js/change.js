@@ -4,7 +4,7 @@ import {getUnless} from "./asking.js";
 import {decisionText, matrixInForce, stateText, storeOf, titleOf} from "./changes.js";
 import {$, make, makeFacts, makeLink, put, say, sayAnswer, showFact} from "./elements.js";
 import {makeGrid} from "./grid.js";
-import {addressOf, here, holds} from "./here.js";
+import {addressOf, here, holds, isShut} from "./here.js";
 import {compareRecords, makeComparedList, makeOffer, makePrice, priceOf} from "./pricing.js";
 import {isTag, plainMoment, secondsText} from "./texts.js";
 
@@ -28,7 +28,7 @@ let answeredFor = null; // the unit and the change that the form's answer is of
 // Of a record or a limit that waits, what is in force is asked for in each round.
 export async function askInForce() {
     const {unit, view, number} = here;
-    const change = view === "changes" && number !== null ? storeOf(unit).known.get(number) : undefined;
+    const change = view === "changes" && number !== null && !isShut() ? storeOf(unit).known.get(number) : undefined;
     let found = null;
     if (change?.state === "Proposed" && isTag(change.tag ?? "")) {
         const path = `/units/${unit}/alarms/${change.tag}`;

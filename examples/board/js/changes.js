@@ -2,7 +2,7 @@
 // and then, while the page is idle, all others, the newest first or, if the list begins with the oldest, the oldest first.
 
 import {getUnless} from "./asking.js";
-import {here} from "./here.js";
+import {here, isShut} from "./here.js";
 import {makeIdle} from "./idle.js";
 import {plainMoment} from "./texts.js";
 
@@ -65,7 +65,7 @@ const isOld = (store, number, age, forgotten = store.forgotten) => {
 };
 
 // Whether changes are looked at: in their views, and where an engineer has a record in hand.
-export const areWanted = () => here.unit !== null && (["changes", "matrix"].includes(here.view) || here.isPricing);
+export const areWanted = () => !isShut() && (["changes", "matrix"].includes(here.view) || here.isPricing);
 
 let onPage = []; // the numbers that are on the page
 export const setOnPage = (numbers) => {

@@ -1,7 +1,7 @@
 // The floods of the last 24 hours, asked for once a minute.
 
 import {$, make, say} from "./elements.js";
-import {here} from "./here.js";
+import {here, isShut} from "./here.js";
 import {FLOOD_COLUMNS, askList} from "./lists.js";
 import {minuteText, momentText} from "./texts.js";
 import {momentNow} from "./time.js";
@@ -14,7 +14,7 @@ const BEGINS = 10; // a flood begins with more activations than these in a perio
 let asked = -Infinity;
 
 export async function askFloods() {
-    if (here.unit === null || here.view !== "alarms" || here.tag !== null || performance.now() - asked < SELDOM) {
+    if (isShut() || here.view !== "alarms" || here.tag !== null || performance.now() - asked < SELDOM) {
         return null;
     }
     const until = Math.ceil((momentNow() + 1) / PERIOD) * PERIOD;

@@ -5,6 +5,9 @@ export const here = {
     person: "", // the caller's name
     units: [], // the caller's, as GET /units gives them
     unit: null, // the code of the one that is shown
+    hasEnded: false, // whether the caller's roles in it have ended since it is shown
+    kept: new Set(), // roles in it that have ended since what is shown was opened: its forms stay
+    ahead: new Map(), // the units whose last moment lies ahead, with that moment
     view: "alarms",
     tag: null, // of the alarm that is shown whole
     number: null, // of the change that is shown whole
@@ -28,7 +31,11 @@ export const VIEWS = new Map([
 
 export const rolesHeld = () => here.units.find((held) => held.unit === here.unit)?.roles ?? [];
 export const holds = (role) => rolesHeld().includes(role);
-export const maySee = (view) => VIEWS.get(view) === null || holds(VIEWS.get(view));
+export const keeps = (role) => holds(role) || here.kept.has(role); // for what is open already
+export const maySee = (view, has = holds) => VIEWS.get(view) === null || has(VIEWS.get(view));
+
+// whether the unit answers at all
+export const isShut = () => here.unit === null || here.hasEnded || here.ahead.has(here.unit);
 
 export const addressOf = (...parts) => `#${parts.join("/")}`;
 

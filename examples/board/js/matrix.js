@@ -4,7 +4,7 @@ import {act} from "./acting.js";
 import {$, areRight, make, put, say, sayAnswer} from "./elements.js";
 import {forgetChanges, matrixInForce, standsOfProposal, storeOf} from "./changes.js";
 import {CELLS, brokenPairs, timesText} from "./grid.js";
-import {here, holds} from "./here.js";
+import {here, keeps} from "./here.js";
 import {atRest, makeMark} from "./marks.js";
 import {compareRecords, makeComparedList} from "./pricing.js";
 import {LENGTH_WANTED, lengthText, secondsOf} from "./texts.js";
@@ -152,7 +152,7 @@ export function showMatrix() {
             build();
         }
     }
-    $("propose-matrix").hidden = !holds("Engineer");
+    $("propose-matrix").hidden = !keeps("Engineer");
     showCompared();
 }
 

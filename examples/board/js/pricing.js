@@ -4,7 +4,7 @@
 import {getUnless} from "./asking.js";
 import {matrixInForce} from "./changes.js";
 import {make, makeLink} from "./elements.js";
-import {addressOf, here, holds} from "./here.js";
+import {addressOf, here, holds, isShut} from "./here.js";
 import {makeIdle} from "./idle.js";
 import {atRest, makeMark} from "./marks.js";
 import {secondsText} from "./texts.js";
@@ -93,7 +93,7 @@ async function askRecord(unit, tag) {
     recordsOf(unit).set(tag, {...record, listed, asked});
 }
 
-export const lookAtRecords = makeIdle({isWanted: () => here.isComparing, missing, ask: askRecord});
+export const lookAtRecords = makeIdle({isWanted: () => here.isComparing && !isShut(), missing, ask: askRecord});
 export const seenRecords = (unit) => recordsOf(unit).size;
 
 // What the records in force get by a matrix: how many of how many were compared, how many fall into each cell, and those that change.

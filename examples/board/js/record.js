@@ -4,7 +4,7 @@
 import {act} from "./acting.js";
 import {onAlarm, shown} from "./alarm.js";
 import {$, areRight, say, sayAnswer} from "./elements.js";
-import {here, holds} from "./here.js";
+import {here, keeps} from "./here.js";
 import {forgetChanges, standsOfProposal} from "./changes.js";
 import {makeOffer, makePrice, priceOf} from "./pricing.js";
 import {outOfDate} from "./rounds.js";
@@ -27,7 +27,7 @@ function makeProposal(form, {revisionOf, fieldsOf}) {
 
     function show() {
         const key = `${here.unit}/${shown.tag}`;
-        if (shown.alarm === null || !holds("Engineer")) {
+        if (shown.alarm === null || !keeps("Engineer")) {
             filledFor = shown.tag === null ? null : filledFor;
             return;
         }
@@ -90,7 +90,7 @@ const limit = makeProposal(limitForm, {
 // The priority of the record that is being drawn up, by the matrix in force, beside the one that the alarm has.
 let pricedAs = "";
 export function showPrice() {
-    here.isPricing = shown.alarm !== null && holds("Engineer") && recordForm.closest("details").open;
+    here.isPricing = shown.alarm !== null && keeps("Engineer") && recordForm.closest("details").open;
     const response = secondsOf($("response").value);
     if (!here.isPricing) {
         return;
@@ -116,7 +116,7 @@ recordForm.closest("details").addEventListener("toggle", () => {
 onAlarm(showPrice);
 
 onAlarm(() => {
-    $("proposing").hidden = shown.alarm === null || !holds("Engineer");
+    $("proposing").hidden = shown.alarm === null || !keeps("Engineer");
 });
 
 recordForm.addEventListener("submit", (event) => {

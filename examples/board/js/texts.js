@@ -52,7 +52,7 @@ export const FAULTS = new Map([
 ]);
 
 export const PROXY = new Map([
-    [401, "You are not signed on."],
+    [401, "Your sign-on has run out, or the name or the password is not right. What you typed stays here."],
     [403, "The proxy refuses this page."],
     [413, "The proxy takes nothing above 1 MiB."],
     [502, "The office does not answer."],
@@ -89,6 +89,7 @@ export const FLAGS = [["S", "shelved"], ["D", "suppressed by design"], ["O", "ou
 
 // what has which form
 const LONGEST = 604800; // seconds, a week
+export const isUnit = (text) => /^[A-Z0-9]{1,8}$/.test(text);
 export const isTag = (text) => /^[A-Z0-9._-]{1,24}$/.test(text);
 export const isPerson = (text) => /^[a-z0-9.-]{1,32}$/.test(text);
 export const isRemark = (text) => /^[ -~]{1,120}$/.test(text);

@@ -4,7 +4,7 @@ import {act} from "./acting.js";
 import {onAlarm, shown} from "./alarm.js";
 import {get} from "./asking.js";
 import {$, areRight, say, sayAnswer} from "./elements.js";
-import {here, holds} from "./here.js";
+import {here, keeps} from "./here.js";
 import {SHELF_COLUMNS, askList} from "./lists.js";
 import {REMARK_WANTED, LENGTH_WANTED, clockText, isRemark, leftText, lengthText, secondsOf} from "./texts.js";
 import {momentNow} from "./time.js";
@@ -37,8 +37,8 @@ async function call(form, action, body, done) {
 
 function showWork() {
     const {alarm, tag} = shown;
-    shelving.hidden = alarm === null || !holds("Operator");
-    service.hidden = alarm === null || !holds("Maintainer");
+    shelving.hidden = alarm === null || !keeps("Operator");
+    service.hidden = alarm === null || !keeps("Maintainer");
     if (alarm === null) {
         filledFor = tag === null ? null : filledFor;
         return;

@@ -352,13 +352,17 @@ class Page:
     def requests(self):
         """The requests to the office, each begun after the one before had ended."""
         under_way, requests = set(), []
+        # a question that the page gives up is under way until then, but its end may be noted late
+        given_up = {event["params"]["requestId"] for event in self.events() if event["params"].get("canceled")}
         for event in self.events():
             params = event["params"]
             if event["method"] == "Network.requestWillBeSent" and re.search(r":\d+/(units|shelves)", params["request"]["url"]):
                 if under_way and params["requestId"] not in under_way:
                     sys.exit(f"two requests at a time: {params['request']['url']}")
-                under_way.add(params["requestId"])
+                under_way |= {params["requestId"]} - given_up
                 requests.append((params["request"]["method"], re.sub(r".*?:\d+/", "/", params["request"]["url"])))
+            elif event["method"] == "Page.frameNavigated":
+                under_way.clear()  # the page was loaded anew
             elif event["method"] in ("Network.loadingFinished", "Network.loadingFailed"):
                 under_way.discard(params["requestId"])
         return requests

@@ -27,6 +27,7 @@ class Relay(socketserver.ThreadingTCPServer):
         self.calls = []  # what changes something, as method, path and body
         self.is_losing = False  # whether answers to such calls get lost after the office has given them
         self.delay = 0  # seconds that such an answer is kept back
+        self.silence = threading.Event()  # while it is set, no question is answered
         self.is_faulty = False  # whether each call is answered as by an office whose store failed
         self.swaps = {}  # texts of answers that are replaced by others of the same length
         threading.Thread(target=self.serve_forever, daemon=True).start()
@@ -44,6 +45,8 @@ class Relayed(socketserver.StreamRequestHandler):
             self.wfile.write(b"HTTP/1.1 503 Service Unavailable\r\nContent-Type: application/json\r\n")
             self.wfile.write(b"Content-Length: %d\r\n\r\n%s" % (len(FAULT), FAULT))
             return
+        while self.server.silence.is_set():
+            time.sleep(0.1)
         try:
             office = socket.create_connection(("127.0.0.1", self.server.office_port))
         except ConnectionRefusedError:
