@@ -4,6 +4,8 @@ import {$, fill, make, makeLink, put, say} from "./elements.js";
 import {addressOf, here, isShut} from "./here.js";
 import {ALARM_COLUMNS, SHELF_COLUMNS, STANDING_COLUMNS, askList} from "./lists.js";
 import {asksForAttention, atRest, isSuppressed, isUnacknowledged, makeFlags, makeMark, makeShelf, makeState} from "./marks.js";
+import {isOnPaper} from "./looks.js";
+import {announce} from "./news.js";
 import {FLAGS, minuteText, plainMoment, lengthText} from "./texts.js";
 import {momentNow} from "./time.js";
 
@@ -22,9 +24,11 @@ export async function askAlarms() {
     const standing = await list("standing", "STANDING", STANDING_COLUMNS);
     return () => {
         const shelfOf = new Map(shelves.rows.map((shelf) => [shelf.tag, {...shelf, end: shelves.at + Number(shelf.left) * 1000}]));
+        const before = here.alarms;
         here.alarms = new Map(listed.rows.map((alarm) => [alarm.tag, {...alarm, shelf: shelfOf.get(alarm.tag) ?? null}]));
         here.standing = new Map(standing.rows.map((alarm) => [alarm.tag, alarm.since]));
         here.answeredAt = standing.at;
+        announce(before, here.alarms);
         showAlarms();
         showStanding(standing.rows);
         showStrip();
@@ -86,7 +90,8 @@ const alarmList = {
 
 function isWanted(alarm) {
     const wanted = {all: true, abnormal: alarm.state !== "Normal", suppressed: isSuppressed(alarm)};
-    return alarm.tag.toUpperCase().includes($("find").value.trim().toUpperCase()) && wanted[$("show").value];
+    const isFound = alarm.tag.toUpperCase().includes($("find").value.trim().toUpperCase());
+    return isOnPaper() || (isFound && wanted[$("show").value]);
 }
 
 export function showAlarms() {

@@ -10,6 +10,7 @@ import "./focus.js";
 import {VIEWS, addressOf, here, keeps, maySee, readAddress, rolesHeld} from "./here.js";
 import {forgetFile, showImport} from "./import.js";
 import {openLegend} from "./legend.js";
+import {whilePrinting} from "./looks.js";
 import {runAllDown} from "./marks.js";
 import {forgetMatrix, showMatrix} from "./matrix.js";
 import {focusChange, forgetProposals, showChanges} from "./proposals.js";
@@ -206,6 +207,10 @@ document.addEventListener("visibilitychange", () => {
 });
 
 [() => askUnits(showHeld), askAlarms, askFloods, askAlarm, askChanges, askInForce].forEach(eachRound);
+whilePrinting(() => {
+    showAlarms();
+    showChanges();
+});
 const showSeen = () => {
     showChanges();
     showMatrix();

@@ -6,6 +6,7 @@ import {forgetChange, isOwn, showChange} from "./change.js";
 import {decisionText, forgetChanges, setOnPage, standsOfChange, stateText, storeOf, titleOf} from "./changes.js";
 import {$, fill, make, makeLink, put, say} from "./elements.js";
 import {addressOf, here, holds} from "./here.js";
+import {isOnPaper} from "./looks.js";
 import {plainMoment} from "./texts.js";
 
 const form = $("deciding");
@@ -59,7 +60,7 @@ export function showChanges() {
     const words = $("find-change").value.trim().toLowerCase().split(/\s+/).filter(Boolean);
     const state = $("show-changes").value;
     const found = seen.filter((change) => (state === "" || change.state === state) && isFound(change, words));
-    const shown = found.slice(0, wanted);
+    const shown = found.slice(0, isOnPaper() ? Infinity : wanted);
     fill(changeList, shown, (change) => change.number);
     setOnPage(shown.map((change) => change.number));
     const waiting = seen.filter((change) => change.state === "Proposed").length;

@@ -97,6 +97,7 @@ export function showUnits() {
         $("unit").replaceChildren(...listed.map((code) => new Option(codes.includes(code) ? code : `${code}, ended`, code)));
     }
     $("unit").value = here.unit ?? "";
+    $("unit-label").dataset.unit = here.unit ?? ""; // on paper
     $("stranger").hidden = here.person === "" || here.unit !== null;
     say($("stranger-name"), here.person);
 }

@@ -81,6 +81,11 @@ LOW_CONTRAST = """(() => {
     for (const node of document.querySelectorAll(".mark .whole")) {
         if (node.checkVisibility()) check(node, getComputedStyle(node).stroke, "the outline of a mark", 3);
     }
+    for (const bar of document.querySelectorAll(".flood")) {
+        const style = getComputedStyle(bar, "::before");
+        const isBordered = parseFloat(style.borderTopWidth) > 0;
+        if (bar.checkVisibility()) check(bar.parentElement, isBordered ? style.borderTopColor : style.backgroundColor, "the bar of a flood", 3);
+    }
     return [count, found];
 })()"""
 
@@ -106,6 +111,16 @@ STICKING_OUT = """(() => {
             const down = Math.min(one.bottom, other.bottom) - Math.max(one.top, other.top);
             if (across > 1 && down > 1) found.push(`in ${row.textContent.slice(0, 40)}: parts overlap by ${across} and ${down}`);
         }));
+    }
+    const texts = document.createTreeWalker(document.body, NodeFilter.SHOW_TEXT);
+    while (texts.nextNode()) {
+        const text = texts.currentNode.data.trim();
+        const node = texts.currentNode.parentElement;
+        if (text.length < 4 || !node.checkVisibility() || node.getBoundingClientRect().width <= 1 || node.closest(".unseen, option, #skip")) continue;
+        const range = document.createRange();
+        range.selectNodeContents(texts.currentNode);
+        const lines = new Set([...range.getClientRects()].map((box) => Math.round(box.top))).size;
+        if (lines > 2 && text.length / lines < 2.5) found.push(`letters one below the other: ${text.slice(0, 30)}`);
     }
     for (const link of document.querySelectorAll(".tag a")) {
         if (link.getClientRects().length > 3) found.push(`${link.textContent} takes ${link.getClientRects().length} lines`);
@@ -315,13 +330,14 @@ class Page:
         expect(made, [], f"{what}: elements made of texts")
         expect(self.value("document.title === '1'"), False, f"{what}: a text was run")
 
-    def check_narrow(self, what, width=480):
-        """At a narrow width nothing sticks out or overlaps."""
+    def check_narrow(self, what):
+        """At narrow widths nothing sticks out or overlaps, and no letters stand one below the other."""
         before = self.width
-        self.resize(width, 1000)
-        found = self.value(STICKING_OUT)
-        self.resize(before, 1240)
-        expect(found, [], f"{what} at {width} pixels")
+        for width in [480, 390, 320]:
+            self.resize(width, 1000)
+            found = self.value(STICKING_OUT)
+            self.resize(before, 1240)
+            expect(found, [], f"{what} at {width} pixels")
 
     def picture(self, file, highest=1240):
         """A picture of the page, or of its upper part, while its marks are bright, with few colours."""
