@@ -14,7 +14,7 @@ const DAY = 86400000;
 // ---- Asking
 
 export async function askAlarms() {
-    if (isShut()) {
+    if (isShut() || here.view === "several") {
         return null;
     }
     const unit = here.unit;
@@ -155,8 +155,8 @@ const stripParts = ["P1", "P2", "P3", "P4", "-"].map((priority) => {
     return {priority, mark, count, unseen};
 });
 
-function showStrip() {
-    const asking = [...here.alarms.values()].filter(asksForAttention);
+export function showStrip(alarms = [...here.alarms.values()]) {
+    const asking = alarms.filter(asksForAttention);
     for (const {priority, mark, count, unseen} of stripParts) {
         const own = asking.filter((alarm) => (priority === "-" ? !/^P[1-4]$/.test(alarm.priority) : alarm.priority === priority));
         const order = ["Unacknowledged", "LatchedUnack", "ReturnedUnack", "Acknowledged"];

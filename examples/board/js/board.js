@@ -19,6 +19,7 @@ import {showPrice} from "./record.js";
 import "./register.js";
 import {forgetRoles} from "./roles.js";
 import {askNow, askOn, eachRound, outOfDate} from "./rounds.js";
+import {askSeveral, forgetSeveral, showSeveral} from "./several.js";
 import {clockText, dateText} from "./texts.js";
 import {momentNow} from "./time.js";
 import {sayNotice, showTrouble, showWaiting} from "./trouble.js";
@@ -34,6 +35,7 @@ const SECTIONS = {
     register: ["register"],
     import: ["import"],
     roles: ["roles"],
+    several: ["several", "several-standing", "several-shelved"],
 };
 
 // The roles that have ended in the unit that is shown, while its page stays: what is typed is kept.
@@ -55,6 +57,9 @@ function keepRoles(rolesBefore) {
 function follow() {
     const address = readAddress(location.hash);
     const codes = here.units.map((held) => held.unit);
+    if (address.view === "several") {
+        address.unit = codes.includes(here.unit) ? here.unit : codes[0] ?? "";
+    }
     const {unit: unitBefore, view: viewBefore, tag: tagBefore, number: numberBefore} = here;
     const stays = unitBefore !== null && (unitBefore === address.unit || codes.length === 0);
     const unit = codes.includes(address.unit) ? address.unit : stays ? unitBefore : codes[0] ?? null;
@@ -69,6 +74,12 @@ function follow() {
             ? `You hold no role in the unit ${address.unit} at this moment: this is ${unit}.`
             : isElsewhere ? "" : `You do not hold the role ${VIEWS.get(address.view)} in ${unit}.`);
         history.replaceState(null, "", addressOf(unit));
+    }
+    const severalBefore = here.several.join();
+    here.several = view !== "several" ? [] : address.units.length > 0 ? address.units : codes;
+    if (here.several.join() !== severalBefore) {
+        forgetSeveral();
+        outOfDate();
     }
     if (unit !== unitBefore) {
         [forgetAlarms, forgetFloods, forgetProposals, forgetMatrix, forgetFile, forgetRoles].forEach((forget) => forget());
@@ -98,6 +109,12 @@ function showWhere() {
     $("floods").hidden = $("standing-panel").hidden = unit === null || view !== "alarms" || tag !== null;
     $("alarm").hidden = unit === null || tag === null;
     document.querySelectorAll("#views a").forEach((link) => {
+        if (link.dataset.view === "several") {
+            link.hidden = here.units.length < 2;
+            link.href = `#units=${here.units.map((held) => held.unit).join()}`;
+            put(link, "aria-current", view === "several" ? "page" : null);
+            return;
+        }
         link.hidden = unit === null || !maySee(link.dataset.view, link.dataset.view === view ? keeps : undefined);
         link.href = link.dataset.view === "alarms" ? addressOf(unit) : addressOf(unit, link.dataset.view);
         put(link, "aria-current", link.dataset.view === view ? "page" : null);
@@ -107,6 +124,7 @@ function showWhere() {
     here.isComparing = false;
     showTitle();
     showAlarms();
+    showSeveral();
     showChanges();
     showMatrix();
     showImport();
@@ -115,7 +133,7 @@ function showWhere() {
 function showTitle() {
     const {unit, view, tag, standing} = here;
     const what = tag ?? (view === "alarms" ? `${standing.size} standing` : view);
-    document.title = unit === null ? "Alarm board" : `${unit}: ${what}`;
+    document.title = unit === null ? "Alarm board" : view === "several" ? `${here.several.join(", ")}` : `${unit}: ${what}`;
 }
 
 // the keyboard goes on where the eyes do
@@ -192,7 +210,8 @@ $("skip").addEventListener("click", (event) => {
     focusContent();
 });
 $("unit").addEventListener("change", () => {
-    location.hash = here.view === "alarms" ? addressOf($("unit").value) : addressOf($("unit").value, here.view);
+    const isPlain = ["alarms", "several"].includes(here.view);
+    location.hash = isPlain ? addressOf($("unit").value) : addressOf($("unit").value, here.view);
 });
 addEventListener("hashchange", () => {
     sayNotice("");
@@ -206,7 +225,7 @@ document.addEventListener("visibilitychange", () => {
     }
 });
 
-[() => askUnits(showHeld), askAlarms, askFloods, askAlarm, askChanges, askInForce].forEach(eachRound);
+[() => askUnits(showHeld), askAlarms, askSeveral, askFloods, askAlarm, askChanges, askInForce].forEach(eachRound);
 whilePrinting(() => {
     showAlarms();
     showChanges();

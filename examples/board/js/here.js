@@ -1,5 +1,6 @@
 // What the page knows: who calls, what is shown, and the unit's alarms as they were last answered. And the addresses of what is shown:
-// #U1, #U1/PT-101, #U1/changes, #U1/changes/7, #U1/matrix, #U1/register, #U1/import, #U1/roles. A tag has no small letters.
+// #U1, #U1/PT-101, #U1/changes, #U1/changes/7, #U1/matrix, #U1/register, #U1/import, #U1/roles, and #units=U1,U2. A tag has no small
+// letters.
 
 export const here = {
     person: "", // the caller's name
@@ -11,6 +12,7 @@ export const here = {
     view: "alarms",
     tag: null, // of the alarm that is shown whole
     number: null, // of the change that is shown whole
+    several: [], // the codes of the units that are shown side by side
     alarms: new Map(), // by tag, each with its shelf
     standing: new Map(), // the moments since which alarms are active, by tag
     answeredAt: null, // the moment of the last whole round
@@ -27,6 +29,7 @@ export const VIEWS = new Map([
     ["register", "Engineer"],
     ["import", "Operator"],
     ["roles", "Steward"],
+    ["several", null],
 ]);
 
 export const rolesHeld = () => here.units.find((held) => held.unit === here.unit)?.roles ?? [];
@@ -46,9 +49,13 @@ export function readAddress(hash) {
     } catch {
         // taken as it stands
     }
+    if (text.startsWith("units=")) {
+        const units = [...new Set(text.slice(6).split(",").filter(Boolean))];
+        return {unit: "", view: "several", tag: null, number: null, units};
+    }
     const [unit, what = "", ...more] = text.split("/");
     const address = {unit, view: "alarms", tag: null, number: null};
-    if (VIEWS.has(what)) {
+    if (VIEWS.has(what) && what !== "several") {
         address.view = what;
         address.number = what === "changes" && /^[1-9]\d{0,4}$/.test(more[0] ?? "") ? Number(more[0]) : null;
     } else if (what !== "") {

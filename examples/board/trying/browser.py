@@ -18,7 +18,7 @@ CODES = {"Enter": 13, "Tab": 9, "Escape": 27, "ArrowDown": 40, "ArrowUp": 38, "H
 CONTROLS = {"button", "link", "textbox", "searchbox", "combobox", "checkbox", "radio", "DisclosureTriangle", "spinbutton", "ComboBoxSelect"}
 
 # elements that the page itself does not make
-MADE_OF_TEXT = "img, i, u, s, script:not([src]), q *, b:not(#strip b, .left, #flood-lines b, .title, #broken b, .no-row)"
+MADE_OF_TEXT = "img, i, u, s, script:not([src]), q *, b:not(#strip b, .counted b, .left, #flood-lines b, .title, #broken b, .no-row)"
 
 # the focus, as its id, its name or its text
 FOCUS = "((node) => node.id || node.getAttribute('aria-label') || node.textContent.trim() || node.tagName)(document.activeElement)"

@@ -18,7 +18,7 @@ def try_lists(site, page, pictures):
     check_lists(site, page, "U1")
     expect(page.text("#person"), "ann: Operator", "the caller")
     expect(page.value("[...document.querySelectorAll('#unit option')].map((option) => option.value)"), ["U1", "U2"], "the units")
-    expect(page.texts("#views a"), ["Alarms", "Proposals", "Import"], "the views of an operator")
+    expect(page.texts("#views a"), ["Alarms", "All units", "Proposals", "Import"], "the views of an operator")
     check_floods(site, page)
     first, begin = page.value(SHELVES), time.monotonic()
     time.sleep(2)

@@ -16,7 +16,7 @@ RECORD = {"cause": "a <b>bold</b> cause", "consequence": HOSTILE, "action": "x' 
 
 def try_engineer(site, browser, pictures):
     page = Page(browser, site.address("eve", "#U1"))
-    expect(page.texts("#views a"), ["Alarms", "Proposals", "Matrix", "Register"], "the views of an engineer")
+    expect(page.texts("#views a"), ["Alarms", "All units", "Proposals", "Matrix", "Register"], "the views of an engineer")
 
     # an alarm is registered
     page.press("Register")
@@ -155,7 +155,7 @@ def wanted_comparison(change, before, revision):
 
 def try_approver(site, browser, pictures):
     page = Page(browser, site.address("amy", "#U1"))
-    expect(page.texts("#views a"), ["Alarms", "Proposals"], "the views of an approver")
+    expect(page.texts("#views a"), ["Alarms", "All units", "Proposals"], "the views of an approver")
     page.press("Proposals")
     changes = check_changes(site, page, "amy", 28)
     page.await_text("#changes-note", "All 28 changes were looked at.")
@@ -263,7 +263,7 @@ def try_own(site, browser):
 
 def try_steward(site, browser):
     page = Page(browser, site.address("ste", "#U1"))
-    expect(page.texts("#views a"), ["Alarms", "Proposals", "Roles"], "the views of a steward")
+    expect(page.texts("#views a"), ["Alarms", "All units", "Proposals", "Roles"], "the views of a steward")
     page.press("Roles")
     calls = len(site.relay.calls)
     page.write("grantee", HOSTILE[:32])

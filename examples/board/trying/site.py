@@ -27,6 +27,7 @@ class Relay(socketserver.ThreadingTCPServer):
         self.calls = []  # what changes something, as method, path and body
         self.is_losing = False  # whether answers to such calls get lost after the office has given them
         self.delay = 0  # seconds that such an answer is kept back
+        self.faulty_path = None  # the beginning of paths that are answered so
         self.silence = threading.Event()  # while it is set, no question is answered
         self.is_faulty = False  # whether each call is answered as by an office whose store failed
         self.swaps = {}  # texts of answers that are replaced by others of the same length
@@ -41,7 +42,8 @@ class Relayed(socketserver.StreamRequestHandler):
         method, path = head.split(b" ")[:2]
         if method == b"POST":
             self.server.calls.append((path.decode(), body))
-        if self.server.is_faulty:
+        is_faulty_path = self.server.faulty_path and path.decode().startswith(self.server.faulty_path)
+        if self.server.is_faulty or is_faulty_path:
             self.wfile.write(b"HTTP/1.1 503 Service Unavailable\r\nContent-Type: application/json\r\n")
             self.wfile.write(b"Content-Length: %d\r\n\r\n%s" % (len(FAULT), FAULT))
             return

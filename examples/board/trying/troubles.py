@@ -16,7 +16,7 @@ def try_viewers(site, browser):
     check_alarm(site, page, "PT-301")
     for part in ["#shelving", "#service", "#proposing"]:
         expect(page.is_shown(part), False, f"{part} for a viewer")
-    expect(page.texts("#views a"), ["Alarms", "Proposals"], "the views of a viewer")
+    expect(page.texts("#views a"), ["Alarms", "All units", "Proposals"], "the views of a viewer")
     page.go("#U1/changes/23")
     page.await_text("#change-title", "Change 23: Limit of PT-301")
     buttons = "[...document.querySelectorAll('#deciding button')].filter((button) => button.checkVisibility()).length"
