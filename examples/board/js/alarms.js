@@ -6,6 +6,7 @@ import {ALARM_COLUMNS, SHELF_COLUMNS, STANDING_COLUMNS, askList} from "./lists.j
 import {asksForAttention, atRest, isSuppressed, isUnacknowledged, makeFlags, makeMark, makeShelf, makeState} from "./marks.js";
 import {isOnPaper} from "./looks.js";
 import {announce} from "./news.js";
+import {forgetRemovals} from "./service.js";
 import {FLAGS, minuteText, plainMoment, lengthText} from "./texts.js";
 import {momentNow} from "./time.js";
 
@@ -26,6 +27,7 @@ export async function askAlarms() {
         const shelfOf = new Map(shelves.rows.map((shelf) => [shelf.tag, {...shelf, end: shelves.at + Number(shelf.left) * 1000}]));
         const before = here.alarms;
         here.alarms = new Map(listed.rows.map((alarm) => [alarm.tag, {...alarm, shelf: shelfOf.get(alarm.tag) ?? null}]));
+        forgetRemovals(unit, here.alarms);
         here.standing = new Map(standing.rows.map((alarm) => [alarm.tag, alarm.since]));
         here.answeredAt = standing.at;
         announce(before, here.alarms);

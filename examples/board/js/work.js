@@ -6,7 +6,8 @@ import {get} from "./asking.js";
 import {$, areRight, say, sayAnswer} from "./elements.js";
 import {here, keeps} from "./here.js";
 import {SHELF_COLUMNS, askList} from "./lists.js";
-import {REMARK_WANTED, LENGTH_WANTED, clockText, isRemark, leftText, lengthText, secondsOf} from "./texts.js";
+import {rememberRemoval} from "./service.js";
+import {REMARK_WANTED, LENGTH_WANTED, clockText, isRemark, leftText, lengthText, momentText, secondsOf} from "./texts.js";
 import {momentNow} from "./time.js";
 
 const HOUR = 3600; // seconds, which the form proposes unless the alarm's limit is less
@@ -30,6 +31,9 @@ async function call(form, action, body, done) {
     const path = `/units/${unit}/alarms/${tag}/${action}`;
     const stands = () => standsOf(unit, tag);
     const accepted = await act(form, {subject: tag, path, body: body && JSON.stringify(body), done: () => `${tag} ${done}`, stands});
+    if (accepted && action === "remove-from-service") {
+        rememberRemoval(unit, tag, {person: here.person, moment: momentText(momentNow()), words: body.words});
+    }
     if (accepted && here.unit === unit && here.tag === tag) {
         form.querySelector(".remark").value = "";
     }

@@ -68,7 +68,7 @@ def try_night(site, browser, pictures):
     expect((is_dark(ann), ann.value("document.querySelector('#colours').value")), (True, "dark"), "the page after loading anew")
     wait_for("the floods", lambda: ann.is_shown(".flood"))
     if pictures:
-        ann.picture(pictures / "board-night.png")
+        ann.picture(pictures / "board-dark.png")
     ann.tab_to("colours")
     ann.choose("light")
     emulate(ann, scheme="dark")

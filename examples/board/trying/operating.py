@@ -1,5 +1,6 @@
 """The work of operators and of maintenance."""
 
+import json
 import re
 import sys
 import time
@@ -269,11 +270,38 @@ def try_maintainer(site, browser):
     expect(site.json("ann", "/units/U1/alarms/LT-204")["out_of_service"], True, "LT-204 is out of service")
     expect(site.relay.calls[-1][1].decode().count("document.title=1"), 1, "the words that were sent")
     check_alarm(site, page, "LT-204")
+    service = page.facts("#alarm-facts")["Service"]
+    if not re.fullmatch(rf"out of service\nby moe, since [\d: -]{{19}}: “{re.escape(WORDS)}”", service):
+        expect(service, f"out of service, by moe, since this moment: “{WORDS}”", "who took the alarm out of service")
+    page.check_plain("who took an alarm out of service, with markup")
     page.check_looks("an alarm, for maintenance")
     page.check_narrow("an alarm, for maintenance")
     page.press("place")
     page.await_text("#service .answer", "LT-204 is in service again.")
     expect(site.json("ann", "/units/U1/alarms/LT-204")["out_of_service"], False, "LT-204 is in service")
     check_alarm(site, page, "LT-204")
-    print("maintenance by keys: out of service with words, and back")
+
+    # what another page did: where to look, and who it was if the site offers lines of the audit log
+    page.go("#U1/TT-401")
+    check_alarm(site, page, "TT-401")
+    expect(page.facts("#alarm-facts")["Service"], "out of service\nNo call says who, since when and why. The audit log of the proxy has it, in "
+           "its last line with /units/U1/alarms/TT-401/remove-from-service: ask whoever keeps that log.", "where to look")
+    page.check_narrow("where to look")
+    status, _ = site.ask("moe", "/units/U1/alarms/FT-102/remove-from-service", json.dumps({"words": WORDS}))
+    expect(status, 200, "FT-102 out of service")
+    logged = lambda: [line for line in (site.folder / "audit.log").read_text().splitlines(True) if "/FT-102/remove-from-service" in line]
+    log = wait_for("the line of the audit log", logged)
+    lines = site.folder / "board/audit.jsonl"
+    lines.write_text("not a line\n" + log[0].replace("moe", "mo<b>", 2) + log[0] + log[0].replace('"status":200', '"status":409').replace("moe", "bad"))
+    other = Page(browser, site.address("vic", "#U1/FT-102"))
+    wait_for("who did it", lambda: re.fullmatch(rf"out of service\nby moe, since [\d: -]{{19}}: “{re.escape(WORDS)}”",
+                                                other.facts("#alarm-facts").get("Service", "")))
+    other.check_plain("a line of the audit log with markup")
+    other.check_narrow("who took an alarm out of service")
+    other.close()
+    lines.unlink()
+    page.go("#U1/LT-204")
+    check_alarm(site, page, "LT-204")
+    expect(site.ask("moe", "/units/U1/alarms/FT-102/place-in-service", "")[0], 200, "FT-102 in service")
+    print("maintenance by keys: out of service with words, and back; who, since when and why as far as the page can know it, else where to look")
     return page

@@ -134,7 +134,7 @@ def wanted_facts(site, tag):
     path = f"/units/U1/alarms/{tag}"
     alarm = site.json("ann", path)
     facts = {
-        "Service": "out of service" if alarm["out_of_service"] else "in service",
+        **({} if alarm["out_of_service"] else {"Service": "in service"}),
         "Suppression": "suppressed by design" if alarm["suppressed"] else "not suppressed by design",
         "Limit": f"{seconds_text(alarm['limit'])}\nrevision {alarm['limit_revision']}",
     }
@@ -172,6 +172,7 @@ def check_alarm(site, page, tag):
         shown = page.facts("#alarm-facts")
         return (
             facts.items() <= shown.items()
+            and shown["Service"].startswith("out of service" if alarm["out_of_service"] else "in service")
             and shown["State"].split("\n")[0] == STATES[alarm["state"]]
             and (shown["Shelf"] == "not shelved") == (alarm["shelf"] == "Unshelved")
             and page.facts("#record-facts") == record
