@@ -47,7 +47,7 @@ def await_price(page, wanted, now="now P1, with this record"):
     expect(page.text("#price-now").strip(), now, "the priority that the alarm has")
 
 
-def try_priorities(site, browser):
+def try_priorities(site, browser, pictures):
     page = Page(browser, site.address("eve", "#U4"))
     page.go("#U4/A-1")
     page.await_text("#alarm-title", "A-1")
@@ -98,6 +98,8 @@ def try_priorities(site, browser):
     counts = "[...document.querySelectorAll('#change-content .count')].map((node) => node.textContent)"
     expect(amy.value(counts), ["2 records", "2 records", "2 records"], "how many records fall into the cells")
     amy.check_looks("a matrix compared")
+    if pictures:
+        amy.picture(pictures / "board-matrix.png", 900)
     amy.check_narrow("a matrix compared")
     amy.go("#U4/changes/7")
     amy.await_text("#change-title", "Change 7: Matrix")

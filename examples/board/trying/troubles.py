@@ -1,5 +1,7 @@
 """What goes wrong: no role, lost answers, an office or a proxy that is not there, answers with markup."""
 
+import base64
+import http.client
 import re
 import sys
 
@@ -37,6 +39,25 @@ def try_viewers(site, browser):
         page.check_looks(f"the page of {person}")
         page.close()
     print("viewers get no forms and no buttons, strangers nothing, and pages of other hosts are refused by the proxy")
+
+
+def try_policy(site, browser):
+    """The site's Content-Security-Policy is in force, and the page works under it."""
+    client = http.client.HTTPConnection("127.0.0.1", site.port)
+    client.request("GET", "/board/", headers={"Authorization": "Basic " + base64.b64encode(b"ann:ann").decode()})
+    answer = client.getresponse()
+    policy = "default-src 'self'; img-src data:; frame-ancestors 'none'"
+    expect((answer.status, answer.getheader("Content-Security-Policy")), (200, policy), "the policy")
+    answer.read()
+    client.close()
+    page = Page(browser, site.address("ann", "#U1"))
+    wait_for("the lists", lambda: page.is_shown("#standing li"))
+    expect(page.errors(), [], "what the policy refuses of the page itself")
+    page.value("(() => { const script = document.createElement('script'); script.textContent = 'document.title = 1'; document.body.append(script); })()")
+    wait_for("the refusal", lambda: any("Content Security Policy" in event["params"].get("entry", {}).get("text", "") for event in page.errors()))
+    expect(page.value("document.title === '1'"), False, "a script in line was run")
+    print("the page works under the site's Content-Security-Policy, which refuses what is in line")
+    return []
 
 
 def lose(site, page, answer, subject, act, found):
