@@ -41,13 +41,13 @@ function troubleOf(status, text) {
 
 let lastRequest = Promise.resolve();
 
-export function ask(method, path, body) {
-    const answer = lastRequest.then(() => send(method, path, body));
+export function ask(method, path, body, patience) {
+    const answer = lastRequest.then(() => send(method, path, body, patience));
     lastRequest = answer.catch(() => {});
     return answer;
 }
 
-export const get = async (path) => JSON.parse(await ask("GET", path));
+export const get = async (path, patience) => JSON.parse(await ask("GET", path, undefined, patience));
 
 // What is answered to a question, or null if the office refuses it by this name.
 export async function getUnless(name, path) {
@@ -72,12 +72,12 @@ export function askAnew() {
     }
 }
 
-async function send(method, path, body) {
+async function send(method, path, body, patience = PATIENCE) {
     const stop = new AbortController();
     const begun = performance.now();
     const timer = setInterval(() => {
         const waited = performance.now() - begun;
-        if (waited >= LONGER || (waited >= PATIENCE && document.hasFocus())) {
+        if (waited >= LONGER || (waited >= patience && (document.hasFocus() || patience < PATIENCE))) {
             stop.abort();
         }
     }, 1000);

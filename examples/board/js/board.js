@@ -1,4 +1,4 @@
-// The alarm board; README.md says what it is. What is shown follows the address, and the keys are here.
+// The alarm board; README.md says what it is. What is shown follows the address.
 
 import {changeAlarm, askAlarm} from "./alarm.js";
 import {askAlarms, focusAlarm, forgetAlarms, showAlarms} from "./alarms.js";
@@ -9,7 +9,7 @@ import {askFloods, forgetFloods} from "./floods.js";
 import "./focus.js";
 import {VIEWS, addressOf, here, keeps, maySee, readAddress, rolesHeld} from "./here.js";
 import {forgetFile, showImport} from "./import.js";
-import {openLegend} from "./legend.js";
+import "./keys.js";
 import {whilePrinting} from "./looks.js";
 import {runAllDown} from "./marks.js";
 import {forgetMatrix, showMatrix} from "./matrix.js";
@@ -56,6 +56,8 @@ function keepRoles(rolesBefore) {
 // Shows what the address names, as far as the caller may see it. Of the unit that is shown already the page stays, also without a role.
 function follow() {
     const address = readAddress(location.hash);
+    here.isUnitsDue ||= address.offices.join() !== here.offices.join();
+    here.offices = address.offices;
     const codes = here.units.map((held) => held.unit);
     if (address.view === "several") {
         address.unit = codes.includes(here.unit) ? here.unit : codes[0] ?? "";
@@ -111,7 +113,7 @@ function showWhere() {
     document.querySelectorAll("#views a").forEach((link) => {
         if (link.dataset.view === "several") {
             link.hidden = here.units.length < 2;
-            link.href = `#units=${here.units.map((held) => held.unit).join()}`;
+            link.href = addressOf(`units=${here.units.map((held) => held.unit).join()}`);
             put(link, "aria-current", view === "several" ? "page" : null);
             return;
         }
@@ -169,7 +171,7 @@ function showHeld() {
     here.isUnitsDue ||= here.hasEnded;
 }
 
-// ---- Each second, and the keys
+// ---- Each second
 
 function tick() {
     const now = momentNow();
@@ -188,23 +190,6 @@ function tick() {
 // all that blinks, blinks at once: once a second
 const blink = () => document.body.classList.toggle("dark-phase");
 
-document.addEventListener("keydown", (event) => {
-    const isTyping = event.target.matches("input, select, textarea");
-    if ($("legend").open || event.ctrlKey || event.metaKey || event.altKey) {
-        return;
-    }
-    if (event.key === "Escape" && here.tag !== null && event.target.id !== "find") {
-        location.hash = addressOf(here.unit);
-    } else if (event.key === "Escape" && here.number !== null) {
-        location.hash = addressOf(here.unit, "changes");
-    } else if (event.key === "/" && !isTyping && here.view === "alarms") {
-        $("find").focus();
-        event.preventDefault();
-    } else if (event.key === "?" && !isTyping) {
-        openLegend();
-        event.preventDefault();
-    }
-});
 $("skip").addEventListener("click", (event) => {
     event.preventDefault();
     focusContent();

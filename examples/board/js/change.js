@@ -59,7 +59,7 @@ function makeRow(name, ...cells) {
 // The priority by the matrix in force: of the record that is in force, and of the one that is proposed.
 function makePriorities(before, price) {
     const old = before.record ? makePrice({priority: before.record.priority, words: ""}) : "–";
-    const isSame = before.record?.priority === price.priority;
+    const isSame = !price.isKnown || before.record?.priority === price.priority;
     return makeRow("Priority", make("td", "old", old), make("td", isSame ? "" : "differs", makePrice(price)));
 }
 

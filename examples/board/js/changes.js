@@ -65,7 +65,7 @@ const isOld = (store, number, age, forgotten = store.forgotten) => {
 };
 
 // Whether changes are looked at: in their views, and where an engineer has a record in hand.
-export const areWanted = () => !isShut() && (["changes", "matrix"].includes(here.view) || here.isPricing);
+const areWanted = () => !isShut() && (["changes", "matrix"].includes(here.view) || here.isPricing);
 
 let onPage = []; // the numbers that are on the page
 export const setOnPage = (numbers) => {

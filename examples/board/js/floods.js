@@ -42,8 +42,9 @@ function showFloods(floods, end) {
     line.style.bottom = `${(100 * BEGINS) / top}%`;
     parts.push(line);
     for (let hour = Math.ceil(begin / 7200000) * 7200000; hour <= end; hour += 7200000) {
-        // every second of them is enough on a narrow page
-        const tick = make("div", (hour / 7200000) % 2 === 1 ? "tick odd" : (hour / 14400000) % 2 === 0 ? "tick" : "tick even", make("span", "", minuteText(hour)));
+        // every second of them is enough on a narrow page, and every fourth on a narrower one
+        const kind = (hour / 7200000) % 2 === 1 ? "tick odd" : (hour / 14400000) % 2 === 0 ? "tick" : "tick even";
+        const tick = make("div", kind, make("span", "", minuteText(hour)));
         tick.style.left = place(hour);
         parts.push(tick);
     }

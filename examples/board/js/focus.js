@@ -21,7 +21,7 @@ function nextControl(node, part) {
     return (node.isConnected ? controls.find(follows) : null) ?? controls.at(-1) ?? null;
 }
 
-export function focusHeading(part) {
+function focusHeading(part) {
     const heading = [...part.querySelectorAll("h2, h3")].find(isUsable);
     if (!heading) {
         return false;
@@ -31,7 +31,7 @@ export function focusHeading(part) {
     return true;
 }
 
-export function keepFocus() {
+function keepFocus() {
     const active = document.activeElement ?? document.body;
     if (last === null || (active !== document.body && isUsable(active)) || isUsable(last.node)) {
         return;

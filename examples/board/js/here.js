@@ -1,6 +1,6 @@
 // What the page knows: who calls, what is shown, and the unit's alarms as they were last answered. And the addresses of what is shown:
 // #U1, #U1/PT-101, #U1/changes, #U1/changes/7, #U1/matrix, #U1/register, #U1/import, #U1/roles, and #units=U1,U2. A tag has no small
-// letters.
+// letters. A plant with several offices behind one proxy puts #offices=A,B/ before each of these.
 
 export const here = {
     person: "", // the caller's name
@@ -12,6 +12,7 @@ export const here = {
     view: "alarms",
     tag: null, // of the alarm that is shown whole
     number: null, // of the change that is shown whole
+    offices: [], // the names of the offices that are asked for units, if the address names them
     several: [], // the codes of the units that are shown side by side
     alarms: new Map(), // by tag, each with its shelf
     standing: new Map(), // the moments since which alarms are active, by tag
@@ -40,18 +41,15 @@ export const maySee = (view, has = holds) => VIEWS.get(view) === null || has(VIE
 // whether the unit answers at all
 export const isShut = () => here.unit === null || here.hasEnded || here.ahead.has(here.unit);
 
-export const addressOf = (...parts) => `#${parts.join("/")}`;
+const officesPart = () => (here.offices.length === 0 ? "" : `offices=${here.offices.join()}/`);
+export const addressOf = (...parts) => `#${officesPart()}${parts.join("/")}`;
 
-export function readAddress(hash) {
-    let text = hash.slice(1);
-    try {
-        text = decodeURIComponent(text);
-    } catch {
-        // taken as it stands
-    }
+const isOffice = (name) => /^[A-Za-z0-9-]{1,32}$/.test(name);
+const namesIn = (text) => [...new Set(text.split(",").filter(Boolean))];
+
+function readPlace(text) {
     if (text.startsWith("units=")) {
-        const units = [...new Set(text.slice(6).split(",").filter(Boolean))];
-        return {unit: "", view: "several", tag: null, number: null, units};
+        return {unit: "", view: "several", tag: null, number: null, units: namesIn(text.slice(6))};
     }
     const [unit, what = "", ...more] = text.split("/");
     const address = {unit, view: "alarms", tag: null, number: null};
@@ -62,4 +60,16 @@ export function readAddress(hash) {
         address.tag = [what, ...more].join("/");
     }
     return address;
+}
+
+export function readAddress(hash) {
+    let text = hash.slice(1);
+    try {
+        text = decodeURIComponent(text);
+    } catch {
+        // taken as it stands
+    }
+    const found = /^offices=([^/]*)(?:\/(.*))?$/s.exec(text);
+    const offices = found === null ? [] : namesIn(found[1]).filter(isOffice);
+    return {offices, ...readPlace(found === null ? text : found[2] ?? "")};
 }

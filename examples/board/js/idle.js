@@ -16,8 +16,8 @@ function firstOf(things) {
 }
 
 // `isWanted` says whether to go on, `missing` gives what is still to be asked for in the unit, `ask` asks for one of it, and `orderOf`
-// says in which order. What is returned is called after each round with what shows more. It ends by itself: when nothing is
-// missing, or an answer is not what was asked for; the rounds say what went wrong, and begin it again.
+// says in which order. What is returned is called after each round with what shows more. It ends by itself: when nothing is missing, the
+// unit or the view is another one, or an answer is not what was asked for. The rounds say what went wrong, and begin it again.
 export function makeIdle({isWanted, missing, ask, orderOf = () => null}) {
     let isBusy = false;
     return async (show) => {

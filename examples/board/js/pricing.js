@@ -18,11 +18,12 @@ const columnOf = (bands, response) => {
 };
 
 // P1 to P4 or N, or null if the matrix has no row of the severity.
-export const priorityBy = ({bands, cells}, {severity, response}) => cells[severity - 1]?.[columnOf(bands, response)] ?? null;
+const priorityBy = ({bands, cells}, {severity, response}) => cells[severity - 1]?.[columnOf(bands, response)] ?? null;
 
 // ---- A record that is proposed
 
-// What its priority is by the matrix in force: `priority`, or null with `words` that say why not. `held` is the record in force, if any.
+// What its priority is by the matrix in force, and whether that is known: `priority`, or null with `words` that say why not. `held` is the
+// record in force, if any.
 export function priceOf(unit, record, held) {
     const matrix = matrixInForce(unit);
     if (matrix?.content) {
@@ -30,12 +31,12 @@ export function priceOf(unit, record, held) {
         const words = priority === null
             ? `none: the matrix in force has no row for severity ${record.severity}, and the office refuses this`
             : priority === "N" ? "no alarm is needed by the matrix in force, and the office refuses this" : "";
-        return {priority, words};
+        return {priority, words, isKnown: true};
     }
     if (held && held.severity === record.severity && held.response === record.response) {
-        return {priority: held.priority, words: ""};
+        return {priority: held.priority, words: "", isKnown: true};
     }
-    return {priority: null, words: matrix === null
+    return {priority: null, isKnown: false, words: matrix === null
         ? "Looking for the matrix in force…"
         : "not known: no matrix was approved yet, and no call gives the one that the unit was opened with"};
 }
@@ -63,8 +64,9 @@ function makeTinted(priority) {
 export function makeOffer(unit) {
     const node = make("p", "note offer");
     if (matrixInForce(unit)?.content === null) {
+        const link = makeLink("", "Propose the same matrix once", addressOf(unit, "matrix"));
         node.append(...holds("Engineer")
-            ? [makeLink("", "Propose the same matrix once", addressOf(unit, "matrix")), ", by the papers of the opening: then everybody can read it."]
+            ? [link, ", by the papers of the opening: then everybody can read it."]
             : ["An engineer may propose the same matrix once: then everybody can read it."]);
     }
     node.hidden = node.childNodes.length === 0;
@@ -94,7 +96,6 @@ async function askRecord(unit, tag) {
 }
 
 export const lookAtRecords = makeIdle({isWanted: () => here.isComparing && !isShut(), missing, ask: askRecord});
-export const seenRecords = (unit) => recordsOf(unit).size;
 
 // What the records in force get by a matrix: how many of how many were compared, how many fall into each cell, and those that change.
 export function compareRecords(unit, matrix) {

@@ -96,11 +96,12 @@ export function showPrice() {
         return;
     }
     const held = shown.record;
-    const price = response === null ? {priority: null, words: "–"} : priceOf(here.unit, {severity: Number($("severity").value), response}, held);
+    const record = {severity: Number($("severity").value), response};
+    const price = response === null ? {priority: null, words: "–"} : priceOf(here.unit, record, held);
     const built = JSON.stringify([here.unit, shown.tag, held?.priority, price]);
     if (built !== pricedAs) {
         pricedAs = built;
-        say($("price-now"), held ? `now ${held.priority}, with this record ` : "none now, with this record ");
+        say($("price-now"), held ? `now ${held.priority}, with this record: ` : "none now, with this record: ");
         $("price-after").replaceChildren(makePrice(price));
         $("price-offer").replaceChildren(price.priority === null && response !== null ? makeOffer(here.unit) : "");
     }

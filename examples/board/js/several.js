@@ -65,9 +65,10 @@ export async function askSeveral() {
     return () => {
         answers = found;
         const alarms = [...found.values()].flatMap((answer) => answer.alarms);
-        const after = new Map(alarms.map((alarm) => [alarm.key, {...alarm, tag: `${alarm.unit} ${alarm.tag}`}]));
-        announce(before, new Map([...after.values()].map((alarm) => [alarm.tag, alarm])));
-        before = new Map([...after.values()].map((alarm) => [alarm.tag, alarm]));
+        const named = alarms.map((alarm) => ({...alarm, tag: `${alarm.unit} ${alarm.tag}`}));
+        const after = new Map(named.map((alarm) => [alarm.tag, alarm]));
+        announce(before, after);
+        before = after;
         here.answeredAt = Math.max(...[...found.values()].map((answer) => answer.at ?? 0)) || here.answeredAt;
         showSeveral();
     };
@@ -90,7 +91,8 @@ function makeLine(kind) {
         const aside = make("span", "since");
         const link = makeLink("tag", tag, addressOf(unit, tag));
         put(link, "aria-label", `${tag} of ${unit}`);
-        const node = make("li", "", mark.node, make("span", "of-unit", unit), link, flags.node, kind === "shelved" ? shelf.node : state.node, aside);
+        const words = kind === "shelved" ? shelf.node : state.node;
+        const node = make("li", "", mark.node, make("span", "of-unit", unit), link, flags.node, words, aside);
         const show = (alarm) => {
             mark.show(alarm);
             flags.show(alarm);
@@ -148,7 +150,8 @@ export function showSeveral() {
         const place = ones.findIndex((value, at) => value !== others[at]);
         return place >= 0 ? ones[place] - others[place] : other.since.localeCompare(one.since);
     });
-    const shelved = alarms.filter((alarm) => alarm.shelf !== null).sort((one, other) => byPriority(one, other) || one.shelf.end - other.shelf.end);
+    const shelved = alarms.filter((alarm) => alarm.shelf !== null);
+    shelved.sort((one, other) => byPriority(one, other) || one.shelf.end - other.shelf.end);
     fill(unitList, [...answers].map(([tag, answer]) => ({tag, answer})));
     fill(lists.standing, standing, (alarm) => alarm.key);
     fill(lists.shelved, shelved, (alarm) => alarm.key);

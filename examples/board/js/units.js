@@ -34,6 +34,13 @@ function knownUnits() {
     return {person: kept.person, units: [...kept.units, ...isNew ? [{unit, roles: []}] : []]};
 }
 
+async function askOne() {
+    const person = (await askList("/shelves", "MINE", MINE_COLUMNS)).whose;
+    const {units} = await get("/units");
+    Object.assign(here, {person, units, ahead: new Map()});
+    remember(person, units);
+}
+
 async function askOneByOne(moment) {
     const {person, units} = knownUnits();
     const going = [];
@@ -64,17 +71,63 @@ async function askOneByOne(moment) {
         + `${going.length > ahead.size ? "The other units go on. " : ""}Tell the administrator: a clock was wrong.`;
 }
 
+// ---- Several offices, each asked for its own units
+
+const BRIEF = 3000; // milliseconds that an office is waited for, if there are several
+const PAUSE = 15000; // milliseconds after which one that did not answer is asked again
+const parts = new Map(); // by office: the units that it answered last, and when it failed
+
+async function askOffice(office) {
+    const part = parts.get(office) ?? parts.set(office, {units: [], failed: null, words: ""}).get(office);
+    if (part.failed !== null && performance.now() - part.failed < PAUSE) {
+        return null;
+    }
+    try {
+        const person = (await askList(`/offices/${office}/shelves`, "MINE", MINE_COLUMNS, undefined, BRIEF)).whose;
+        const {units} = await get(`/offices/${office}/units`, BRIEF);
+        Object.assign(part, {units, failed: null, words: ""});
+        return person;
+    } catch (error) {
+        if (error.name === "401" || error.words === undefined) {
+            throw error;
+        }
+        Object.assign(part, {failed: performance.now(), words: error.words});
+        return null;
+    }
+}
+
+// The units of all offices by their code. What is said of those that do not answer; if none does, this is the trouble.
+async function askOffices() {
+    const people = [];
+    for (const office of here.offices) {
+        people.push(await askOffice(office));
+    }
+    const down = here.offices.filter((office) => parts.get(office).failed !== null);
+    if (down.length === here.offices.length) {
+        throw new Trouble(`None of the offices ${down.join(", ")} answers.`, "", {lost: true});
+    }
+    const held = new Map();
+    for (const {unit, roles} of here.offices.flatMap((office) => parts.get(office).units)) {
+        held.set(unit, {unit, roles: [...new Set([...held.get(unit)?.roles ?? [], ...roles])]});
+    }
+    const units = [...held.values()].sort((one, other) => (one.unit < other.unit ? -1 : 1));
+    Object.assign(here, {person: people.find((person) => person) ?? here.person, units, ahead: new Map()});
+    return down.map((office) => `The office ${office}: ${parts.get(office).words} Its units are those that it gave last.`).join(" ");
+}
+
 // One part of a round; `show` shows the units that were answered.
 export async function askUnits(show) {
     if (!here.isUnitsDue && performance.now() - unitsAsked < SELDOM) {
         return null;
     }
     let words = "";
+    here.offices = readAddress(location.hash).offices;
     try {
-        const person = (await askList("/shelves", "MINE", MINE_COLUMNS)).whose;
-        const {units} = await get("/units");
-        Object.assign(here, {person, units, ahead: new Map()});
-        remember(person, units);
+        if (here.offices.length > 0) {
+            words = await askOffices();
+        } else {
+            await askOne();
+        }
     } catch (error) {
         if (error.name !== "MomentBehind") {
             throw error;
@@ -82,7 +135,7 @@ export async function askUnits(show) {
         words = await askOneByOne(String(error.value));
     }
     unitsAsked = performance.now();
-    here.isUnitsDue = false;
+    here.isUnitsDue = [...parts.values()].some((part) => part.failed !== null) && here.offices.length > 0;
     say($("ahead-words"), words);
     $("ahead").hidden = words === "";
     show();

@@ -98,7 +98,7 @@ def try_paper(site, browser, pictures):
     # what is printed, as the browser announces it
     page.value("addEventListener('beforeprint', () => { window.printed = [...document.querySelectorAll('#alarm-table tbody')].filter((row) => !row.hidden).length; })")
     sheets, boxes = pages_of(page)
-    expect(page.value("window.printed"), 14, "the alarms on paper")
+    expect(page.value("window.printed"), len(site.read("ann", "/units/U1/alarms").splitlines()) - 1, "the alarms on paper")
     expect(page.value(ROWS), 4, "the lines that are found, afterwards")
     widths = {tuple(round(float(number)) for number in box.split()) for box in boxes}
     expect(widths, {(0, 0, 595, 842)}, "the sheets' size, A4")
@@ -106,10 +106,12 @@ def try_paper(site, browser, pictures):
     page.type("")
     page.value("document.querySelector('#alarms-title').focus()")  # which is on paper, too
     emulate(page, media="print", scheme="dark")
+    page.resize(718, 1240)
     expect(page.value(CONTROLS), 0, "controls on paper")
+    expect([page.is_shown(part) for part in ["#clock .date", "#alarm-table td.limit", "#colours-label"]], [True, True, False],
+           "the day, the limits and the choice of colours on paper")
     expect(is_dark(page), False, "dark paper")
     expect(page.value(LOW_CONTRAST)[1], [], "a contrast of at least 4.5 on paper")
-    page.resize(718, 1240)
     if pictures:
         page.picture(pictures / "board-print.png")
     page.resize(1280, 1240)
@@ -120,11 +122,17 @@ def try_paper(site, browser, pictures):
         emulate(page, media="print")
         expect(page.value(CONTROLS), 0, f"controls of {address} on paper")
     emulate(page)
-    # long lists
+    # long lists: those that are on the page are the first fifty, and on paper all
     many = Page(browser, site.address("una", "#U3"))
-    sheets_of_many, _ = pages_of(many)
-    expect(sheets_of_many > 20, True, f"the sheets of 2,000 alarms, {sheets_of_many}")
-    print(f"on paper: {sheets} and {sheets_of_many} sheets of A4 with whole lists, also of a list that was searched, in light colours, without controls")
+    many.press("Proposals")
+    lines = lambda: many.value("document.querySelectorAll('#change-list li').length")
+    wait_for("fifty lines", lambda: lines() == 50, 30)
+    wait_for("all changes", lambda: "All 2000 changes were looked at." in many.text("#changes-note"), 120)
+    many.value("dispatchEvent(new Event('beforeprint'))")
+    expect(lines(), 2000, "the proposals on paper")
+    many.value("dispatchEvent(new Event('afterprint'))")
+    expect(lines(), 50, "the proposals afterwards")
+    print(f"on paper: {sheets} sheets of A4 with the whole list, though a part was searched, and 2,000 proposals; in light colours, without controls")
     return [page, many]
 
 

@@ -48,7 +48,8 @@ def try_counts(site, browser):
     wait_for("2,000 alarms", lambda: page.text("#alarms-title") == f"Alarms: {COUNT}", 30)
     page.press("Proposals")
     waiting = COUNT - len(DECIDED)
-    wait_for("a part of them", lambda: re.fullmatch(r"\d+ of 2000 changes were looked at; the page looks on\..*", page.text("#changes-note")))
+    part = r"\d+ of 2000 changes were looked at; the page looks on\..*"
+    wait_for("a part of them", lambda: re.fullmatch(part, page.text("#changes-note")))
     title = page.text("#changes-title")
     if not re.fullmatch(r"Proposals: at least \d+ waiting", title) or int(title.split()[3]) >= waiting:
         expect(title, "Proposals: at least N waiting", "the count of a part")

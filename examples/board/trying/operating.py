@@ -292,7 +292,8 @@ def try_maintainer(site, browser):
     logged = lambda: [line for line in (site.folder / "audit.log").read_text().splitlines(True) if "/FT-102/remove-from-service" in line]
     log = wait_for("the line of the audit log", logged)
     lines = site.folder / "board/audit.jsonl"
-    lines.write_text("not a line\n" + log[0].replace("moe", "mo<b>", 2) + log[0] + log[0].replace('"status":200', '"status":409').replace("moe", "bad"))
+    refused = log[0].replace('"status":200', '"status":409').replace("moe", "bad")
+    lines.write_text("not a line\n" + log[0].replace("moe", "mo<b>", 2) + log[0] + refused)
     other = Page(browser, site.address("vic", "#U1/FT-102"))
     wait_for("who did it", lambda: re.fullmatch(rf"out of service\nby moe, since [\d: -]{{19}}: “{re.escape(WORDS)}”",
                                                 other.facts("#alarm-facts").get("Service", "")))

@@ -42,7 +42,7 @@ def wanted_changes(site, matrix):
     return rows
 
 
-def await_price(page, wanted, now="now P1, with this record"):
+def await_price(page, wanted, now="now P1, with this record:"):
     page.await_text("#price-after", wanted)
     expect(page.text("#price-now").strip(), now, "the priority that the alarm has")
 
@@ -116,15 +116,15 @@ def try_priorities(site, browser, pictures):
         page.choose(str(severity))
         page.value("document.querySelector('#response').focus()")
         page.type(str(response))
-        await_price(page, priority_by(MATRIX, severity, response), "now P3, with this record")
+        await_price(page, priority_by(MATRIX, severity, response), "now P3, with this record:")
     page.value("document.querySelector('#severity').focus()")
     page.choose("4")
-    await_price(page, "none: the matrix in force has no row for severity 4, and the office refuses this", "now P3, with this record")
+    await_price(page, "none: the matrix in force has no row for severity 4, and the office refuses this", "now P3, with this record:")
     page.press("Propose the record")
     page.await_text("#record-form .answer", re.compile(r"record of A-2: .* \(OutsideMatrix\)"))
     page.value("document.querySelector('#severity').focus()")
     page.choose("2")
-    await_price(page, "P2", "now P3, with this record")
+    await_price(page, "P2", "now P3, with this record:")
     page.check_looks("a priority beside the form")
     page.check_narrow("a priority beside the form")
     page.press("Propose the record")

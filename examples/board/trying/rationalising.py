@@ -177,7 +177,7 @@ def try_approver(site, browser, pictures):
     page.await_focus("change-title", "the focus in the change")
     record = site.json("ann", "/units/U1/alarms/PT-301/record")
     wait_for("the comparison", lambda: page.value(COMPARISON) == wanted_comparison(changes[4], record, 1))
-    expect(page.texts("#change-content .differs"), [UNKNOWN, seconds_text(120), "open XV-302"], "what differs")
+    expect(page.texts("#change-content .differs"), [seconds_text(120), "open XV-302"], "what differs")
     if pictures:
         page.picture(pictures / "board-change.png", 900)
     page.press("approve")

@@ -81,9 +81,10 @@ def try_several(site, browser, pictures):
     site.relay.faulty_path = "/units/U2/"
     wait_for("the fault of U2", lambda: re.match(r"The store of the office failed\..* What is shown of it is of [\d:]+\.", page.value(UNITS)[3][2]))
     expect(page.value(LINES % "standing"), wanted, "what is shown of a unit that does not answer")
-    before = len([path for _, path in page.requests() if path.startswith("/units/U2")])
-    time.sleep(6)
-    expect(len([path for _, path in page.requests() if path.startswith("/units/U2")]) - before <= 1, True, "a unit that does not answer is let be")
+    asked_of_it = lambda: len([path for _, path in page.requests() if path.startswith("/units/U2")])
+    before = asked_of_it()
+    time.sleep(11)
+    expect(asked_of_it() - before <= 1, True, "whether a unit that does not answer is let be")
     expect(page.is_shown("#trouble"), False, "a trouble for one unit of several")
     site.relay.faulty_path = None
     wait_for("U2 again", lambda: page.value(UNITS)[3][2] == "", 25)

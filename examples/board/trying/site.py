@@ -30,6 +30,7 @@ class Relay(socketserver.ThreadingTCPServer):
         self.faulty_path = None  # the beginning of paths that are answered so
         self.silence = threading.Event()  # while it is set, no question is answered
         self.is_faulty = False  # whether each call is answered as by an office whose store failed
+        self.routes = []  # which paths go to which other port, and what they begin with there
         self.swaps = {}  # texts of answers that are replaced by others of the same length
         threading.Thread(target=self.serve_forever, daemon=True).start()
 
@@ -50,12 +51,19 @@ class Relayed(socketserver.StreamRequestHandler):
         while self.server.silence.is_set():
             time.sleep(0.1)
         try:
-            office = socket.create_connection(("127.0.0.1", self.server.office_port))
+            port = self.server.office_port
+            for begin, other, instead in self.server.routes:
+                if path.decode().startswith(begin):
+                    port, head = other, head.replace(path, instead.encode() + path[len(begin) :], 1)
+            office = socket.create_connection(("127.0.0.1", port))
         except ConnectionRefusedError:
             return
         with office:
-            office.sendall(head + body)
-            head, body = self.read_message(office.makefile("rb"))
+            try:
+                office.sendall(head + body)
+                head, body = self.read_message(office.makefile("rb"))
+            except ConnectionError:
+                return  # the office is gone
         if method == b"POST":
             time.sleep(self.server.delay)
             if self.server.is_losing:
