@@ -157,12 +157,14 @@ const stripParts = ["P1", "P2", "P3", "P4", "-"].map((priority) => {
     return {priority, mark, count, unseen};
 });
 
+const URGENCY = ["Unacknowledged", "LatchedUnack", "ReturnedUnack", "Acknowledged"];
+export const mostUrgent = (alarms) => URGENCY.map((state) => alarms.find((alarm) => alarm.state === state)).find(Boolean) ?? alarms[0];
+
 export function showStrip(alarms = [...here.alarms.values()]) {
     const asking = alarms.filter(asksForAttention);
     for (const {priority, mark, count, unseen} of stripParts) {
         const own = asking.filter((alarm) => (priority === "-" ? !/^P[1-4]$/.test(alarm.priority) : alarm.priority === priority));
-        const order = ["Unacknowledged", "LatchedUnack", "ReturnedUnack", "Acknowledged"];
-        const first = order.map((state) => own.find((alarm) => alarm.state === state)).find(Boolean) ?? own[0];
+        const first = mostUrgent(own);
         mark.show(first ? {...first, priority} : atRest(priority));
         say(count, String(own.length));
         put(count, "class", own.length > 0 ? "" : "none");

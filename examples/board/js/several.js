@@ -1,7 +1,7 @@
 // Several units side by side, for a control room that has more than one: how many alarms of each ask for attention, and the standing and
 // the shelved alarms of all, by priority. A unit that does not answer is named, and the others go on.
 
-import {moveBy, showStrip, sinceText} from "./alarms.js";
+import {mostUrgent, moveBy, showStrip, sinceText} from "./alarms.js";
 import {$, fill, make, makeLink, put, say} from "./elements.js";
 import {addressOf, here} from "./here.js";
 import {ALARM_COLUMNS, SHELF_COLUMNS, STANDING_COLUMNS, askList} from "./lists.js";
@@ -126,7 +126,7 @@ const unitList = {
             const asking = answer.alarms.filter(asksForAttention);
             for (const {priority, mark, count, node: cell} of marks) {
                 const own = asking.filter((alarm) => (priority === "-" ? !/^P[1-4]$/.test(alarm.priority) : alarm.priority === priority));
-                const first = own.find(isUnacknowledged) ?? own[0];
+                const first = mostUrgent(own);
                 mark.show(first ? {...first, priority} : atRest(priority));
                 say(count, String(own.length));
                 cell.hidden = answer.at === null;

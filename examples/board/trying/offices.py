@@ -61,6 +61,13 @@ def routes_to(site, port):
     return [("/offices/A/", site.office_port, "/"), ("/offices/B/", port, "/"), ("/units/U8", port, "/units/U8")]
 
 
+def longest_wait(page, path):
+    """The seconds between a request of this path and the one that followed it, at most."""
+    sent = [event["params"] for event in page.events() if event["method"] == "Network.requestWillBeSent"]
+    pairs = [(one, other) for one, other in zip(sent, sent[1:]) if path in one["request"]["url"]]
+    return max(other["timestamp"] - one["timestamp"] for one, other in pairs)
+
+
 def try_with(site, browser, office):
     site.relay.routes = routes_to(site, office.port)
     plain = Page(browser, site.address("ann", "#U1"))
@@ -97,6 +104,8 @@ def try_with(site, browser, office):
     with socket.create_server(("127.0.0.1", 0)) as deaf:
         site.relay.routes = routes_to(site, deaf.getsockname()[1])
         page.await_text("#ahead-words", re.compile(r"The office B: No answer came in time\..*"), 40)
+        waited = longest_wait(page, "/offices/B/")
+        expect(waited < 6, True, f"how long the page waited for an office that is deaf, {waited:.1f} s")
         begin = len(page.requests())
         time.sleep(6)
         asked = [path for _, path in page.requests()[begin:]]

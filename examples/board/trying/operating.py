@@ -89,7 +89,7 @@ def try_shelving(site, page, pictures):
     page.press("shelve")
     page.await_text("#shelving .answer", "For how long? Give a time of 1 s to 7 d, as 45 min, 2 h or 1 d 6 h.")
     page.await_focus("seconds", "the focus in the wrong field")
-    page.type("3600")
+    page.type("1 h")
     page.press("shelve")
     page.await_text("#shelving .answer", re.compile("Say why: .*"))
     expect(len(site.relay.calls), count, "calls of a form that is not right")
