@@ -27,7 +27,10 @@ class Relay(socketserver.ThreadingTCPServer):
         self.calls = []  # what changes something, as method, path and body
         self.is_losing = False  # whether answers to such calls get lost after the office has given them
         self.delay = 0  # seconds that such an answer is kept back
+        self.faulty_path = None  # the beginning of paths that are answered so
+        self.silence = threading.Event()  # while it is set, no question is answered
         self.is_faulty = False  # whether each call is answered as by an office whose store failed
+        self.routes = []  # which paths go to which other port, and what they begin with there
         self.swaps = {}  # texts of answers that are replaced by others of the same length
         threading.Thread(target=self.serve_forever, daemon=True).start()
 
@@ -40,17 +43,27 @@ class Relayed(socketserver.StreamRequestHandler):
         method, path = head.split(b" ")[:2]
         if method == b"POST":
             self.server.calls.append((path.decode(), body))
-        if self.server.is_faulty:
+        is_faulty_path = self.server.faulty_path and path.decode().startswith(self.server.faulty_path)
+        if self.server.is_faulty or is_faulty_path:
             self.wfile.write(b"HTTP/1.1 503 Service Unavailable\r\nContent-Type: application/json\r\n")
             self.wfile.write(b"Content-Length: %d\r\n\r\n%s" % (len(FAULT), FAULT))
             return
+        while self.server.silence.is_set():
+            time.sleep(0.1)
         try:
-            office = socket.create_connection(("127.0.0.1", self.server.office_port))
+            port = self.server.office_port
+            for begin, other, instead in self.server.routes:
+                if path.decode().startswith(begin):
+                    port, head = other, head.replace(path, instead.encode() + path[len(begin) :], 1)
+            office = socket.create_connection(("127.0.0.1", port))
         except ConnectionRefusedError:
             return
         with office:
-            office.sendall(head + body)
-            head, body = self.read_message(office.makefile("rb"))
+            try:
+                office.sendall(head + body)
+                head, body = self.read_message(office.makefile("rb"))
+            except ConnectionError:
+                return  # the office is gone
         if method == b"POST":
             time.sleep(self.server.delay)
             if self.server.is_losing:
@@ -81,6 +94,7 @@ class Site:
         self.program, self.folder, self.top, self.people = program, folder, top, people
         self.office_port, self.relay_port, self.port = free_port(), free_port(), free_port()
         self.office = self.proxy = None
+        self.calls = 0  # the trial's own, of those that came to the office and change something
         self.relay = Relay(self.relay_port, self.office_port)
 
     def start_office(self):
@@ -162,6 +176,7 @@ class Site:
         answer = client.getresponse()
         text = answer.read().decode()
         client.close()
+        self.calls += body is not None and text.startswith("{")
         return answer.status, text
 
     def read(self, person, path):
