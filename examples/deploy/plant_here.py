@@ -96,9 +96,9 @@ def pid_of(name):
     return int(run("systemctl", "show", "--property=MainPID", "--value", f"shelfoffice@{name}"))
 
 
-def at_port(port, person, path, body=None):
-    """The answer of an office at its own port."""
-    moment = datetime.datetime.now(datetime.timezone.utc).strftime("%Y-%m-%dT%H:%M:%SZ")
+def at_port(port, person, path, body=None, moment=None):
+    """The answer of an office at its own port, now or at another moment."""
+    moment = moment or datetime.datetime.now(datetime.timezone.utc).strftime("%Y-%m-%dT%H:%M:%SZ")
     connection = http.client.HTTPConnection("127.0.0.1", port, timeout=60)
     connection.request("GET" if body is None else "POST", path, body and json.dumps(body), {"X-Person": person, "X-Moment": moment})
     answer = connection.getresponse()
