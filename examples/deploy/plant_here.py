@@ -198,9 +198,9 @@ class Client(threading.Thread):
         said = self.try_once(self.ann, f"alarms/AL-0000/{path}", body)
         if said is self.confirmed:
             self.shelf, self.turn = words, 1 - self.turn
-        elif said is self.refused:
-            said.append(words)
         else:
+            said.append(words)
+        if said is self.ended or said is self.unsure:
             self.settle(words)
         return said
 
