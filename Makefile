@@ -1,4 +1,4 @@
-.PHONY: run build test conform
+.PHONY: run build deb check test conform
 
 # Runs the example's requests, shows the answers and compares them with the expected ones. Nothing is proved first.
 run:
@@ -7,6 +7,20 @@ run:
 # Proves the program, crates side by side, and leaves it at out/shelfoffice.
 build:
 	scripts/build
+
+# The Debian package of the program that `make build` left: out/shelfoffice_VERSION_amd64.deb. Needs debhelper.
+deb:
+	packaging/build
+
+# In some three minutes all that tests the program that `make build` left; nothing is proved.
+check:
+	scripts/check-schema
+	scripts/list-worked
+	scripts/check-pages
+	scripts/check-openapi
+	scripts/try-commands out/shelfoffice
+	scripts/type-docs
+	scripts/conform --seed 1 out/shelfoffice
 
 # The gate: the schema in examples/, the lists in docs/WORKED.md and what the pages name, then every proof, the must-fail edits, the tests,
 # and the programs, and the proved program on the commands and the worked examples. A toolchain that has rt ci --anew does not do again

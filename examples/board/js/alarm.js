@@ -2,9 +2,10 @@
 
 import {getUnless} from "./asking.js";
 import {$, makeFacts, makeLink, put, say, showFact} from "./elements.js";
-import {addressOf, here} from "./here.js";
+import {addressOf, here, isShut} from "./here.js";
 import {atRest, makeMark, makeShelf, makeState} from "./marks.js";
 import {sinceText} from "./alarms.js";
+import {askRemovals, serviceText} from "./service.js";
 import {isTag, plainMoment, secondsText, TAG_WANTED} from "./texts.js";
 
 const mark = makeMark();
@@ -27,11 +28,14 @@ const decided = new Map(); // changes that were approved, by unit and number: th
 
 export async function askAlarm() {
     const {unit, tag} = here;
-    if (unit === null || tag === null || !isTag(tag)) {
+    if (isShut() || tag === null || !isTag(tag)) {
         return null;
     }
     const path = `/units/${unit}/alarms/${tag}`;
     const alarm = await getUnless("AlarmUnknown", path);
+    if (alarm?.out_of_service) {
+        await askRemovals();
+    }
     const held = alarm && (await getUnless("RecordUnknown", `${path}/record`));
     let change = null;
     if (held) {
@@ -87,7 +91,7 @@ function showNow(alarm, listed) {
     } else {
         say(now.Shelf, alarm.shelf === "Unshelved" ? "not shelved" : `shelved (${alarm.shelf})`);
     }
-    say(now.Service, alarm.out_of_service ? "out of service" : "in service");
+    say(now.Service, alarm.out_of_service ? serviceText(here.unit, alarm.tag) : "in service");
     say(now.Suppression, alarm.suppressed ? "suppressed by design" : "not suppressed by design");
     const holding = [[now.Shelf, alarm.shelf !== "Unshelved"], [now.Service, alarm.out_of_service], [now.Suppression, alarm.suppressed]];
     holding.forEach(([value, holds]) => put(value, "class", holds ? "holds" : ""));

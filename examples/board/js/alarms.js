@@ -1,10 +1,13 @@
 // The alarms of the unit, the standing ones, and the strip that counts those that ask for attention.
 
 import {$, fill, make, makeLink, put, say} from "./elements.js";
-import {addressOf, here} from "./here.js";
+import {addressOf, here, isShut} from "./here.js";
 import {ALARM_COLUMNS, SHELF_COLUMNS, STANDING_COLUMNS, askList} from "./lists.js";
 import {asksForAttention, atRest, isSuppressed, isUnacknowledged, makeFlags, makeMark, makeShelf, makeState} from "./marks.js";
-import {FLAGS, minuteText, plainMoment, spanText} from "./texts.js";
+import {isOnPaper} from "./looks.js";
+import {announce} from "./news.js";
+import {forgetRemovals} from "./service.js";
+import {FLAGS, minuteText, plainMoment, lengthText} from "./texts.js";
 import {momentNow} from "./time.js";
 
 const DAY = 86400000;
@@ -12,7 +15,7 @@ const DAY = 86400000;
 // ---- Asking
 
 export async function askAlarms() {
-    if (here.unit === null) {
+    if (isShut() || here.view === "several") {
         return null;
     }
     const unit = here.unit;
@@ -22,9 +25,12 @@ export async function askAlarms() {
     const standing = await list("standing", "STANDING", STANDING_COLUMNS);
     return () => {
         const shelfOf = new Map(shelves.rows.map((shelf) => [shelf.tag, {...shelf, end: shelves.at + Number(shelf.left) * 1000}]));
+        const before = here.alarms;
         here.alarms = new Map(listed.rows.map((alarm) => [alarm.tag, {...alarm, shelf: shelfOf.get(alarm.tag) ?? null}]));
+        forgetRemovals(unit, here.alarms);
         here.standing = new Map(standing.rows.map((alarm) => [alarm.tag, alarm.since]));
         here.answeredAt = standing.at;
+        announce(before, here.alarms);
         showAlarms();
         showStanding(standing.rows);
         showStrip();
@@ -71,7 +77,7 @@ const alarmList = {
             mark.show(alarm);
             state.show(alarm);
             flags.show(alarm);
-            say(limit, spanText(Number(alarm.limit) * 1000));
+            say(limit, lengthText(Number(alarm.limit)));
             second.hidden = alarm.shelf === null;
             if (alarm.shelf) {
                 shelf.show(alarm.shelf);
@@ -86,7 +92,8 @@ const alarmList = {
 
 function isWanted(alarm) {
     const wanted = {all: true, abnormal: alarm.state !== "Normal", suppressed: isSuppressed(alarm)};
-    return alarm.tag.toUpperCase().includes($("find").value.trim().toUpperCase()) && wanted[$("show").value];
+    const isFound = alarm.tag.toUpperCase().includes($("find").value.trim().toUpperCase());
+    return isOnPaper() || (isFound && wanted[$("show").value]);
 }
 
 export function showAlarms() {
@@ -150,12 +157,14 @@ const stripParts = ["P1", "P2", "P3", "P4", "-"].map((priority) => {
     return {priority, mark, count, unseen};
 });
 
-function showStrip() {
-    const asking = [...here.alarms.values()].filter(asksForAttention);
+const URGENCY = ["Unacknowledged", "LatchedUnack", "ReturnedUnack", "Acknowledged"];
+export const mostUrgent = (alarms) => URGENCY.map((state) => alarms.find((alarm) => alarm.state === state)).find(Boolean) ?? alarms[0];
+
+export function showStrip(alarms = [...here.alarms.values()]) {
+    const asking = alarms.filter(asksForAttention);
     for (const {priority, mark, count, unseen} of stripParts) {
         const own = asking.filter((alarm) => (priority === "-" ? !/^P[1-4]$/.test(alarm.priority) : alarm.priority === priority));
-        const order = ["Unacknowledged", "LatchedUnack", "ReturnedUnack", "Acknowledged"];
-        const first = order.map((state) => own.find((alarm) => alarm.state === state)).find(Boolean) ?? own[0];
+        const first = mostUrgent(own);
         mark.show(first ? {...first, priority} : atRest(priority));
         say(count, String(own.length));
         put(count, "class", own.length > 0 ? "" : "none");

@@ -3,6 +3,7 @@
 import {CAUSES, FAULTS, PROXY, REFUSALS} from "./texts.js";
 
 const PATIENCE = 20000; // milliseconds that an answer is waited for
+const LONGER = 120000; // while another window has the keyboard, as that in which the browser asks for a password
 
 // Anything but the wanted answer: `words` say what it is, `name` is the office's own name of it.
 export class Trouble extends Error {
@@ -40,13 +41,13 @@ function troubleOf(status, text) {
 
 let lastRequest = Promise.resolve();
 
-export function ask(method, path, body) {
-    const answer = lastRequest.then(() => send(method, path, body));
+export function ask(method, path, body, patience) {
+    const answer = lastRequest.then(() => send(method, path, body, patience));
     lastRequest = answer.catch(() => {});
     return answer;
 }
 
-export const get = async (path) => JSON.parse(await ask("GET", path));
+export const get = async (path, patience) => JSON.parse(await ask("GET", path, undefined, patience));
 
 // What is answered to a question, or null if the office refuses it by this name.
 export async function getUnless(name, path) {
@@ -60,9 +61,27 @@ export async function getUnless(name, path) {
     }
 }
 
-async function send(method, path, body) {
+let pending = null; // the request that is under way
+
+export const waitingSeconds = () => (pending === null ? 0 : (performance.now() - pending.begun) / 1000);
+
+// Gives up a question that is under way. A call that changes something is waited for.
+export function askAnew() {
+    if (pending?.method === "GET") {
+        pending.stop.abort();
+    }
+}
+
+async function send(method, path, body, patience = PATIENCE) {
     const stop = new AbortController();
-    const timer = setTimeout(() => stop.abort(), PATIENCE);
+    const begun = performance.now();
+    const timer = setInterval(() => {
+        const waited = performance.now() - begun;
+        if (waited >= LONGER || (waited >= patience && (document.hasFocus() || patience < PATIENCE))) {
+            stop.abort();
+        }
+    }, 1000);
+    pending = {method, begun, stop};
     let status;
     let text;
     try {
@@ -71,9 +90,10 @@ async function send(method, path, body) {
         status = answer.status;
         text = await answer.text();
     } catch {
-        throw new Trouble(stop.signal.aborted ? "No answer for 20 seconds." : "No connection to the proxy.", "", {lost: true});
+        throw new Trouble(stop.signal.aborted ? "No answer came in time." : "No connection to the proxy.", "", {lost: true});
     } finally {
-        clearTimeout(timer);
+        clearInterval(timer);
+        pending = null;
     }
     if (status !== 200) {
         throw troubleOf(status, text);

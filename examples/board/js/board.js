@@ -1,51 +1,30 @@
-// The alarm board; README.md says what it is. What is shown follows the address, and the keys are here.
+// The alarm board; README.md says what it is. What is shown follows the address.
 
 import {changeAlarm, askAlarm} from "./alarm.js";
 import {askAlarms, focusAlarm, forgetAlarms, showAlarms} from "./alarms.js";
-import {get} from "./asking.js";
-import {askChanges, forgetChanges} from "./changes.js";
+import {askInForce} from "./change.js";
+import {askChanges, forgetChanges, lookOn} from "./changes.js";
 import {$, make, put, say} from "./elements.js";
 import {askFloods, forgetFloods} from "./floods.js";
-import {VIEWS, addressOf, here, maySee, readAddress, rolesHeld} from "./here.js";
+import "./focus.js";
+import {VIEWS, addressOf, here, keeps, maySee, readAddress, rolesHeld} from "./here.js";
 import {forgetFile, showImport} from "./import.js";
-import {openLegend} from "./legend.js";
-import {MINE_COLUMNS, askList} from "./lists.js";
+import "./keys.js";
+import {whilePrinting} from "./looks.js";
 import {runAllDown} from "./marks.js";
 import {forgetMatrix, showMatrix} from "./matrix.js";
-import {askInForce, focusChange, forgetProposals, showChanges} from "./proposals.js";
-import "./record.js";
+import {focusChange, forgetProposals, showChanges} from "./proposals.js";
+import {lookAtRecords} from "./pricing.js";
+import {showPrice} from "./record.js";
 import "./register.js";
 import {forgetRoles} from "./roles.js";
-import {askNow, askOn, eachRound, outOfDate, secondsToNext} from "./rounds.js";
+import {askNow, askOn, eachRound, outOfDate} from "./rounds.js";
+import {askSeveral, forgetSeveral, showSeveral} from "./several.js";
 import {clockText, dateText} from "./texts.js";
 import {momentNow} from "./time.js";
+import {sayNotice, showTrouble, showWaiting} from "./trouble.js";
+import {askUnits, showUnits} from "./units.js";
 import {showUntil} from "./work.js";
-
-const SELDOM = 60000; // milliseconds; the caller's units and name are asked for once in this time
-let unitsAsked = -Infinity;
-
-// ---- The caller and the units
-
-async function askUnits() {
-    if (!here.isUnitsDue && performance.now() - unitsAsked < SELDOM) {
-        return null;
-    }
-    const person = (await askList("/shelves", "MINE", MINE_COLUMNS)).whose;
-    const {units} = await get("/units");
-    unitsAsked = performance.now();
-    Object.assign(here, {person, units, isUnitsDue: false});
-    showUnits();
-    return null;
-}
-
-function showUnits() {
-    const codes = here.units.map((held) => held.unit);
-    if ([...$("unit").options].map((option) => option.value).join() !== codes.join()) {
-        $("unit").replaceChildren(...codes.map((code) => new Option(code, code)));
-        $("unit").value = here.unit ?? "";
-    }
-    follow();
-}
 
 // ---- The address
 
@@ -56,17 +35,40 @@ const SECTIONS = {
     register: ["register"],
     import: ["import"],
     roles: ["roles"],
+    several: ["several", "several-standing", "several-shelved"],
 };
 
-// Shows what the address names, as far as the caller may see it.
+// The roles that have ended in the unit that is shown, while its page stays: what is typed is kept.
+function keepRoles(rolesBefore) {
+    const ended = rolesBefore.filter((role) => !rolesHeld().includes(role));
+    const kept = [...here.kept].filter((role) => !rolesHeld().includes(role));
+    here.kept = new Set([...kept, ...ended]);
+    if (ended.length > 0) {
+        const what = here.hasEnded ? "any role" : `the role ${ended.join(", ")}`;
+        sayNotice(`You no longer hold ${what} in ${here.unit}. What you typed stays here, but the office will refuse it. `
+            + "A steward of the unit may grant it again.");
+    } else if (kept.length === 0 && !$("notice").hidden && $("notice").dataset.of === "roles") {
+        sayNotice("");
+    }
+    $("notice").dataset.of = here.kept.size > 0 ? "roles" : "";
+}
+
+// Shows what the address names, as far as the caller may see it. Of the unit that is shown already the page stays, also without a role.
 function follow() {
     const address = readAddress(location.hash);
+    here.isUnitsDue ||= address.offices.join() !== here.offices.join();
+    here.offices = address.offices;
     const codes = here.units.map((held) => held.unit);
+    if (address.view === "several") {
+        address.unit = codes.includes(here.unit) ? here.unit : codes[0] ?? "";
+    }
     const {unit: unitBefore, view: viewBefore, tag: tagBefore, number: numberBefore} = here;
-    const unit = codes.includes(address.unit) ? address.unit : codes[0] ?? null;
+    const stays = unitBefore !== null && (unitBefore === address.unit || codes.length === 0);
+    const unit = codes.includes(address.unit) ? address.unit : stays ? unitBefore : codes[0] ?? null;
     here.unit = unit;
+    here.hasEnded = unit !== null && !codes.includes(unit);
     const isElsewhere = unit !== address.unit;
-    const view = isElsewhere || !maySee(address.view) ? "alarms" : address.view;
+    const view = isElsewhere || !maySee(address.view, keeps) ? "alarms" : address.view;
     const tag = isElsewhere ? null : address.tag;
     Object.assign(here, {view, tag, number: view === address.view ? address.number : null});
     if (unit !== null && (isElsewhere || view !== address.view)) {
@@ -75,10 +77,16 @@ function follow() {
             : isElsewhere ? "" : `You do not hold the role ${VIEWS.get(address.view)} in ${unit}.`);
         history.replaceState(null, "", addressOf(unit));
     }
+    const severalBefore = here.several.join();
+    here.several = view !== "several" ? [] : address.units.length > 0 ? address.units : codes;
+    if (here.several.join() !== severalBefore) {
+        forgetSeveral();
+        outOfDate();
+    }
     if (unit !== unitBefore) {
         [forgetAlarms, forgetFloods, forgetProposals, forgetMatrix, forgetFile, forgetRoles].forEach((forget) => forget());
-        $("unit").value = unit ?? "";
     }
+    showUnits();
     if (tag !== tagBefore || unit !== unitBefore) {
         changeAlarm();
     }
@@ -103,14 +111,22 @@ function showWhere() {
     $("floods").hidden = $("standing-panel").hidden = unit === null || view !== "alarms" || tag !== null;
     $("alarm").hidden = unit === null || tag === null;
     document.querySelectorAll("#views a").forEach((link) => {
-        link.hidden = unit === null || !maySee(link.dataset.view);
+        if (link.dataset.view === "several") {
+            link.hidden = here.units.length < 2;
+            link.href = addressOf(`units=${here.units.map((held) => held.unit).join()}`);
+            put(link, "aria-current", view === "several" ? "page" : null);
+            return;
+        }
+        link.hidden = unit === null || !maySee(link.dataset.view, link.dataset.view === view ? keeps : undefined);
         link.href = link.dataset.view === "alarms" ? addressOf(unit) : addressOf(unit, link.dataset.view);
         put(link, "aria-current", link.dataset.view === view ? "page" : null);
     });
-    const roles = unit === null ? "no role in any unit at this moment" : rolesHeld().join(", ");
+    const roles = unit === null ? "no role in any unit at this moment" : rolesHeld().join(", ") || "no role in this unit any more";
     say($("person"), here.person === "" ? "" : `${here.person}: ${roles}`);
+    here.isComparing = false;
     showTitle();
     showAlarms();
+    showSeveral();
     showChanges();
     showMatrix();
     showImport();
@@ -119,7 +135,7 @@ function showWhere() {
 function showTitle() {
     const {unit, view, tag, standing} = here;
     const what = tag ?? (view === "alarms" ? `${standing.size} standing` : view);
-    document.title = unit === null ? "Alarm board" : `${unit}: ${what}`;
+    document.title = unit === null ? "Alarm board" : view === "several" ? `${here.several.join(", ")}` : `${unit}: ${what}`;
 }
 
 // the keyboard goes on where the eyes do
@@ -142,25 +158,20 @@ function moveFocus(unitBefore, viewBefore, tagBefore, numberBefore) {
 
 const focusContent = () => $(SECTIONS[here.view][0]).querySelector("h2").focus();
 
-function sayNotice(text) {
-    say($("notice-words"), text);
-    $("notice").hidden = text === "";
-}
-
-// ---- What goes wrong
-
-function showTrouble(words) {
-    $("trouble").hidden = words === null;
-    document.body.classList.toggle("stale", words !== null);
-    if (words !== null) {
-        here.isUnitsDue = true;
-        const old = here.answeredAt === null ? "" : ` The lists are those of ${clockText(here.answeredAt)}.`;
-        say($("trouble-words"), words + old);
-        say($("trouble-next"), "");
+// After the units were answered.
+let rolesBefore = [];
+function showHeld() {
+    const {unit} = here;
+    follow();
+    if (here.unit === unit) {
+        keepRoles(rolesBefore);
+        showWhere();
     }
+    rolesBefore = rolesHeld();
+    here.isUnitsDue ||= here.hasEnded;
 }
 
-// ---- Each second, and the keys
+// ---- Each second
 
 function tick() {
     const now = momentNow();
@@ -173,44 +184,25 @@ function tick() {
         runAllDown();
         showUntil();
     }
-    if (!$("trouble").hidden) {
-        const wait = secondsToNext();
-        say($("trouble-next"), wait > 0 ? `Asking again in ${wait} s.` : "Asking …");
-    }
+    showWaiting();
 }
 
 // all that blinks, blinks at once: once a second
 const blink = () => document.body.classList.toggle("dark-phase");
 
-document.addEventListener("keydown", (event) => {
-    const isTyping = event.target.matches("input, select, textarea");
-    if ($("legend").open || event.ctrlKey || event.metaKey || event.altKey) {
-        return;
-    }
-    if (event.key === "Escape" && here.tag !== null && event.target.id !== "find") {
-        location.hash = addressOf(here.unit);
-    } else if (event.key === "Escape" && here.number !== null) {
-        location.hash = addressOf(here.unit, "changes");
-    } else if (event.key === "/" && !isTyping && here.view === "alarms") {
-        $("find").focus();
-        event.preventDefault();
-    } else if (event.key === "?" && !isTyping) {
-        openLegend();
-        event.preventDefault();
-    }
-});
 $("skip").addEventListener("click", (event) => {
     event.preventDefault();
     focusContent();
 });
-$("again").addEventListener("click", askNow);
-$("notice-close").addEventListener("click", () => sayNotice(""));
 $("unit").addEventListener("change", () => {
-    location.hash = here.view === "alarms" ? addressOf($("unit").value) : addressOf($("unit").value, here.view);
+    const isPlain = ["alarms", "several"].includes(here.view);
+    location.hash = isPlain ? addressOf($("unit").value) : addressOf($("unit").value, here.view);
 });
 addEventListener("hashchange", () => {
     sayNotice("");
+    here.kept.clear();
     follow();
+    rolesBefore = rolesHeld();
 });
 document.addEventListener("visibilitychange", () => {
     if (!document.hidden) {
@@ -218,11 +210,22 @@ document.addEventListener("visibilitychange", () => {
     }
 });
 
-[askUnits, askAlarms, askFloods, askAlarm, askChanges, askInForce].forEach(eachRound);
+[() => askUnits(showHeld), askAlarms, askSeveral, askFloods, askAlarm, askChanges, askInForce].forEach(eachRound);
+whilePrinting(() => {
+    showAlarms();
+    showChanges();
+});
+const showSeen = () => {
+    showChanges();
+    showMatrix();
+    showPrice();
+};
 eachRound(async () => () => {
     showTitle();
-    showMatrix();
+    showSeen();
     showImport();
+    lookOn(showSeen);
+    lookAtRecords(showSeen);
 });
 showWhere();
 setInterval(tick, 250);

@@ -1,30 +1,26 @@
-// The unit's changes. The office lists none, so they are asked for by number: the last number by doubling and halving, then the last
-// twenty, and more on demand.
+// The unit's changes. The office lists none, so they are asked for by number: the last number by doubling and halving, the last twenty,
+// and then, while the page is idle, all others, the newest first or, if the list begins with the oldest, the oldest first.
 
 import {getUnless} from "./asking.js";
-import {$, say} from "./elements.js";
-import {here} from "./here.js";
+import {here, isShut} from "./here.js";
+import {makeIdle} from "./idle.js";
 import {plainMoment} from "./texts.js";
 
-const PAGE = 20; // how many are asked for at once
-const SELDOM = 60000; // milliseconds; proposals that wait are asked for anew in this time
+const PAGE = 20; // how many are asked for before they are shown
+const SOON = 8000; // milliseconds after which matrices that wait are asked for anew
+const SELDOM = 60000; // milliseconds after which those that wait are asked for anew, if they are on the page
+const SELDOMER = 300000; // and all others
 
 const stores = new Map(); // by unit
 
 export function storeOf(unit) {
     if (!stores.has(unit)) {
-        stores.set(unit, {known: new Map(), last: 0, wanted: PAGE, asked: -Infinity, forgotten: -Infinity});
+        stores.set(unit, {known: new Map(), askedAt: new Map(), last: 0, isCounted: false, forgotten: -Infinity, isOldestFirst: false});
     }
     return stores.get(unit);
 }
 
-export const lowestWanted = (store) => Math.max(1, store.last - store.wanted + 1);
-
-export function wantMore(unit) {
-    storeOf(unit).wanted += PAGE;
-}
-
-// Those that wait are asked for anew in the next round, also if one is under way.
+// Those that wait and are on the page are asked for anew in the next round, also if one is under way.
 export function forgetChanges() {
     stores.forEach((store) => {
         store.forgotten = performance.now();
@@ -32,9 +28,12 @@ export function forgetChanges() {
 }
 
 async function askChange(unit, number) {
+    const store = storeOf(unit);
+    const begun = performance.now();
     const change = await getUnless("ChangeUnknown", `/units/${unit}/changes/${number}`);
     if (change) {
-        storeOf(unit).known.set(number, change);
+        store.known.set(number, change);
+        store.askedAt.set(number, begun);
     }
     return change;
 }
@@ -56,44 +55,74 @@ async function findLast(unit) {
             none = middle;
         }
     }
+    store.isCounted = true;
     return store.last;
 }
 
-// One part of a round, in the views that show changes.
+const isOld = (store, number, age, forgotten = store.forgotten) => {
+    const asked = store.askedAt.get(number);
+    return store.known.get(number).state === "Proposed" && (performance.now() - asked >= age || forgotten >= asked);
+};
+
+// Whether changes are looked at: in their views, and where an engineer has a record in hand.
+const areWanted = () => !isShut() && (["changes", "matrix"].includes(here.view) || here.isPricing);
+
+let onPage = []; // the numbers that are on the page
+export const setOnPage = (numbers) => {
+    onPage = numbers;
+};
+
+// One part of a round.
 export async function askChanges() {
-    const {unit, view, number} = here;
-    if (unit === null || !["changes", "matrix"].includes(view)) {
+    const {unit, number} = here;
+    if (!areWanted()) {
         return null;
     }
     const store = storeOf(unit);
-    const begun = performance.now();
-    const isDue = begun - store.asked >= SELDOM || store.forgotten >= store.asked;
-    if (store.known.size === 0) {
-        say($("changes-note"), "Asking for the changes…");
-    }
     await findLast(unit);
-    for (let each = store.last; each >= lowestWanted(store); each -= 1) {
-        if (here.unit !== unit || here.view !== view) {
+    const newest = [...Array(Math.min(PAGE, store.last)).keys()].map((back) => store.last - back);
+    const matrices = [...store.known.values()].filter((change) => change.kind === "matrix").map((change) => change.number);
+    const due = [
+        ...onPage.filter((each) => store.known.has(each) && isOld(store, each, SELDOM)),
+        ...matrices.filter((each) => isOld(store, each, SOON)), // the priorities come of them
+    ];
+    for (const each of new Set([...newest.filter((every) => !store.known.has(every)), ...due])) {
+        if (here.unit !== unit || !areWanted()) {
             return null;
         }
-        const change = store.known.get(each);
-        if (!change || (change.state === "Proposed" && (isDue || each === number))) {
-            await askChange(unit, each);
-        }
+        await askChange(unit, each);
     }
-    if (number !== null && (store.known.get(number)?.state ?? "Proposed") === "Proposed" && number < lowestWanted(store)) {
+    if (number !== null && number <= store.last && (store.known.get(number)?.state ?? "Proposed") === "Proposed") {
         await askChange(unit, number);
-    }
-    if (isDue) {
-        store.asked = begun;
     }
     return null;
 }
 
-// The matrix in force, as far as the changes that are known say: null if older ones would have to be asked for. One that the unit was
+// ---- All others, while the page is idle
+
+function* stillToSee(store) {
+    for (let step = 0; step < store.last; step += 1) {
+        const number = store.isOldestFirst ? step + 1 : store.last - step;
+        if (!store.known.has(number) || isOld(store, number, SELDOMER, -Infinity)) {
+            yield number;
+        }
+    }
+}
+
+export const lookOn = makeIdle({
+    isWanted: areWanted,
+    missing: (unit) => stillToSee(storeOf(unit)),
+    ask: askChange,
+    orderOf: (unit) => storeOf(unit).isOldestFirst,
+});
+
+// The matrix in force, as far as the changes that were seen say: null while older ones have to be looked at. One that the unit was
 // opened with has revision 0, and no call gives its cells.
 export function matrixInForce(unit) {
-    const {known, last} = storeOf(unit);
+    const {known, last, isCounted} = storeOf(unit);
+    if (!isCounted) {
+        return null;
+    }
     for (let number = last; number >= 1; number -= 1) {
         const change = known.get(number);
         if (!change) {

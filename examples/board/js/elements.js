@@ -35,10 +35,14 @@ export function put(node, name, value) {
 // A list of rows that are kept and filled anew, so that the keyboard's place is kept too. `list` has the place, how many children
 // come before the rows, a map of the rows by key, and what makes one.
 export function fill(list, items, keyOf = (item) => item.tag) {
-    const focused = document.activeElement;
+    let focused = document.activeElement;
     const keys = new Set(items.map(keyOf));
     for (const [key, row] of list.rows) {
         if (!keys.has(key)) {
+            if (row.node.contains(focused)) {
+                const beside = row.node.nextElementSibling ?? row.node.previousElementSibling;
+                focused = beside?.querySelector("a") ?? focused; // the line after it, else the one before
+            }
             row.node.remove();
             list.rows.delete(key);
         }

@@ -1,7 +1,7 @@
 // The floods of the last 24 hours, asked for once a minute.
 
 import {$, make, say} from "./elements.js";
-import {here} from "./here.js";
+import {here, isShut} from "./here.js";
 import {FLOOD_COLUMNS, askList} from "./lists.js";
 import {minuteText, momentText} from "./texts.js";
 import {momentNow} from "./time.js";
@@ -14,7 +14,7 @@ const BEGINS = 10; // a flood begins with more activations than these in a perio
 let asked = -Infinity;
 
 export async function askFloods() {
-    if (here.unit === null || here.view !== "alarms" || here.tag !== null || performance.now() - asked < SELDOM) {
+    if (isShut() || here.view !== "alarms" || here.tag !== null || performance.now() - asked < SELDOM) {
         return null;
     }
     const until = Math.ceil((momentNow() + 1) / PERIOD) * PERIOD;
@@ -42,8 +42,9 @@ function showFloods(floods, end) {
     line.style.bottom = `${(100 * BEGINS) / top}%`;
     parts.push(line);
     for (let hour = Math.ceil(begin / 7200000) * 7200000; hour <= end; hour += 7200000) {
-        // every second of them is enough on a narrow page
-        const tick = make("div", (hour / 7200000) % 2 === 0 ? "tick" : "tick odd", make("span", "", minuteText(hour)));
+        // every second of them is enough on a narrow page, and every fourth on a narrower one
+        const kind = (hour / 7200000) % 2 === 1 ? "tick odd" : (hour / 14400000) % 2 === 0 ? "tick" : "tick even";
+        const tick = make("div", kind, make("span", "", minuteText(hour)));
         tick.style.left = place(hour);
         parts.push(tick);
     }

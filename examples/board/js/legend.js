@@ -53,3 +53,8 @@ export function openLegend() {
 build();
 $("open-legend").addEventListener("click", openLegend);
 $("close-legend").addEventListener("click", () => $("legend").close());
+$("legend").addEventListener("close", () => {
+    if (document.activeElement === document.body) {
+        $("open-legend").focus(); // the legend was opened while nothing had the keyboard
+    }
+});

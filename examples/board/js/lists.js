@@ -22,8 +22,8 @@ function rowOf(line, columns) {
 }
 
 // The rows, the moment of the answer, and whose list it is.
-export async function askList(path, what, columns, unit) {
-    const text = await ask("GET", path);
+export async function askList(path, what, columns, unit, patience) {
+    const text = await ask("GET", path, undefined, patience);
     const found = HEADING.exec(text);
     const rows = text.split("\n").slice(1, -1).map((line) => rowOf(line, columns));
     if (found === null || found[1] !== what || (unit && found[2] !== unit) || rows.length !== Number(found[4])) {

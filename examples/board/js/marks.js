@@ -1,7 +1,7 @@
 // The mark of an alarm, its flags, its state, its shelf: what several views show of one alarm.
 
 import {make, put, say} from "./elements.js";
-import {FLAGS, STATES, spanText} from "./texts.js";
+import {FLAGS, STATES, leftText} from "./texts.js";
 import {momentNow} from "./time.js";
 
 // A shape for each priority, grey at rest, coloured while the alarm asks for attention, hollow if it has returned.
@@ -100,7 +100,7 @@ export function makeShelf() {
 }
 
 function runDown(left) {
-    say(left, spanText(Number(left.dataset.end) - momentNow()));
+    say(left, leftText((Number(left.dataset.end) - momentNow()) / 1000));
 }
 
 export const runAllDown = () => document.querySelectorAll(".left[data-end]").forEach(runDown);

@@ -1,78 +1,27 @@
-// The matrix of priorities as a grid: to look at in a change, and to draw up anew. A cell for each severity and time to respond; more
-// severity or less time must not lead to a lower priority, and where the order is broken it shows before anything is sent.
+// A matrix of priorities is drawn up anew. Where its order is broken it shows before anything is sent.
 
 import {act} from "./acting.js";
 import {$, areRight, make, put, say, sayAnswer} from "./elements.js";
-import {forgetChanges, lowestWanted, matrixInForce, standsOfProposal, storeOf, wantMore} from "./changes.js";
-import {here, holds} from "./here.js";
+import {forgetChanges, matrixInForce, standsOfProposal, storeOf} from "./changes.js";
+import {CELLS, brokenPairs, timesText} from "./grid.js";
+import {here, keeps} from "./here.js";
 import {atRest, makeMark} from "./marks.js";
-import {outOfDate} from "./rounds.js";
-import {numberOf, spanText} from "./texts.js";
+import {compareRecords, makeComparedList} from "./pricing.js";
+import {LENGTH_WANTED, lengthText, secondsOf} from "./texts.js";
 
-const CELLS = ["P1", "P2", "P3", "P4", "N"]; // the highest first
 const MOST_SEVERITIES = 5;
 const MOST_BANDS = 4;
-const height = (cell) => CELLS.length - CELLS.indexOf(cell);
-
-// The times of a column in words, from its bands in seconds.
-function timesText(bands, column) {
-    const [from, until] = [bands[column - 1], bands[column]].map((band) => band && spanText(band * 1000));
-    if (!from && !until) {
-        return "any time";
-    }
-    return from ? (until ? `${from} to under ${until}` : `${from} and more`) : `under ${until}`;
-}
-
-// ---- To look at
-
-export function makeGrid({bands, cells}, before) {
-    const heads = [...cells[0].keys()].map((column) => {
-        const head = make("th", "", timesText(bands, column));
-        head.scope = "col";
-        return head;
-    });
-    const isSameShape = before && JSON.stringify(before.bands) === JSON.stringify(bands) && before.cells.length === cells.length;
-    const rows = [...cells.keys()].reverse().map((row) => {
-        const name = make("th", "", make("span", "word", "Severity "), String(row + 1));
-        name.scope = "row";
-        return make("tr", "", name, ...cells[row].map((cell, column) => {
-            const mark = makeMark();
-            mark.show(atRest(cell));
-            const was = isSameShape ? before.cells[row][column] : cell;
-            return make("td", was === cell ? "" : "differs", mark.node, was === cell ? "" : make("span", "was", `was ${was}`));
-        }));
-    });
-    const head = make("tr", "", make("td", "", make("span", "word", "Time to respond")), ...heads);
-    return make("table", "grid", make("thead", "", head), make("tbody", "", ...rows));
-}
-
-// ---- Where an order is broken
-
-// The pairs of cells, and what is said of each: [[row, column], [row, column], words].
-function brokenPairs(cells) {
-    const pairs = [];
-    cells.forEach((row, severity) => row.forEach((cell, column) => {
-        if (column + 1 < row.length && height(row[column + 1]) > height(cell)) {
-            const words = `Severity ${severity + 1}: ${row[column + 1]} with more time is above ${cell} with less.`;
-            pairs.push([[severity, column], [severity, column + 1], words]);
-        }
-        if (severity + 1 < cells.length && height(cells[severity + 1][column]) < height(cell)) {
-            const above = cells[severity + 1][column];
-            const words = `Severity ${severity + 2} has ${above}, below ${cell} of severity ${severity + 1} in the same column.`;
-            pairs.push([[severity, column], [severity + 1, column], words]);
-        }
-    }));
-    return pairs;
-}
 
 // ---- To draw up
 
 const form = $("matrix");
-const draft = {bands: ["300"], cells: [["P3", "P4"], ["P1", "P2"]]}; // the bands as they were typed
+const draft = {bands: ["5 min"], cells: [["P3", "P4"], ["P1", "P2"]]}; // the bands as they were typed
 let filledFor = null; // the unit and the revision that the draft was filled for
 let isTouched = false;
+let isWhole = false; // whether the draft's order is broken nowhere
+let comparedAs = ""; // what the list of records was built of
 
-const bandsOf = () => draft.bands.map((band) => numberOf(band));
+const bandsOf = () => draft.bands.map((band) => secondsOf(band));
 const fieldOf = (row, column) => form.querySelector(`[data-cell="${row} ${column}"]`);
 
 function makeCell(row, column) {
@@ -96,16 +45,15 @@ function makeHead(column) {
     head.scope = "col";
     if (column < draft.bands.length) {
         const field = make("input", "band");
-        field.inputMode = "numeric";
         field.autocomplete = "off";
         field.value = draft.bands[column];
-        put(field, "aria-label", `End of time ${column + 1} in seconds`);
+        put(field, "aria-label", `End of time ${column + 1}`);
         field.addEventListener("input", () => {
             draft.bands[column] = field.value;
             isTouched = true;
             check();
         });
-        head.append(field, make("span", "word", " s"));
+        head.append(field);
     }
     return head;
 }
@@ -139,7 +87,7 @@ function check() {
         put(field, "aria-invalid", isRight ? null : "true");
         if (!isRight) {
             words.push(bands[column] === null
-                ? `Time ${column + 1} has to end with a whole number of seconds, 1 to 604800.`
+                ? `The end of time ${column + 1} has to be ${LENGTH_WANTED}.`
                 : `Time ${column + 1} has to end later than time ${column}.`);
         }
     });
@@ -156,9 +104,21 @@ function check() {
         put(select.parentElement, "class", isBroken ? "broken" : "");
     });
     words.push(...pairs.map((pair) => pair[2]));
-    $("broken").hidden = words.length === 0;
+    isWhole = words.length === 0;
+    showCompared();
+    $("broken").hidden = isWhole;
     $("broken-lines").replaceChildren(...words.map((line) => make("li", "", line)));
-    return words.length === 0;
+    return isWhole;
+}
+
+// Which records in force get another priority by the draft. While the matrix of the opening is entered, it should be none.
+function showCompared() {
+    const compared = isWhole && here.unit !== null ? compareRecords(here.unit, {bands: bandsOf(), cells: draft.cells}) : null;
+    const built = JSON.stringify([here.unit, compared]);
+    if (built !== comparedAs) {
+        comparedAs = built;
+        $("draft-compared").replaceChildren(compared ? makeComparedList(here.unit, compared, true) : "");
+    }
 }
 
 // From the matrix in force, unless something was drawn up already.
@@ -166,16 +126,16 @@ export function showMatrix() {
     if (here.view !== "matrix" || here.unit === null) {
         return;
     }
-    const store = storeOf(here.unit);
-    const {last, asked} = store;
-    const inForce = asked === -Infinity ? undefined : matrixInForce(here.unit);
-    $("older").hidden = inForce !== null;
-    if (inForce === undefined) {
-        say($("matrix-note"), "Looking for the matrix in force…");
-    } else if (inForce === null) {
-        say($("matrix-note"), `No matrix was approved among the changes ${lowestWanted(store)} to ${last}.`);
+    here.isComparing = true;
+    const {last, known, isCounted} = storeOf(here.unit);
+    const inForce = matrixInForce(here.unit);
+    if (inForce === null) {
+        say($("matrix-note"), isCounted
+            ? `Looking for the matrix in force: none was approved among the ${known.size} of ${last} changes that were looked at.`
+            : "Looking for the matrix in force…");
     } else if (inForce.content === null) {
-        say($("matrix-note"), "In force is the matrix that the unit was opened with, revision 0. The office does not give its cells.");
+        say($("matrix-note"), "In force is the matrix that the unit was opened with, revision 0. No call gives its cells. "
+            + "Propose the same one once, by the papers of the opening: then everybody can read it.");
     } else {
         say($("matrix-note"), `In force is revision ${inForce.revision}, by change ${inForce.number}.`);
     }
@@ -187,19 +147,20 @@ export function showMatrix() {
         filledFor = key;
         $("matrix-base").value = String(inForce.revision);
         if (inForce.content) {
-            draft.bands = inForce.content.bands.map(String);
+            draft.bands = inForce.content.bands.map(lengthText);
             draft.cells = inForce.content.cells.map((row) => [...row]);
             build();
         }
     }
-    $("propose-matrix").hidden = !holds("Engineer");
+    $("propose-matrix").hidden = !keeps("Engineer");
+    showCompared();
 }
 
 export function forgetMatrix() {
     filledFor = null;
     isTouched = false;
     $("matrix-base").value = "";
-    Object.assign(draft, {bands: ["300"], cells: [["P3", "P4"], ["P1", "P2"]]});
+    Object.assign(draft, {bands: ["5 min"], cells: [["P3", "P4"], ["P1", "P2"]]});
     sayAnswer(form, "", "");
     build();
 }
@@ -213,7 +174,7 @@ function reshape(change) {
 $("add-severity").addEventListener("click", () => reshape(() => draft.cells.push([...draft.cells.at(-1)])));
 $("drop-severity").addEventListener("click", () => reshape(() => draft.cells.pop()));
 $("add-band").addEventListener("click", () => reshape(() => {
-    draft.bands.push(String(2 * (numberOf(draft.bands.at(-1) ?? "") ?? 150)));
+    draft.bands.push(lengthText(Math.min(2 * (secondsOf(draft.bands.at(-1) ?? "") ?? 150), 604800)));
     draft.cells.forEach((row) => row.push(row.at(-1)));
 }));
 $("drop-band").addEventListener("click", () => reshape(() => {
@@ -224,11 +185,6 @@ $("matrix-anew").addEventListener("click", () => {
     forgetMatrix();
     showMatrix();
 });
-$("older").addEventListener("click", () => {
-    wantMore(here.unit);
-    outOfDate();
-});
-
 // Enter in a time is not meant to send
 $("grid").addEventListener("keydown", (event) => {
     if (event.key === "Enter" && event.target.matches(".band")) {

@@ -4,9 +4,11 @@
 import {act} from "./acting.js";
 import {onAlarm, shown} from "./alarm.js";
 import {$, areRight, say, sayAnswer} from "./elements.js";
-import {here, holds} from "./here.js";
+import {here, keeps} from "./here.js";
 import {forgetChanges, standsOfProposal} from "./changes.js";
-import {REMARK_WANTED, SECONDS_WANTED, isRemark, numberOf, spanText} from "./texts.js";
+import {makeOffer, makePrice, priceOf} from "./pricing.js";
+import {outOfDate} from "./rounds.js";
+import {REMARK_WANTED, LENGTH_WANTED, isRemark, lengthText, secondsOf} from "./texts.js";
 
 const REMARKS = ["cause", "consequence", "action"];
 
@@ -25,7 +27,7 @@ function makeProposal(form, {revisionOf, fieldsOf}) {
 
     function show() {
         const key = `${here.unit}/${shown.tag}`;
-        if (shown.alarm === null || !holds("Engineer")) {
+        if (shown.alarm === null || !keeps("Engineer")) {
             filledFor = shown.tag === null ? null : filledFor;
             return;
         }
@@ -77,24 +79,53 @@ const record = makeProposal(recordForm, {
         consequence: held?.consequence ?? "",
         action: held?.action ?? "",
         severity: held?.severity ?? 1,
-        response: held?.response ?? "",
+        response: held ? lengthText(held.response) : "",
     }),
 });
 const limit = makeProposal(limitForm, {
     revisionOf: ({alarm}) => alarm.limit_revision,
-    fieldsOf: ({alarm}) => ({max: alarm.limit}),
+    fieldsOf: ({alarm}) => ({max: lengthText(alarm.limit)}),
 });
 
+// The priority of the record that is being drawn up, by the matrix in force, beside the one that the alarm has.
+let pricedAs = "";
+export function showPrice() {
+    here.isPricing = shown.alarm !== null && keeps("Engineer") && recordForm.closest("details").open;
+    const response = secondsOf($("response").value);
+    if (!here.isPricing) {
+        return;
+    }
+    const held = shown.record;
+    const record = {severity: Number($("severity").value), response};
+    const price = response === null ? {priority: null, words: "–"} : priceOf(here.unit, record, held);
+    const built = JSON.stringify([here.unit, shown.tag, held?.priority, price]);
+    if (built !== pricedAs) {
+        pricedAs = built;
+        say($("price-now"), held ? `now ${held.priority}, with this record: ` : "none now, with this record: ");
+        $("price-after").replaceChildren(makePrice(price));
+        $("price-offer").replaceChildren(price.priority === null && response !== null ? makeOffer(here.unit) : "");
+    }
+}
+recordForm.addEventListener("input", showPrice);
+recordForm.addEventListener("change", showPrice);
+recordForm.closest("details").addEventListener("toggle", () => {
+    showPrice();
+    if (here.isPricing) {
+        outOfDate(); // the changes are asked for at once
+    }
+});
+onAlarm(showPrice);
+
 onAlarm(() => {
-    $("proposing").hidden = shown.alarm === null || !holds("Engineer");
+    $("proposing").hidden = shown.alarm === null || !keeps("Engineer");
 });
 
 recordForm.addEventListener("submit", (event) => {
     event.preventDefault();
-    const response = numberOf($("response").value);
+    const response = secondsOf($("response").value);
     const isRight = areRight(recordForm, [
         ...REMARKS.map((id) => [$(id), isRemark($(id).value), `Give the ${id} in ${REMARK_WANTED}.`]),
-        [$("response"), response !== null, `How long is there to respond? Give ${SECONDS_WANTED}.`],
+        [$("response"), response !== null, `How long is there to respond? Give ${LENGTH_WANTED}.`],
     ]);
     if (isRight) {
         const remarks = Object.fromEntries(REMARKS.map((id) => [id, $(id).value]));
@@ -104,17 +135,17 @@ recordForm.addEventListener("submit", (event) => {
 
 limitForm.addEventListener("submit", (event) => {
     event.preventDefault();
-    const max = numberOf($("max").value);
-    if (areRight(limitForm, [[$("max"), max !== null, `Give ${SECONDS_WANTED}.`]])) {
+    const max = secondsOf($("max").value);
+    if (areRight(limitForm, [[$("max"), max !== null, `Give ${LENGTH_WANTED}.`]])) {
         limit.send("limit", {max});
     }
 });
 
-// what the seconds in a field come to
+// what the length of time in a field comes to
 for (const [field, place] of [["response", "response-span"], ["max", "max-span"]]) {
     const show = () => {
-        const seconds = numberOf($(field).value);
-        say($(place), seconds === null ? "" : spanText(seconds * 1000));
+        const seconds = secondsOf($(field).value);
+        say($(place), seconds === null ? "" : lengthText(seconds));
     };
     $(field).addEventListener("input", show);
     onAlarm(show);

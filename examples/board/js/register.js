@@ -4,7 +4,7 @@ import {act} from "./acting.js";
 import {getUnless} from "./asking.js";
 import {$, areRight, makeLink, say} from "./elements.js";
 import {addressOf, here} from "./here.js";
-import {SECONDS_WANTED, TAG_WANTED, isTag, numberOf, secondsText, spanText} from "./texts.js";
+import {LENGTH_WANTED, TAG_WANTED, isTag, lengthText, secondsOf, secondsText} from "./texts.js";
 
 const form = $("register");
 
@@ -16,10 +16,10 @@ async function standsOf(unit, tag) {
 form.addEventListener("submit", async (event) => {
     event.preventDefault();
     const tag = $("new-tag").value.trim();
-    const max = numberOf($("new-max").value);
+    const max = secondsOf($("new-max").value);
     const isRight = areRight(form, [
         [$("new-tag"), isTag(tag), `A tag is ${TAG_WANTED}.`],
-        [$("new-max"), max !== null, `The limit is ${SECONDS_WANTED}.`],
+        [$("new-max"), max !== null, `The limit is ${LENGTH_WANTED}.`],
     ]);
     if (!isRight) {
         return;
@@ -40,6 +40,6 @@ form.addEventListener("submit", async (event) => {
 });
 
 $("new-max").addEventListener("input", () => {
-    const seconds = numberOf($("new-max").value);
-    say($("new-max-span"), seconds === null ? "" : spanText(seconds * 1000));
+    const seconds = secondsOf($("new-max").value);
+    say($("new-max-span"), seconds === null ? "" : lengthText(seconds));
 });

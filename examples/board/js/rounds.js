@@ -49,7 +49,8 @@ async function round(begun) {
     waiting = [];
 }
 
-// `trouble` gets the words of what went wrong, and null after a round that went well
+// `trouble` gets the words of what went wrong and its name, and null after a round that went well. Without a sign-on the page asks only
+// once somebody wants it: the browser would open its window for the password each time.
 export async function askOn(trouble) {
     let wait = ROUND;
     for (;;) {
@@ -66,11 +67,13 @@ export async function askOn(trouble) {
         } catch (error) {
             if (epoch === begun) {
                 wait = Math.min(2 * wait, LONGEST_PAUSE);
-                trouble(error instanceof Trouble ? error.words : `The page is at fault: ${error.message}`);
+                trouble(error instanceof Trouble ? error.words : `The page is at fault: ${error.message}`, error.name);
+                wait = error.name === "401" ? DAY : wait;
             }
         }
         if (epoch === begun) {
             await pause(wait);
+            wait = wait === DAY ? ROUND : wait;
         }
     }
 }

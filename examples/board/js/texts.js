@@ -14,7 +14,7 @@ export const REFUSALS = new Map([
     ["UnitFull", (what) => `The unit is full: it has at most ${FULL.get(what) ?? what}.`],
     ["AlarmTaken", () => "The unit has an alarm of this tag already."],
     ["AlarmUnknown", () => "The unit has no such alarm."],
-    ["ShelvingTimeOutOfRange", (limit) => `The time is longer than the limit of this alarm, ${limit} seconds.`],
+    ["ShelvingTimeOutOfRange", (limit) => `The time is longer than the limit of this alarm, ${lengthText(Number(limit))}.`],
     ["ConditionAlreadyShelved", () => "The alarm is shelved in this way already."],
     ["ConditionNotShelved", () => "The alarm is not shelved, or no longer."],
     ["AlreadyOutOfService", () => "The alarm is out of service already."],
@@ -52,7 +52,7 @@ export const FAULTS = new Map([
 ]);
 
 export const PROXY = new Map([
-    [401, "You are not signed on."],
+    [401, "Your sign-on has run out, or the name or the password is not right. What you typed stays here."],
     [403, "The proxy refuses this page."],
     [413, "The proxy takes nothing above 1 MiB."],
     [502, "The office does not answer."],
@@ -89,20 +89,38 @@ export const FLAGS = [["S", "shelved"], ["D", "suppressed by design"], ["O", "ou
 
 // what has which form
 const LONGEST = 604800; // seconds, a week
+export const isUnit = (text) => /^[A-Z0-9]{1,8}$/.test(text);
 export const isTag = (text) => /^[A-Z0-9._-]{1,24}$/.test(text);
 export const isPerson = (text) => /^[a-z0-9.-]{1,32}$/.test(text);
 export const isRemark = (text) => /^[ -~]{1,120}$/.test(text);
 export const isMoment = (text) => /^20\d\d-\d\d-\d\dT\d\d:\d\d:\d\dZ$/.test(text)
     && new Date(text).toString() !== "Invalid Date" && momentText(Date.parse(text)) === text;
 
-// a whole number from 1 to `greatest`, or null
-export function numberOf(text, greatest = LONGEST) {
-    const number = /^\d{1,9}$/.test(text.trim()) ? Number(text) : 0;
-    return number >= 1 && number <= greatest ? number : null;
+// A length of time as people say it, in seconds: a number of seconds, or days, hours, minutes and seconds, the longest first, as 45 min,
+// 2 h or 1 d 6 h. Null if it is none, no whole number of seconds, or more than a week.
+const UNITS = [["d", 86400, /^d(ays?)?$/], ["h", 3600, /^h(ours?)?$/], ["min", 60, /^min(utes?)?$/], ["s", 1, /^s(ec(onds?)?)?$/]];
+
+export function secondsOf(text) {
+    const typed = text.trim().toLowerCase();
+    if (!/^(\d{1,9}|(\d{1,6}(\.\d{1,4})?\s*[a-z]+\s*)+)$/.test(typed)) {
+        return null;
+    }
+    let seconds = /^\d+$/.test(typed) ? Number(typed) : 0;
+    let place = -1;
+    for (const [, number, name] of typed.matchAll(/([\d.]+)\s*([a-z]+)/g)) {
+        const found = UNITS.findIndex((unit) => unit[2].test(name));
+        if (found <= place) {
+            return null; // not a unit, or not after the one before
+        }
+        place = found;
+        seconds += Number(number) * UNITS[found][1];
+    }
+    const whole = Math.round(seconds);
+    return Math.abs(seconds - whole) < 1e-6 && whole >= 1 && whole <= LONGEST ? whole : null;
 }
 
 export const REMARK_WANTED = "1 to 120 letters, digits and signs of ASCII";
-export const SECONDS_WANTED = "a whole number of seconds, 1 to 604800";
+export const LENGTH_WANTED = "a time of 1 s to 7 d, as 45 min, 2 h or 1 d 6 h";
 export const TAG_WANTED = "1 to 24 capitals, digits, dashes, dots and underlines";
 export const PERSON_WANTED = "1 to 32 small letters, digits, dots and dashes";
 
@@ -115,10 +133,21 @@ export const minuteText = (moment) => new Date(moment).toISOString().slice(11, 1
 // a moment as the office writes it, for reading
 export const plainMoment = (text) => String(text).replace("T", " ").replace("Z", "");
 
-export function spanText(milliseconds) {
-    const seconds = Math.max(0, Math.round(milliseconds / 1000));
-    return `${Math.floor(seconds / 3600)}:${two(Math.floor(seconds / 60) % 60)}:${two(seconds % 60)}`;
+// A length of time as people say it: 45 min, 2 h, 1 d 6 h.
+export function lengthText(seconds) {
+    let rest = Math.max(0, Math.round(seconds));
+    const parts = [];
+    for (const [name, length] of UNITS) {
+        if (rest >= length) {
+            parts.push(`${Math.floor(rest / length)} ${name}`);
+            rest %= length;
+        }
+    }
+    return parts.join(" ") || "0 s";
 }
 
-// seconds as they are sent and as they are read
-export const secondsText = (seconds) => `${spanText(seconds * 1000)} (${seconds} s)`;
+// what is left of a shelf: from an hour on without seconds
+export const leftText = (seconds) => lengthText(seconds < 3600 ? seconds : seconds - (seconds % 60));
+
+// as it is sent, too
+export const secondsText = (seconds) => (seconds < 60 ? lengthText(seconds) : `${lengthText(seconds)} (${seconds} s)`);

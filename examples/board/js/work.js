@@ -4,9 +4,10 @@ import {act} from "./acting.js";
 import {onAlarm, shown} from "./alarm.js";
 import {get} from "./asking.js";
 import {$, areRight, say, sayAnswer} from "./elements.js";
-import {here, holds} from "./here.js";
+import {here, keeps} from "./here.js";
 import {SHELF_COLUMNS, askList} from "./lists.js";
-import {REMARK_WANTED, SECONDS_WANTED, clockText, isRemark, numberOf, spanText} from "./texts.js";
+import {rememberRemoval} from "./service.js";
+import {REMARK_WANTED, LENGTH_WANTED, clockText, isRemark, leftText, lengthText, momentText, secondsOf} from "./texts.js";
 import {momentNow} from "./time.js";
 
 const HOUR = 3600; // seconds, which the form proposes unless the alarm's limit is less
@@ -20,7 +21,7 @@ async function standsOf(unit, tag) {
     const shelves = await askList(`/units/${unit}/shelves`, "SHELVES", SHELF_COLUMNS, unit);
     const shelf = shelves.rows.find((row) => row.tag === tag);
     const kind = shelf?.kind === "timed" ? "for a time" : "one-shot";
-    const left = shelf && spanText(Number(shelf.left) * 1000);
+    const left = shelf && leftText(Number(shelf.left));
     const shelved = shelf ? `shelved ${kind} by ${shelf.person}, ${left} left: “${shelf.words}”` : "not shelved";
     return `${tag} is ${shelved}, and ${alarm.out_of_service ? "out of service" : "in service"}.`;
 }
@@ -30,6 +31,9 @@ async function call(form, action, body, done) {
     const path = `/units/${unit}/alarms/${tag}/${action}`;
     const stands = () => standsOf(unit, tag);
     const accepted = await act(form, {subject: tag, path, body: body && JSON.stringify(body), done: () => `${tag} ${done}`, stands});
+    if (accepted && action === "remove-from-service") {
+        rememberRemoval(unit, tag, {person: here.person, moment: momentText(momentNow()), words: body.words});
+    }
     if (accepted && here.unit === unit && here.tag === tag) {
         form.querySelector(".remark").value = "";
     }
@@ -37,8 +41,8 @@ async function call(form, action, body, done) {
 
 function showWork() {
     const {alarm, tag} = shown;
-    shelving.hidden = alarm === null || !holds("Operator");
-    service.hidden = alarm === null || !holds("Maintainer");
+    shelving.hidden = alarm === null || !keeps("Operator");
+    service.hidden = alarm === null || !keeps("Maintainer");
     if (alarm === null) {
         filledFor = tag === null ? null : filledFor;
         return;
@@ -52,7 +56,7 @@ function showWork() {
                 sayAnswer(form, "", "");
             }
         }
-        $("seconds").value = String(Math.min(alarm.limit, HOUR));
+        $("seconds").value = lengthText(Math.min(alarm.limit, HOUR));
         $(alarm.shelf === "TimedShelved" ? "one-shot" : "timed").checked = true;
     }
     const isShelved = alarm.shelf !== "Unshelved";
@@ -74,22 +78,22 @@ function showWork() {
 
 // until when the seconds in the form are
 export function showUntil() {
-    const seconds = numberOf($("seconds").value);
-    say($("until"), seconds && momentNow() ? `${spanText(seconds * 1000)}, until ${clockText(momentNow() + seconds * 1000)}` : "");
+    const seconds = secondsOf($("seconds").value);
+    say($("until"), seconds && momentNow() ? `${lengthText(seconds)}, until ${clockText(momentNow() + seconds * 1000)}` : "");
     $("seconds").disabled = $("one-shot").checked;
 }
 
 function shelve(event) {
     event.preventDefault();
     const words = $("words").value;
-    const seconds = numberOf($("seconds").value);
+    const seconds = secondsOf($("seconds").value);
     const isTimed = $("timed").checked;
     const isRight = areRight(shelving, [
-        [$("seconds"), !isTimed || seconds !== null, `For how long? Give ${SECONDS_WANTED}.`],
+        [$("seconds"), !isTimed || seconds !== null, `For how long? Give ${LENGTH_WANTED}.`],
         [$("words"), isRemark(words), `Say why: ${REMARK_WANTED}.`],
     ]);
     if (isRight && isTimed) {
-        call(shelving, "timed-shelve", {seconds, words}, `is shelved for ${spanText(seconds * 1000)}.`);
+        call(shelving, "timed-shelve", {seconds, words}, `is shelved for ${lengthText(seconds)}.`);
     } else if (isRight) {
         call(shelving, "one-shot-shelve", {words}, "is shelved until it returns to normal.");
     }

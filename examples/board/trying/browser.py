@@ -18,10 +18,28 @@ CODES = {"Enter": 13, "Tab": 9, "Escape": 27, "ArrowDown": 40, "ArrowUp": 38, "H
 CONTROLS = {"button", "link", "textbox", "searchbox", "combobox", "checkbox", "radio", "DisclosureTriangle", "spinbutton", "ComboBoxSelect"}
 
 # elements that the page itself does not make
-MADE_OF_TEXT = "img, i, u, s, script:not([src]), q *, b:not(#strip b, .left, #flood-lines b, .title, #broken b)"
+MADE_OF_TEXT = "img, i, u, s, script:not([src]), q *, b:not(#strip b, .counted b, .left, #flood-lines b, .title, #broken b, .no-row)"
 
 # the focus, as its id, its name or its text
 FOCUS = "((node) => node.id || node.getAttribute('aria-label') || node.textContent.trim() || node.tagName)(document.activeElement)"
+
+# notes each time that what had the keyboard loses it to the page's body, unless by Tab, which goes round by it
+LOST_FOCUS = """
+    window.lostFocus = [];
+    window.countOfFocus = 0;
+    let last = null, key = "";
+    addEventListener("keydown", (event) => { key = event.key; }, true);
+    addEventListener("focusin", () => { window.countOfFocus += 1; }, true);
+    setInterval(() => {
+        const active = document.activeElement;
+        if (active && active !== document.body) {
+            last = active.id || active.getAttribute("aria-label") || active.textContent.trim();
+        } else if (last !== null) {
+            if (key !== "Tab") window.lostFocus.push(`${last} at ${location.hash}`);
+            last = null;
+        }
+    }, 10);
+"""
 
 # texts with a contrast below 4.5 to what lies behind them, and marks with one below 3, by the computed colours
 LOW_CONTRAST = """(() => {
@@ -63,6 +81,11 @@ LOW_CONTRAST = """(() => {
     for (const node of document.querySelectorAll(".mark .whole")) {
         if (node.checkVisibility()) check(node, getComputedStyle(node).stroke, "the outline of a mark", 3);
     }
+    for (const bar of document.querySelectorAll(".flood")) {
+        const style = getComputedStyle(bar, "::before");
+        const isBordered = parseFloat(style.borderTopWidth) > 0;
+        if (bar.checkVisibility()) check(bar.parentElement, isBordered ? style.borderTopColor : style.backgroundColor, "the bar of a flood", 3);
+    }
     return [count, found];
 })()"""
 
@@ -88,6 +111,16 @@ STICKING_OUT = """(() => {
             const down = Math.min(one.bottom, other.bottom) - Math.max(one.top, other.top);
             if (across > 1 && down > 1) found.push(`in ${row.textContent.slice(0, 40)}: parts overlap by ${across} and ${down}`);
         }));
+    }
+    const texts = document.createTreeWalker(document.body, NodeFilter.SHOW_TEXT);
+    while (texts.nextNode()) {
+        const text = texts.currentNode.data.trim();
+        const node = texts.currentNode.parentElement;
+        if (text.length < 4 || !node.checkVisibility() || node.getBoundingClientRect().width <= 1 || node.closest(".unseen, option, #skip")) continue;
+        const range = document.createRange();
+        range.selectNodeContents(texts.currentNode);
+        const lines = new Set([...range.getClientRects()].map((box) => Math.round(box.top))).size;
+        if (lines > 2 && text.length / lines < 2.5) found.push(`letters one below the other: ${text.slice(0, 30)}`);
     }
     for (const link of document.querySelectorAll(".tag a")) {
         if (link.getClientRects().length > 3) found.push(`${link.textContent} takes ${link.getClientRects().length} lines`);
@@ -170,6 +203,7 @@ class Page:
             self.send(f"{domain}.enable")
         self.resize(width, height)
         self.send("Emulation.setFocusEmulationEnabled", enabled=True)
+        self.send("Page.addScriptToEvaluateOnNewDocument", source=LOST_FOCUS)
         self.send("Page.navigate", url=address)
         if is_empty:
             wait_for("the page", lambda: self.value("document.readyState === 'complete'"))
@@ -271,6 +305,11 @@ class Page:
         self.tab_to(field)
         self.type(text)
 
+    def check_focus(self, what):
+        """No action has left the keyboard on the page's body. How often the keyboard has moved."""
+        expect(self.value("window.lostFocus"), [], f"{what}: what lost the keyboard")
+        return self.value("window.countOfFocus")
+
     # ---- what holds of each view
 
     def check_looks(self, what):
@@ -291,13 +330,14 @@ class Page:
         expect(made, [], f"{what}: elements made of texts")
         expect(self.value("document.title === '1'"), False, f"{what}: a text was run")
 
-    def check_narrow(self, what, width=480):
-        """At a narrow width nothing sticks out or overlaps."""
+    def check_narrow(self, what):
+        """At narrow widths nothing sticks out or overlaps, and no letters stand one below the other."""
         before = self.width
-        self.resize(width, 1000)
-        found = self.value(STICKING_OUT)
-        self.resize(before, 1240)
-        expect(found, [], f"{what} at {width} pixels")
+        for width in [480, 390, 320]:
+            self.resize(width, 1000)
+            found = self.value(STICKING_OUT)
+            self.resize(before, 1240)
+            expect(found, [], f"{what} at {width} pixels")
 
     def picture(self, file, highest=1240):
         """A picture of the page, or of its upper part, while its marks are bright, with few colours."""
@@ -328,13 +368,17 @@ class Page:
     def requests(self):
         """The requests to the office, each begun after the one before had ended."""
         under_way, requests = set(), []
+        # a question that the page gives up is under way until then, but its end may be noted late
+        given_up = {event["params"]["requestId"] for event in self.events() if event["params"].get("canceled")}
         for event in self.events():
             params = event["params"]
             if event["method"] == "Network.requestWillBeSent" and re.search(r":\d+/(units|shelves)", params["request"]["url"]):
                 if under_way and params["requestId"] not in under_way:
                     sys.exit(f"two requests at a time: {params['request']['url']}")
-                under_way.add(params["requestId"])
+                under_way |= {params["requestId"]} - given_up
                 requests.append((params["request"]["method"], re.sub(r".*?:\d+/", "/", params["request"]["url"])))
+            elif event["method"] == "Page.frameNavigated":
+                under_way.clear()  # the page was loaded anew
             elif event["method"] in ("Network.loadingFinished", "Network.loadingFailed"):
                 under_way.discard(params["requestId"])
         return requests
@@ -348,4 +392,5 @@ class Page:
 
     def close(self):
         expect(self.errors(), [], "errors in the page")
+        self.check_focus("the whole visit")
         self.browser.send("Target.closeTarget", targetId=self.target)

@@ -1,5 +1,6 @@
 """The work of operators and of maintenance."""
 
+import json
 import re
 import sys
 import time
@@ -18,13 +19,14 @@ def try_lists(site, page, pictures):
     check_lists(site, page, "U1")
     expect(page.text("#person"), "ann: Operator", "the caller")
     expect(page.value("[...document.querySelectorAll('#unit option')].map((option) => option.value)"), ["U1", "U2"], "the units")
-    expect(page.texts("#views a"), ["Alarms", "Proposals", "Import"], "the views of an operator")
+    expect(page.texts("#views a"), ["Alarms", "All units", "Proposals", "Import"], "the views of an operator")
     check_floods(site, page)
     first, begin = page.value(SHELVES), time.monotonic()
     time.sleep(2)
     second, end = page.value(SHELVES), time.monotonic()
     for before, after in zip(first, second):
-        if abs(seconds_of(before[2]) - seconds_of(after[2]) - (end - begin)) > 1.5:
+        (left, exact), (later, _) = seconds_of(before[2]), seconds_of(after[2])
+        if not -1.5 - (exact > 2) * 3 <= left - later - (end - begin) <= exact - 0.5:
             sys.exit(f"{before[0]}: {before[2]} and {end - begin:.1f} s later {after[2]}")
     looks = page.check_looks("the lists")
     page.check_narrow("the lists")
@@ -58,13 +60,13 @@ def try_shelving(site, page, pictures):
     page.write("words", "float is stuck")
     page.key("Enter")
     page.await_text(
-        "#shelving .answer", "LT-202: The time is longer than the limit of this alarm, 7200 seconds. (ShelvingTimeOutOfRange)"
+        "#shelving .answer", "LT-202: The time is longer than the limit of this alarm, 2 h. (ShelvingTimeOutOfRange)"
     )
     expect("LT-202" in site.read("ann", "/units/U1/shelves"), False, "LT-202 is shelved")
     page.tab_to("seconds", back=True)
-    page.type("5400")
+    page.type("1 h 30 min")
     page.key("Enter")
-    page.await_text("#shelving .answer", "LT-202 is shelved for 1:30:00.")
+    page.await_text("#shelving .answer", "LT-202 is shelved for 1 h 30 min.")
     [shelf] = [row for row in shelves_of(site, "U1") if row[0] == "LT-202"]
     expect([shelf[1], *shelf[4:]], ["timed", "ann", "float is stuck"], "the shelf")
     if not 5380 <= int(shelf[3]) <= 5400:
@@ -85,9 +87,9 @@ def try_shelving(site, page, pictures):
     check_alarm(site, page, "PT-301")
     page.write("seconds", "1.5")
     page.press("shelve")
-    page.await_text("#shelving .answer", "For how long? Give a whole number of seconds, 1 to 604800.")
+    page.await_text("#shelving .answer", "For how long? Give a time of 1 s to 7 d, as 45 min, 2 h or 1 d 6 h.")
     page.await_focus("seconds", "the focus in the wrong field")
-    page.type("3600")
+    page.type("1 h")
     page.press("shelve")
     page.await_text("#shelving .answer", re.compile("Say why: .*"))
     expect(len(site.relay.calls), count, "calls of a form that is not right")
@@ -268,11 +270,39 @@ def try_maintainer(site, browser):
     expect(site.json("ann", "/units/U1/alarms/LT-204")["out_of_service"], True, "LT-204 is out of service")
     expect(site.relay.calls[-1][1].decode().count("document.title=1"), 1, "the words that were sent")
     check_alarm(site, page, "LT-204")
+    service = page.facts("#alarm-facts")["Service"]
+    if not re.fullmatch(rf"out of service\nby moe, since [\d: -]{{19}}: “{re.escape(WORDS)}”", service):
+        expect(service, f"out of service, by moe, since this moment: “{WORDS}”", "who took the alarm out of service")
+    page.check_plain("who took an alarm out of service, with markup")
     page.check_looks("an alarm, for maintenance")
     page.check_narrow("an alarm, for maintenance")
     page.press("place")
     page.await_text("#service .answer", "LT-204 is in service again.")
     expect(site.json("ann", "/units/U1/alarms/LT-204")["out_of_service"], False, "LT-204 is in service")
     check_alarm(site, page, "LT-204")
-    print("maintenance by keys: out of service with words, and back")
+
+    # what another page did: where to look, and who it was if the site offers lines of the audit log
+    page.go("#U1/TT-401")
+    check_alarm(site, page, "TT-401")
+    expect(page.facts("#alarm-facts")["Service"], "out of service\nNo call says who, since when and why. The audit log of the proxy has it, in "
+           "its last line with /units/U1/alarms/TT-401/remove-from-service: ask whoever keeps that log.", "where to look")
+    page.check_narrow("where to look")
+    status, _ = site.ask("moe", "/units/U1/alarms/FT-102/remove-from-service", json.dumps({"words": WORDS}))
+    expect(status, 200, "FT-102 out of service")
+    logged = lambda: [line for line in (site.folder / "audit.log").read_text().splitlines(True) if "/FT-102/remove-from-service" in line]
+    log = wait_for("the line of the audit log", logged)
+    lines = site.folder / "board/audit.jsonl"
+    refused = log[0].replace('"status":200', '"status":409').replace("moe", "bad")
+    lines.write_text("not a line\n" + log[0].replace("moe", "mo<b>", 2) + log[0] + refused)
+    other = Page(browser, site.address("vic", "#U1/FT-102"))
+    wait_for("who did it", lambda: re.fullmatch(rf"out of service\nby moe, since [\d: -]{{19}}: “{re.escape(WORDS)}”",
+                                                other.facts("#alarm-facts").get("Service", "")))
+    other.check_plain("a line of the audit log with markup")
+    other.check_narrow("who took an alarm out of service")
+    other.close()
+    lines.unlink()
+    page.go("#U1/LT-204")
+    check_alarm(site, page, "LT-204")
+    expect(site.ask("moe", "/units/U1/alarms/FT-102/place-in-service", "")[0], 200, "FT-102 in service")
+    print("maintenance by keys: out of service with words, and back; who, since when and why as far as the page can know it, else where to look")
     return page

@@ -7,22 +7,23 @@ from trying.browser import Page
 from trying.common import expect, moment_now, wait_for
 from trying.example import MATRIX, WORDS, record_of
 from trying.operating import HOSTILE
-from trying.shown import CHANGES, COMPARISON, check_alarm, check_changes, seconds_text
+from trying.shown import CHANGES, COMPARISON, GRID, check_alarm, check_changes, seconds_text
 
 NEW = "PT-777"
+UNKNOWN = "not known: no matrix was approved yet, and no call gives the one that the unit was opened with"
 RECORD = {"cause": "a <b>bold</b> cause", "consequence": HOSTILE, "action": "x' onclick='document.title=1", "severity": 3, "response": 120}
 
 
 def try_engineer(site, browser, pictures):
     page = Page(browser, site.address("eve", "#U1"))
-    expect(page.texts("#views a"), ["Alarms", "Proposals", "Matrix", "Register"], "the views of an engineer")
+    expect(page.texts("#views a"), ["Alarms", "All units", "Proposals", "Matrix", "Register"], "the views of an engineer")
 
     # an alarm is registered
     page.press("Register")
     page.await_focus("register-title", "the focus in the view")
     page.write("new-tag", HOSTILE[:24])
     page.write("new-max", "7200")
-    expect(page.text("#new-max-span"), "2:00:00", "the seconds in words")
+    expect(page.text("#new-max-span"), "2 h", "the seconds in words")
     page.key("Enter")
     page.await_text("#register .answer", "A tag is 1 to 24 capitals, digits, dashes, dots and underlines.")
     page.check_plain("a tag with markup")
@@ -30,7 +31,7 @@ def try_engineer(site, browser, pictures):
     page.tab_to("latching")
     page.key(" ")
     page.key("Enter")
-    page.await_text("#register .answer", f"{NEW} is registered, with a limit of 2:00:00 (7200 s). Show {NEW}")
+    page.await_text("#register .answer", f"{NEW} is registered, with a limit of 2 h (7200 s). Show {NEW}")
     page.check_looks("the registering")
     page.check_narrow("the registering")
     page.write("new-tag", NEW)
@@ -68,7 +69,8 @@ def try_engineer(site, browser, pictures):
     page.go("#U1/PT-301")
     check_alarm(site, page, "PT-301")
     fields = {name: page.value(f"document.querySelector('#{name}').value") for name in record_of("PT-301")}
-    expect(fields, {name: str(value) for name, value in record_of("PT-301").items()}, "the fields of a proposal")
+    wanted = {name: str(value) for name, value in record_of("PT-301").items()} | {"response": "1 min"}
+    expect(fields, wanted, "the fields of a proposal")
     page.value("document.querySelector('details').open = true")
     page.write("response", "90")
     if pictures:
@@ -78,9 +80,8 @@ def try_engineer(site, browser, pictures):
     # a matrix: a broken order shows at once and is not sent
     page.tab_to("Matrix", back=True)
     page.key("Enter")
-    page.await_text("#matrix-note", "No matrix was approved among the changes 8 to 27.")
-    page.press("older")
-    page.await_text("#matrix-note", "In force is the matrix that the unit was opened with, revision 0. The office does not give its cells.")
+    page.await_text("#matrix-note", "In force is the matrix that the unit was opened with, revision 0. No call gives its cells. "
+                    "Propose the same one once, by the papers of the opening: then everybody can read it.")
     expect(page.value("document.querySelector('#matrix-base').value"), "0", "the base")
     page.press("add-severity")
     for _ in range(3):
@@ -88,12 +89,12 @@ def try_engineer(site, browser, pictures):
     page.check_narrow("the widest matrix")
     for _ in range(2):
         page.press("drop-band")
-    expect(page.texts("#grid .times"), ["under 0:05:00", "0:05:00 to under 0:10:00", "0:10:00 and more"], "the times")
-    page.tab_to("End of time 2 in seconds", back=True)
+    expect(page.texts("#grid .times"), ["under 5 min", "5 min to under 10 min", "10 min and more"], "the times")
+    page.tab_to("End of time 2", back=True)
     page.type("200")
     page.await_text("#broken-lines", "Time 2 has to end later than time 1.")
     page.type("900")
-    page.tab_to("Severity 3, under 0:05:00")
+    page.tab_to("Severity 3, under 5 min")
     page.choose("P4")
     wait_for("the broken order", lambda: page.is_shown("#broken"))
     expect(
@@ -110,8 +111,8 @@ def try_engineer(site, browser, pictures):
     page.await_text("#matrix .answer", "The matrix was not sent: its order is broken where it is marked.")
     expect(len(site.relay.calls), calls, "calls for a broken matrix")
     for label, cell in [
-        ("Severity 3, under 0:05:00", "P1"), ("Severity 3, 0:05:00 to under 0:15:00", "P2"), ("Severity 3, 0:15:00 and more", "P3"),
-        ("Severity 2, under 0:05:00", "P2"), ("Severity 2, 0:05:00 to under 0:15:00", "P3"), ("Severity 2, 0:15:00 and more", "P4"),
+        ("Severity 3, under 5 min", "P1"), ("Severity 3, 5 min to under 15 min", "P2"), ("Severity 3, 15 min and more", "P3"),
+        ("Severity 2, under 5 min", "P2"), ("Severity 2, 5 min to under 15 min", "P3"), ("Severity 2, 15 min and more", "P4"),
     ]:  # fmt: skip
         if page.focus() != label:
             page.tab_to(label)
@@ -131,6 +132,7 @@ def try_engineer(site, browser, pictures):
     expect(page.value(COMPARISON)[1], ["Limit", seconds_text(7200), seconds_text(600)], "the comparison")
     page.press("withdraw")
     page.await_text("#deciding .answer", "Change 27 is taken back.")
+    page.await_focus(f"26: Record of {NEW}, waits", "the next proposal of one's own")
     expect(site.json("ann", "/units/U1/changes/27")["state"], "Withdrawn", "change 27")
     page.go("#U1/changes/23")
     page.await_text("#change-title", "Change 23: Limit of PT-301")
@@ -147,39 +149,40 @@ def wanted_comparison(change, before, revision):
         return "–" if name not in record else seconds_text(record[name]) if name == "response" else str(record[name])
 
     rows = [[title, text(name, before), text(name, change["content"])] for name, title in names.items()]
+    rows.insert(0, ["Priority", before.get("priority", "–"), UNKNOWN])
     return [["", f"In force, revision {revision}", "Proposed"], *rows]
 
 
 def try_approver(site, browser, pictures):
     page = Page(browser, site.address("amy", "#U1"))
-    expect(page.texts("#views a"), ["Alarms", "Proposals"], "the views of an approver")
+    expect(page.texts("#views a"), ["Alarms", "All units", "Proposals"], "the views of an approver")
     page.press("Proposals")
-    changes = check_changes(site, page, "amy")
-    expect(page.text("#changes-note"), "Changes 9 to 28 were looked through.", "what was looked through")
+    changes = check_changes(site, page, "amy", 28)
+    page.await_text("#changes-note", "All 28 changes were looked at.")
     asked = [int(path.split("/")[-1]) for method, path in page.requests() if "/changes/" in path]
     expect(sorted(set(asked[:9])), [1, 3, 7, 15, 23, 27, 28, 29, 31], "the last number by doubling and halving")
+    expect(asked[9:24], [26, 25, 24, 22, 21, 20, 19, 18, 17, 16, 14, 13, 12, 11, 10], "then the newest")
     page.check_looks("the proposals")
     page.check_narrow("the proposals")
-    page.press("more")
-    check_changes(site, page, "amy", 28)
-    page.tab_to("only-waiting", back=True)
-    page.key(" ")
+    page.tab_to("show-changes", back=True)
+    page.key("ArrowDown")
     wanted = [change["number"] for change in changes if change["state"] == "Proposed"]
     wait_for("those that wait", lambda: [row[0] for row in page.value(CHANGES)] == wanted)
     expect(wanted, [28, 26, 25, 24, 23, 22], "the changes that wait")
-    page.key(" ")
+    page.key("ArrowUp")
 
     # a change whole, with what is in force beside it, the texts with markup as they are
     page.tab_to("24: Record of PT-301, waits")
     page.key("Enter")
     page.await_focus("change-title", "the focus in the change")
-    record = record_of("PT-301")
+    record = site.json("ann", "/units/U1/alarms/PT-301/record")
     wait_for("the comparison", lambda: page.value(COMPARISON) == wanted_comparison(changes[4], record, 1))
     expect(page.texts("#change-content .differs"), [seconds_text(120), "open XV-302"], "what differs")
     if pictures:
         page.picture(pictures / "board-change.png", 900)
     page.press("approve")
     page.await_text("#deciding .answer", "Change 24 is approved and in force.")
+    page.await_focus("23: Limit of PT-301, waits", "the next proposal")
     page.await_text("#change-facts > div:nth-child(4) dd", re.compile(r"approved by amy, .*"))
     check_changes(site, page, "amy", 28)
     page.go("#U1/changes/26")
@@ -192,20 +195,23 @@ def try_approver(site, browser, pictures):
     wait_for("the markup", lambda: page.is_shown("#reject") and page.value(COMPARISON)[-1][-1] == WORDS)
     page.press("reject")
     page.await_text("#deciding .answer", "Change 22 is rejected.")
+    page.await_focus("28: Matrix, waits", "the next proposal, from the list's top")
 
     # a matrix, and one that is behind it then
     page.go("#U1/changes/28")
     grid = [["Severity 3", "P1", "P2", "P3"], ["Severity 2", "P2", "P3", "P4"], ["Severity 1", "P3", "P4", "P4"]]
-    wait_for("the grid", lambda: page.value(COMPARISON)[1:] == grid)
+    wait_for("the grid", lambda: page.value(GRID) == grid)
     page.check_looks("a matrix")
     page.check_narrow("a matrix")
     page.press("approve")
     page.await_text("#deciding .answer", "Change 28 is approved and in force.")
+    page.await_focus("25: Matrix, waits", "the next proposal")
     page.go("#U1/changes/25")
     page.await_text("#behind", "Revision 1 is in force meanwhile, so the office will refuse to approve this.")
-    expect(page.texts("#change-content .differs"), ["N\nwas P4"], "what differs in the matrix")
+    wait_for("what differs in the matrix", lambda: page.texts("#change-content .differs") == ["N\nwas P4\n2 records"])
     page.press("approve")
     page.await_text("#deciding .answer", re.compile(r"change 25: Revision 1 is in force meanwhile\. .* \(BaseChanged\)"))
+    page.await_focus("approve", "the focus after a refusal")
     page.go("#U1/changes/99")
     page.await_text("#change-missing", "The unit has no change of this number.")
     for number, state in {24: "Approved", 26: "Approved", 22: "Rejected", 28: "Approved", 25: "Proposed"}.items():
@@ -226,7 +232,7 @@ def try_own(site, browser):
     """Someone who both proposes and approves, but not the same."""
     page = Page(browser, site.address("kim", "#U1/changes/23"))
     page.await_text("#change-title", "Change 23: Limit of PT-301")
-    check_changes(site, page, "kim")
+    check_changes(site, page, "kim", 28)
     page.await_text("#own", "You proposed this, so you cannot approve it: another approver decides.")
     buttons = [page.is_shown(f"#{button}") for button in ("approve", "reject", "withdraw")]
     expect(buttons, [False, False, True], "the buttons for one's own")
@@ -257,7 +263,7 @@ def try_own(site, browser):
 
 def try_steward(site, browser):
     page = Page(browser, site.address("ste", "#U1"))
-    expect(page.texts("#views a"), ["Alarms", "Proposals", "Roles"], "the views of a steward")
+    expect(page.texts("#views a"), ["Alarms", "All units", "Proposals", "Roles"], "the views of a steward")
     page.press("Roles")
     calls = len(site.relay.calls)
     page.write("grantee", HOSTILE[:32])

@@ -33,19 +33,31 @@ CHANGES = """[...document.querySelectorAll("#change-list li")].map((line) => [Nu
     line.querySelector(".title").textContent, line.querySelector(".standing-of").textContent])"""
 COMPARISON = """[...document.querySelectorAll("#change-content tr")].map((row) => [...row.children].map((cell) => cell.textContent))"""
 
+GRID = """[...document.querySelectorAll("#change-content tbody tr")].map((row) =>
+    [...row.children].map((cell) => (cell.querySelector(".letters") ?? cell).textContent))"""
+
+
+UNITS = {"d": 86400, "h": 3600, "min": 60, "s": 1}
+
 
 def span_text(seconds):
-    seconds = int(seconds)
-    return f"{seconds // 3600}:{seconds // 60 % 60:02}:{seconds % 60:02}"
+    """A length of time as people say it."""
+    rest, parts = int(seconds), []
+    for name, length in UNITS.items():
+        parts += [f"{rest // length} {name}"] if rest >= length else []
+        rest %= length
+    return " ".join(parts) or "0 s"
 
 
 def seconds_text(seconds):
-    return f"{span_text(seconds)} ({seconds} s)"
+    return f"{span_text(seconds)} ({seconds} s)" if seconds >= 60 else span_text(seconds)
 
 
 def seconds_of(text):
-    hours, minutes, seconds = map(int, text.split(":"))
-    return 3600 * hours + 60 * minutes + seconds
+    """The seconds of what is shown as left, and how exact it is: from an hour on without seconds."""
+    words = text.split()
+    seconds = sum(int(number) * UNITS[name] for number, name in zip(words[::2], words[1::2]))
+    return seconds, 2 if seconds < 3600 else 62
 
 
 def plain(moment):
@@ -84,7 +96,8 @@ def check_lists(site, page, unit):
     shown = page.value(SHELVES)
     expect([row[:2] + row[3:] for row in shown], wanted_shelves(site, unit), "the shelves")
     for row, shelf in zip(shown, shelves_of(site, unit)):
-        if not -2 <= seconds_of(row[2]) - int(shelf[3]) <= 2:
+        shown, exact = seconds_of(row[2])
+        if not -exact <= shown - int(shelf[3]) <= 2:
             sys.exit(f"{row[0]}: shown {row[2]}, the office says {shelf[3]}")
     standing = rows_of(site.read("ann", f"/units/{unit}/standing"), 24, 14, 2, 20)
     wanted = [[tag, STATES[state], letters.translate(DASH), flags.translate(DASH)] for tag, state, letters, _, flags in standing]
@@ -121,7 +134,7 @@ def wanted_facts(site, tag):
     path = f"/units/U1/alarms/{tag}"
     alarm = site.json("ann", path)
     facts = {
-        "Service": "out of service" if alarm["out_of_service"] else "in service",
+        **({} if alarm["out_of_service"] else {"Service": "in service"}),
         "Suppression": "suppressed by design" if alarm["suppressed"] else "not suppressed by design",
         "Limit": f"{seconds_text(alarm['limit'])}\nrevision {alarm['limit_revision']}",
     }
@@ -159,6 +172,7 @@ def check_alarm(site, page, tag):
         shown = page.facts("#alarm-facts")
         return (
             facts.items() <= shown.items()
+            and shown["Service"].startswith("out of service" if alarm["out_of_service"] else "in service")
             and shown["State"].split("\n")[0] == STATES[alarm["state"]]
             and (shown["Shelf"] == "not shelved") == (alarm["shelf"] == "Unshelved")
             and page.facts("#record-facts") == record

@@ -27,7 +27,10 @@ class Relay(socketserver.ThreadingTCPServer):
         self.calls = []  # what changes something, as method, path and body
         self.is_losing = False  # whether answers to such calls get lost after the office has given them
         self.delay = 0  # seconds that such an answer is kept back
+        self.faulty_path = None  # the beginning of paths that are answered so
+        self.silence = threading.Event()  # while it is set, no question is answered
         self.is_faulty = False  # whether each call is answered as by an office whose store failed
+        self.routes = []  # which paths go to which other port, and what they begin with there
         self.swaps = {}  # texts of answers that are replaced by others of the same length
         threading.Thread(target=self.serve_forever, daemon=True).start()
 
@@ -40,17 +43,27 @@ class Relayed(socketserver.StreamRequestHandler):
         method, path = head.split(b" ")[:2]
         if method == b"POST":
             self.server.calls.append((path.decode(), body))
-        if self.server.is_faulty:
+        is_faulty_path = self.server.faulty_path and path.decode().startswith(self.server.faulty_path)
+        if self.server.is_faulty or is_faulty_path:
             self.wfile.write(b"HTTP/1.1 503 Service Unavailable\r\nContent-Type: application/json\r\n")
             self.wfile.write(b"Content-Length: %d\r\n\r\n%s" % (len(FAULT), FAULT))
             return
+        while self.server.silence.is_set():
+            time.sleep(0.1)
         try:
-            office = socket.create_connection(("127.0.0.1", self.server.office_port))
+            port = self.server.office_port
+            for begin, other, instead in self.server.routes:
+                if path.decode().startswith(begin):
+                    port, head = other, head.replace(path, instead.encode() + path[len(begin) :], 1)
+            office = socket.create_connection(("127.0.0.1", port))
         except ConnectionRefusedError:
             return
         with office:
-            office.sendall(head + body)
-            head, body = self.read_message(office.makefile("rb"))
+            try:
+                office.sendall(head + body)
+                head, body = self.read_message(office.makefile("rb"))
+            except ConnectionError:
+                return  # the office is gone
         if method == b"POST":
             time.sleep(self.server.delay)
             if self.server.is_losing:
@@ -81,6 +94,7 @@ class Site:
         self.program, self.folder, self.top, self.people = program, folder, top, people
         self.office_port, self.relay_port, self.port = free_port(), free_port(), free_port()
         self.office = self.proxy = None
+        self.calls = 0  # the trial's own, of those that came to the office and change something
         self.relay = Relay(self.relay_port, self.office_port)
 
     def start_office(self):
@@ -97,34 +111,28 @@ class Site:
         self.office.wait()
 
     def write_site(self):
-        (self.folder / "users").write_text("".join(f"{name}:{{PLAIN}}{name}\n" for name in self.people))
+        subprocess.run([self.top / "examples/deploy/on-loopback", self.folder, *self.people], check=True)
         board = self.top / "examples/board"
         (self.folder / "board").mkdir()
         for name in ["index.html", "board.css"]:
             shutil.copy(board / name, self.folder / "board")
         shutil.copytree(board / "js", self.folder / "board/js")
-        site = (self.top / "examples/deploy/shelfoffice.nginx").read_text()
-        for old, new in [
+        self.replace(
+            "site",
             ("127.0.0.1:8080", f"127.0.0.1:{self.relay_port}"),
             ("127.0.0.1:8081", f"127.0.0.1:{self.port}"),
-            ("/etc/nginx/shelfoffice.users", f"{self.folder}/users"),
-            ("/usr/local/share/shelfoffice", str(self.folder)),
             # the relay ends each connection after its request
             ("    keepalive 16;\n", ""),
-            ('proxy_set_header Connection "";', "proxy_set_header Connection close;"),
-        ]:
-            expect(site.count(old), 1, f"{old} in the site")
-            site = site.replace(old, new)
-        (self.folder / "site").write_text(site)
-        paths = "".join(
-            f"    {name}_temp_path {self.folder}/{name};\n" for name in ["client_body", "proxy", "fastcgi", "uwsgi", "scgi"]
         )
-        (self.folder / "nginx.conf").write_text(
-            ("user root;\n" if os.getuid() == 0 else "")
-            + f"daemon off;\nworker_processes 1;\nenv TZ=UTC;\npid {self.folder}/nginx.pid;\n"
-            + f"error_log {self.folder}/error.log;\nevents {{ worker_connections 64; }}\n"
-            + f"http {{\n    include /etc/nginx/mime.types;\n    access_log off;\n{paths}    include {self.folder}/site;\n}}\n"
-        )
+        self.replace("snippets/shelfoffice.conf", ('proxy_set_header Connection "";', "proxy_set_header Connection close;"))
+
+    def replace(self, name, *pairs):
+        """Replaces texts in one of nginx's files, each of which stands there once."""
+        text = (self.folder / name).read_text()
+        for old, new in pairs:
+            expect(text.count(old), 1, f"{old} in {name}")
+            text = text.replace(old, new)
+        (self.folder / name).write_text(text)
 
     def start_proxy(self):
         self.proxy = subprocess.Popen(
@@ -168,6 +176,7 @@ class Site:
         answer = client.getresponse()
         text = answer.read().decode()
         client.close()
+        self.calls += body is not None and text.startswith("{")
         return answer.status, text
 
     def read(self, person, path):

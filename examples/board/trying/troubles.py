@@ -1,5 +1,7 @@
 """What goes wrong: no role, lost answers, an office or a proxy that is not there, answers with markup."""
 
+import base64
+import http.client
 import re
 import sys
 
@@ -16,7 +18,7 @@ def try_viewers(site, browser):
     check_alarm(site, page, "PT-301")
     for part in ["#shelving", "#service", "#proposing"]:
         expect(page.is_shown(part), False, f"{part} for a viewer")
-    expect(page.texts("#views a"), ["Alarms", "Proposals"], "the views of a viewer")
+    expect(page.texts("#views a"), ["Alarms", "All units", "Proposals"], "the views of a viewer")
     page.go("#U1/changes/23")
     page.await_text("#change-title", "Change 23: Limit of PT-301")
     buttons = "[...document.querySelectorAll('#deciding button')].filter((button) => button.checkVisibility()).length"
@@ -39,6 +41,25 @@ def try_viewers(site, browser):
     print("viewers get no forms and no buttons, strangers nothing, and pages of other hosts are refused by the proxy")
 
 
+def try_policy(site, browser):
+    """The site's Content-Security-Policy is in force, and the page works under it."""
+    client = http.client.HTTPConnection("127.0.0.1", site.port)
+    client.request("GET", "/board/", headers={"Authorization": "Basic " + base64.b64encode(b"ann:ann").decode()})
+    answer = client.getresponse()
+    policy = "default-src 'self'; img-src data:; frame-ancestors 'none'"
+    expect((answer.status, answer.getheader("Content-Security-Policy")), (200, policy), "the policy")
+    answer.read()
+    client.close()
+    page = Page(browser, site.address("ann", "#U1"))
+    wait_for("the lists", lambda: page.is_shown("#standing li"))
+    expect(page.errors(), [], "what the policy refuses of the page itself")
+    page.value("(() => { const script = document.createElement('script'); script.textContent = 'document.title = 1'; document.body.append(script); })()")
+    wait_for("the refusal", lambda: any("Content Security Policy" in event["params"].get("entry", {}).get("text", "") for event in page.errors()))
+    expect(page.value("document.title === '1'"), False, "a script in line was run")
+    print("the page works under the site's Content-Security-Policy, which refuses what is in line")
+    return []
+
+
 def lose(site, page, answer, subject, act, found):
     """A call whose answer is lost is sent once, is said to be in doubt, and what stands is asked for."""
     site.relay.is_losing = True
@@ -57,7 +78,7 @@ def try_lost_answers(site, pages, folder, count):
     check_alarm(site, page, "XA-901")
     page.write("seconds", "600")
     page.write("words", "lost <i>answer</i>")
-    found = r"XA-901 is shelved for a time by ann, 0:\d\d:\d\d left: “lost <i>answer</i>”, and in service\."
+    found = r"XA-901 is shelved for a time by ann, (10 min|9 min \d+ s) left: “lost <i>answer</i>”, and in service\."
     lose(site, page, "#shelving .answer", "XA-901", lambda: page.key("Enter"), found)
     check_alarm(site, page, "XA-901")
     page.check_looks("a call in doubt")
@@ -83,7 +104,7 @@ def try_lost_answers(site, pages, folder, count):
     page.go("#U1/register")
     page.write("new-tag", "PT-778")
     page.write("new-max", "60")
-    lose(site, page, "#register .answer", "PT-778", lambda: page.key("Enter"), r"PT-778 is registered, with a limit of 0:01:00 \(60 s\)\.")
+    lose(site, page, "#register .answer", "PT-778", lambda: page.key("Enter"), r"PT-778 is registered, with a limit of 1 min \(60 s\)\.")
     page.go("#U1/LT-204")
     check_alarm(site, page, "LT-204")
     page.press("Another limit")
@@ -199,8 +220,8 @@ def try_markup(site, page):
     print("tags, states, names and a refusal with markup are shown as they are")
 
 
-def check_requests(site, pages, others):
-    """No two requests at a time, and each call of a page came to the office once. `others` are the trial's own calls."""
+def check_requests(site, pages):
+    """No two requests at a time, and each call of a page came to the office once."""
     count = 0
     sent = []
     for page in pages:
@@ -213,5 +234,5 @@ def check_requests(site, pages, others):
             # the office was stopped and the proxy had it
             sys.exit(f"{path} did not come to the office")
         came.remove(path)
-    expect(len(came), others, f"calls that no page sent: {came}")
+    expect(len(came), site.calls, f"calls that no page sent: {came}")
     print(f"{count} requests, one at a time, and {len(sent)} calls that change something, each sent once")

@@ -1,0 +1,68 @@
+-- Several starts of the program over one file, each of which ended, was killed or was cut off.
+use Rattle.std.specs.Prelude.{List, [], ◌∷◌, ◌++◌, ◌≡◌, ◌⊎◌}
+use Rattle.sqlite_disk.specs.declared.Disk.{Ghosts}
+use Rattle.sqlite_store.specs.{FileStore.{state}, declared.store.FileStore.{FileStore}}
+use Rattle.sqlite_wal.specs.{Files.{outcomes}, Recovery.{Image}}
+use Rattle.plant_books.specs.Contents.{Content}
+use Rattle.plant_model.specs.{Worlds.{IsLegalWorld, World}, declared.call.Call.{Call}}
+use Rattle.plant_office.specs.{Failures.{AreAnsweredBeforeFailure}, Lives.{Life}, Outcomes.{AreMade, after_calls}, Served.{Holds}}
+use Rattle.plant_server.specs.{Files.{HoldBooks}, OverFiles.{IsCleanAfter, RanOnFiles}}
+use Rattle.plant_server.specs.declared.remains.Left.{Left}
+use Rattle.plant_server.specs.declared.remains.Left.TheVariants as left
+use Rattle.plant_types.specs.Names.{Name}
+
+-- The files hold the rows of this world.
+pub record HoldRows (files : Image) (w : World) : Type 0 where
+  pub content : Content
+  pub books : HoldBooks files content
+  pub holds : Holds content w
+  pub legal : IsLegalWorld w
+
+-- For each start, the calls of it that were made: all that were confirmed, and at most one that is in doubt. They were
+-- answered, up to the last confirmed one, as the world answers them that the starts before left.
+abbrev pub AreMadeInTurn : World → List Life → List (List Call) → Type 0
+AreMadeInTurn w [] [] = Unit {0}
+AreMadeInTurn w (life ∷ lives) (own ∷ later) = AreMade life.calls life.answers own
+    × AreAnsweredBeforeFailure w life.calls life.answers × AreMadeInTurn (after_calls w own) lives later
+AreMadeInTurn w [] (own ∷ later) = ⊥
+AreMadeInTurn w (life ∷ lives) [] = ⊥
+
+-- all of them as one list
+abbrev pub in_all : List (List Call) → List Call
+in_all [] = []
+in_all (own ∷ later) = own ++ in_all later
+
+-- These starts are one list of calls, after which the files hold the rows of the world.
+pub record AreOneRun (w : World) (lives : List Life) (files : Image) : Type 0 where
+  pub made : List (List Call)
+  pub in_turn : AreMadeInTurn w lives made
+  pub rows : HoldRows files (after_calls w (in_all made))
+
+module _ {D N : Type 0} {g : Ghosts D} where
+  -- the next start may find these files: what a crash within the serving leaves, or one after the closing, also without
+  -- the log
+  abbrev pub MayFind : FileStore D g → Left D N g → Image → Type 0
+  MayFind store (left.Closed files) found = (state store).may_leave found
+      ⊎ ((image : Image) × outcomes g files.log files.db image × ((found ≡ image) ⊎ (found ≡ record image { log = [] })))
+  MayFind store _ found = (state store).may_leave found
+
+-- A start of the program from files that hold `from`: these calls were made on them, as `FilesServed` says of the files
+-- at the path that its words name, and the next start may find `to`.
+pub record IsStart {D N : Type 0} (g : Ghosts D) (h : Ghosts N) (admin : Name) (from to : Image) (life : Life) : Type 0 where
+  pub store : FileStore D g
+  pub after : Left D N g
+  pub ran : RanOnFiles (HoldRows from) admin store after life.calls life.answers
+  pub clean : IsCleanAfter after
+  pub found : MayFind store after to
+
+-- one start after the other, each from what the one before left
+abbrev pub AreStarts : {D N : Type 0} → Ghosts D → Ghosts N → Name → Image → List Life → Image → Type 0
+AreStarts g h admin first [] last = last ≡ first
+AreStarts g h admin first (life ∷ lives) last =
+    (found : Image) × IsStart g h admin first found life × AreStarts g h admin found lives last
+
+-- Any number of starts of the program over the file of an administrator, each ended, killed or cut off, are one list of
+-- calls of one world, with at most one call in doubt for each start.
+abbrev pub StartsAreOneRun : {D N : Type 0} → Ghosts D → Ghosts N → Type 0
+StartsAreOneRun g h = (first last : Image) (lives : List Life) (w : World) → HoldRows first w
+    → AreStarts g h w.admin first lives last → ∥ AreOneRun w lives last ∥₁
