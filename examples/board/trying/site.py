@@ -124,7 +124,13 @@ class Site:
             # the relay ends each connection after its request
             ("    keepalive 16;\n", ""),
         )
-        self.replace("snippets/shelfoffice.conf", ('proxy_set_header Connection "";', "proxy_set_header Connection close;"))
+        # nginx knows two offices, and leaves it to the relay to tell which of them a list is asked of
+        (self.folder / "offices").write_text("A shelfoffice;\nB shelfoffice;\n")
+        self.replace(
+            "snippets/shelfoffice.conf",
+            ('proxy_set_header Connection "";', "proxy_set_header Connection close;"),
+            ("    rewrite ^/offices/[^/]+(/units|/shelves)$ $1;\n", ""),
+        )
 
     def replace(self, name, *pairs):
         """Replaces texts in one of nginx's files, each of which stands there once."""
