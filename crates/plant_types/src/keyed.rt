@@ -1,3 +1,5 @@
+//! The trait of rows that have a key with a total order. `Sorted` keeps and finds rows by it.
+
 ghost use Rattle.std.specs.Prelude.{◌≡◌};
 
 use std::cmp::Ordering;

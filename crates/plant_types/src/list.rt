@@ -1,3 +1,5 @@
+//! A growable list whose operations report running out of memory as a `Fault`. Contracts see only its values.
+
 ghost use Rattle.std.specs.Prelude.{◌≡◌, ◌↔◌, [], ◌∷◌, ◌++◌, length, insert, remove, slice_get, slice_set, IfOk, IsTrue, OnOk, OnErr};
 ghost use Rattle.plant_types.specs.Results.{OnlyMemory};
 

@@ -1,3 +1,5 @@
+//! The roles that a person may hold in a unit, and a role together with the moment at which it ends.
+
 ghost use Rattle.std.specs.Prelude.{◌≡◌, if◌then◌else◌, Some, None};
 ghost use Rattle.plant_types.specs.{Roles.{role_no, same_role}, Tenure.{is_tenure}};
 

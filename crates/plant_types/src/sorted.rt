@@ -1,3 +1,6 @@
+//! Rows in the order of their keys, each key once. They are found by binary search, or at once where a search
+//! continues next to the place of the one before.
+
 ghost use Rattle.std.specs.Prelude.{◌≡◌, ◌↔◌, ◌-◌, ◌≤◌, ◌++◌, [], length, is_some, option_copied, slice_get, IsOk, IsTrue, OnOk, OnErr, IfOk, IfErr};
 ghost use Rattle.plant_types.specs.KeyedRows.{IsFound, IsInOrder, IsPlace, IsPlaceFor, IsPlaceOf, cmp_at, put_row, remove_row, row_at, rows_below, rows_from};
 ghost use Rattle.std.specs.declared.cmp.Ordering.TheVariants.{Greater};

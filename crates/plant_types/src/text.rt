@@ -1,3 +1,6 @@
+//! Texts of a fixed set of bytes and a greatest length, and the four kinds that the office uses: unit codes, tags,
+//! names of persons, and free words.
+
 ghost use Rattle.std.specs.{Cmp.Lexicographic.{slice_cmp, nat_list_cmp_total}, List.{list_all}, Ordering.{nat_cmp}};
 ghost use Rattle.std.specs.Prelude.{Ok, Some, None, refl, ◌≡◌, ℕ, Bool, IfOk, IsTrue};
 ghost use Rattle.plant_types.specs.{Names.{same_name}, Results.{OnlyMemory}, Text.{is_text, text_of}};

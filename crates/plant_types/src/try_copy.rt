@@ -1,3 +1,5 @@
+//! Copies of values that own memory. A copy fails only when memory runs out.
+
 ghost use Rattle.std.specs.Prelude.{◌≡◌, IfOk};
 ghost use Rattle.plant_types.specs.Results.{OnlyMemory};
 
