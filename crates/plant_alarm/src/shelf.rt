@@ -1,3 +1,6 @@
+//! Shelving of one alarm: what a shelf is at a given moment, and the rules for shelving for a time, shelving once
+//! and unshelving.
+
 ghost use Rattle.std.specs.Prelude.{◌≡◌, List};
 ghost use Rattle.plant_alarm.specs.{Shelves.{shelf_of, shelf_state, timed_answer, one_shot_answer, unshelve_answer}, States.{IsInTime, last_return}};
 ghost use Rattle.plant_alarm.specs.declared.event.Event.{Event};
