@@ -1,3 +1,6 @@
+//! Changes that need approval: of an alarm's rationalisation record, of the unit's matrix or of an alarm's shelving
+//! limit. Their states are here too.
+
 ghost use Rattle.std.specs.Prelude.{◌≡◌, IfOk};
 ghost use Rattle.plant_types.specs.Results.{OnlyMemory};
 

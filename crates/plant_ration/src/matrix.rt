@@ -1,3 +1,6 @@
+//! The priority matrix: it gives an alarm's priority from the severity of its consequence and the time to respond.
+//! Only an ordered matrix can be made.
+
 ghost use Rattle.std.specs.{List.Sorted.{IsStrictlyIncreasing}, Prelude.{◌≡◌, ◌↔◌, IfOk, IsSome, Ok, Err, map, IsTrue}};
 ghost use Rattle.plant_types.specs.Results.{OnlyMemory};
 ghost use Rattle.plant_ration.specs.{Matrix.{matrix_of, priority_of, is_row, is_matrix, IsOrdered}, declared.cell.MatrixFault.{MatrixFault}};
