@@ -1,3 +1,6 @@
+//! Finds the floods in the counts of ten-minute periods, in one pass. A flood begins with a period of more than 10
+//! activations and ends before the first period of fewer than 5.
+
 ghost use Rattle.std.specs.Prelude.{◌≡◌, ◌+◌, ◌*◌, ◌≤◌, IfOk, IfSome, OnOk, ◌++◌, option_to_list};
 ghost use Rattle.plant_types.specs.Results.{OnlyMemory};
 ghost use Rattle.plant_floods.specs.Pass.{next_runs};

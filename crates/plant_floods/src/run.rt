@@ -1,3 +1,5 @@
+//! One flood, as the pass over the periods reports it.
+
 /// A flood: its first and last period, counted from 0, the sum of their counts and the greatest of them.
 #[derive(Clone, Copy, Debug, PartialEq, Eq)]
 pub struct Run {
