@@ -1,3 +1,5 @@
+//! The reasons for which an import file is refused, and the line to which a reason applies.
+
 /// Why a row of a file is faulty. Where a row has several faults, the first of this order counts.
 #[derive(Clone, Copy, Debug, PartialEq, Eq)]
 pub enum Cause {

@@ -1,3 +1,5 @@
+//! Reads two fields of a row of an import file: the event's number and its kind.
+
 ghost use Rattle.std.specs.{List.{list_all}, Prelude.{◌≡◌, ◌≢◌, ◌<◌, ◌≤◌, length, slice_index, IsTrue}};
 ghost use Rattle.plant_types.specs.{Moment.{decimal_value}, Text.{is_digit}};
 ghost use Rattle.plant_import.specs.Fields as fields;

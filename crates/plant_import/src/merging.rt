@@ -1,3 +1,6 @@
+//! Compares the rows of an import file with the unit's events: which rows are new, how many are repeated, or the
+//! first faulty row and why it is faulty.
+
 ghost use Rattle.std.specs.{BTreeMap.{BTreeMap as TheMap}, List.{list_all, list_any}};
 ghost use Rattle.std.specs.Prelude.{◌≡◌, ◌+◌, ◌++◌, ◌∷◌, [], IfOk, IsTrue, List, MatchOption, None, OnOk, Some, length, map, nat_lt, ℕ};
 ghost use Rattle.plant_alarm.specs.declared.event.Event.{Event as TheEvent};

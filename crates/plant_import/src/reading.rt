@@ -1,3 +1,6 @@
+//! Reads an import file, which is comma-separated values, into events. It stops at the first faulty line and
+//! reports why that line is faulty.
+
 ghost use Rattle.std.specs.{List.{list_all}, Prelude.{◌≡◌, ◌∷◌, [], IfOk, List, ℕ}, Str.{is_utf8}};
 ghost use Rattle.csv.specs.Records.{fields_of};
 ghost use Rattle.plant_types.specs.Results.{OnlyMemory};

@@ -1,3 +1,5 @@
+//! Reads a file's records one after another through the `csv` crate, and the fields of a record.
+
 ghost use Rattle.std.specs.Prelude.{◌≡◌, [], IfOk, List, ℕ};
 ghost use Rattle.csv.specs.Records.{fields_of};
 ghost use Rattle.plant_types.specs.Results.{OnlyMemory};

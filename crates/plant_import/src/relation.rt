@@ -1,3 +1,6 @@
+//! How one event relates to a list of events: new, already in it, in conflict with one of the same number, or out
+//! of order in time. The two events nearest to its number suffice to decide it.
+
 ghost use Rattle.std.specs.{List.{list_any, Sorted.{IsPartitionPoint}}, Prelude.{◌≡◌, ◌≤◌, ◌<◌, List, length, nat_lt}};
 ghost use Rattle.plant_alarm.specs.declared.event.Event.{Event as TheEvent};
 ghost use Rattle.plant_import.specs.{Merging.{IsRising, same_event}, Numbers.{AreByNumber, AreNumbered}};
