@@ -1,3 +1,5 @@
+//! What a person can ask of the office: the requests, and a call, which is a request with its person and moment.
+
 use plant_import::FileRead;
 use plant_ration::{Matrix, Proposal};
 use plant_types::{Moment, Person, Quota, Role, Seconds, Tag, Tenure, UnitCode, Words};

@@ -1,3 +1,6 @@
+//! Copies of rows, keys and changes, and the rows of a unit that was never opened. A copy fails only when memory
+//! runs out.
+
 ghost use Rattle.std.specs.Prelude.{◌≡◌, IfOk, OnOk};
 ghost use Rattle.plant_model.specs.steps.RowChanges.{no_rows};
 ghost use Rattle.plant_types.specs.Results.{OnlyMemory};

@@ -1,3 +1,6 @@
+//! Facts about a request that do not depend on any row: its effect, the role that it needs, the unit that it names,
+//! and which rows it looks at.
+
 ghost use Rattle.std.specs.Prelude.{◌≡◌, option_copied, option_map};
 ghost use Rattle.plant_model.specs.Events.{rows_of_file};
 ghost use Rattle.plant_model.specs.steps.{LooksAt.{scope_of_proposal}, Parts.{selection}, Scopes.{IsScopeOf, Selects}};

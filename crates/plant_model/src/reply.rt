@@ -1,3 +1,5 @@
+//! What the office answers: refusals, replies with their lines, and the answer that is one of these or a fault.
+
 use plant_alarm::{AlarmState, ShelfState};
 use plant_import::BadFile;
 use plant_ration::{Cell, ChangeKind, ChangeState};

@@ -1,3 +1,6 @@
+//! The rows that a unit's history leaves, table by table; the part of them that one call looks at; and the changes
+//! that a call makes to them.
+
 ghost use Rattle.std.specs.Prelude.{◌≡◌, ◌<◌, [], IfOk, None, Some};
 ghost use Rattle.plant_model.specs.Rows.{alarm_as, revision_of_limit, with_limit};
 ghost use Rattle.plant_types.specs.Results.{Gives, OnlyMemory};
