@@ -1,3 +1,6 @@
+//! The trait `Books` of whatever keeps the rows of all units: what can be read from it, how changes are applied,
+//! and what its contracts state about a failure of the store and a crash.
+
 ghost use Rattle.std.specs.Prelude.{◌≡◌, IfOk, IsTrue, None, OnOk, ℕ};
 ghost use Rattle.plant_books.specs.Crashes.{IsSettled, LosesNoPart, LosesNothing};
 ghost use Rattle.plant_books.specs.Books.{CountsBy, Finds, FindsPart, Keeps, KeepsOnErr, Makes, WasHonest};

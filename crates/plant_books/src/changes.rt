@@ -1,3 +1,5 @@
+//! Applies changes to the rows of one unit in memory.
+
 ghost use Rattle.std.specs.Prelude.{◌≡◌, ◌∷◌, [], IfOk, OnOk};
 ghost use Rattle.plant_books.specs.{Changing.{is_event_put, puts_event}};
 ghost use Rattle.plant_model.specs.steps.RowChanges.{changed, changed_by, put, removed};

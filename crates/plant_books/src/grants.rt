@@ -1,3 +1,5 @@
+//! Whether a person holds a role in a unit at a moment, and which roles these are, from the unit's grants.
+
 ghost use Rattle.std.specs.Prelude.{◌≡◌, IfOk, Some};
 ghost use Rattle.plant_books.specs.Contents.{is_held_in, roles_in};
 ghost use Rattle.plant_types.specs.Results.{OnlyMemory};

@@ -1,3 +1,6 @@
+//! A list of opened units with their rows: reading from it, the units and shelves of one person, and changing the
+//! rows of a unit. `Plain` is built on it.
+
 ghost use Rattle.std.specs.Prelude.{◌≡◌, IfOk, OnErr, OnOk, is_some, option_map, unwrap_or};
 ghost use Rattle.plant_books.specs.Contents.{AddsShelves, without_history};
 ghost use Rattle.plant_books.specs.Listed.{listed_after, listed_codes, listed_shelves, listed_units, rows_at};

@@ -1,3 +1,5 @@
+//! The simplest keeper of books: lists in memory, with no store behind them. Nothing of it survives a crash.
+
 ghost use Rattle.std.specs.Prelude.{◌≡◌, ⊤};
 ghost use Rattle.plant_books.specs.{Contents.{no_units}, Counting.{Counts, CountsFault}, Listed.{IsListed}};
 
