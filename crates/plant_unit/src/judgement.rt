@@ -1,3 +1,6 @@
+//! Judges a call on a unit from the part of the unit's rows that the call looks at: a refusal, or the reply and the
+//! changes to make. Each kind of call has its rules in another file; here a call is passed to them.
+
 ghost use Rattle.std.specs.Prelude.{◌≡◌, List, IfOk, option_copied, true, false};
 ghost use Rattle.plant_types.specs.Results.{OnlyMemory};
 ghost use Rattle.plant_alarm.specs.declared.event.Event.{Event as TheEvent};
