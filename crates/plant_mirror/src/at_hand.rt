@@ -1,3 +1,5 @@
+//! The cached rows of one unit: whether they suffice to serve a call, and what they become after changes.
+
 ghost use Rattle.std.specs.Prelude.{◌≡◌, ◌&&◌, IfSome, IsTrue, not};
 ghost use Rattle.plant_books.specs.{Changing.{puts_event}, Contents.{Content, after_changes as content_after, without_reviews as unreviewed}};
 ghost use Rattle.plant_mirror.specs.Copies.{IsCopy, seen};

@@ -1,3 +1,6 @@
+//! The cache: the rows of the units that were used last, up to a limit on the number of rows of all units. The unit
+//! that was used least recently is dropped first.
+
 ghost use Rattle.std.specs.{Map.{lookup, lookup_entry}, Prelude.{◌≡◌, ◌≤◌, ◌+◌, [], flat_map, IfOk, IfSome, IsTrue, option_copied, unwrap_or}};
 ghost use Rattle.plant_books.specs.Contents.{Content, after_changes, shelves_there};
 ghost use Rattle.std.specs.FinMap.{get};

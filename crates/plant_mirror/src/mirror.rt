@@ -1,3 +1,6 @@
+//! A keeper of books that puts a cache in front of another keeper. Calls are answered from cached rows where these
+//! suffice; changes are made in the books below first, and then in the cache.
+
 ghost use Rattle.std.specs.{List.{list_any}, Prelude.{◌≡◌, ◌≤◌, [], IfErr, IfOk, IfSome, OnOk, Some, option_map}};
 ghost use Rattle.plant_books.specs.Crashes.{LosesNoPart};
 ghost use Rattle.plant_books.specs.{Books.{CountsBy, KeepsOnErr, Makes, WasHonest}, Contents.{Content, codes_held, part_in}};
