@@ -1,3 +1,7 @@
+//! The office: it takes calls, has them judged, writes the changes to its books and returns the answers. Its
+//! contracts state that each caller sees only the units in which they hold a role, and what a fault or a crash
+//! leaves.
+
 ghost use Rattle.std.specs.Prelude.{◌≡◌, ◌<◌, ◌^◌, ◌-◌, ◌+◌, ◌≤◌, Some, None, true, false, IfOk, IfSome, IsTrue, OnErr, List, [], ◌∷◌, ◌++◌, filter_map, map, max, fold, length, option_copied, option_map, vec_len, vec_capacity};
 ghost use Rattle.plant_books.specs.{Books.{WasHonest}, Contents.{Content}, declared.books.MineUnit.{MineUnit}};
 ghost use Rattle.plant_types.specs.Results.{OnlyMemory};
