@@ -1,4 +1,4 @@
--- Names that are the same feed a hasher alike.
+-- Equal names give a hasher the same input.
 use Rattle.std.specs.{FinMap.{nat_cmp-IsAntisymmetric, slice_cmp-IsAntisymmetric}, Ordering.{is_eq}, Prelude.{refl, true, ◌≡◌}}
 use Rattle.std.{specs.declared.cmp.Ordering.{Ordering, TheVariants.{Equal, Greater, Less}}, proofs.Common.{ap}}
 use Rattle.plant_types.specs.Names.{Name, name_cmp, same_name}

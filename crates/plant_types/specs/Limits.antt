@@ -1,4 +1,4 @@
--- The limits of the office, for definitions. `limits.rt` has the same for code.
+-- The limits of the office, for definitions: the most of each. `limits.rt` has the same numbers for code.
 use Rattle.std.specs.Prelude.{ℕ}
 
 -- a unit's grants, ended ones included
@@ -41,10 +41,10 @@ max_head = 16384
 abbrev pub max_body : ℕ
 max_body = 1048576
 
--- the reads of a session
+-- the times that a session reads from its stream
 abbrev pub max_reads : ℕ
 max_reads = 1000000
 
--- the rows that are kept at hand
+-- the cached rows, of all units together
 abbrev pub max_rows_at_hand : ℕ
 max_rows_at_hand = 2000000

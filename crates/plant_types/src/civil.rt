@@ -31,7 +31,7 @@ fn fits_mark(mark: u8, byte: u8) -> bool
     }
 }
 
-// The number that at most four digits spell.
+// The value of up to four decimal digits.
 pub fn number(digits: &[u8]) -> u64
     requires few { length digits.now ≤ 4 }
     ensures value { result ≡ decimal_value digits.now }
@@ -44,7 +44,7 @@ pub fn number(digits: &[u8]) -> u64
     value
 }
 
-// The days from 2000-01-01 to a day up to 2099, if the calendar has it.
+// The days from 2000-01-01 to a date of the years 2000 to 2099. `None` if the calendar has no such date.
 pub fn days_of(year: u64, month: u64, day: u64) -> Option<u64>
     requires year { year < 1000000 }
     requires month { month < 1000000 }
@@ -62,7 +62,7 @@ pub fn days_of(year: u64, month: u64, day: u64) -> Option<u64>
     Some(first.until(date.to_plain()) as u64)
 }
 
-// The seconds from midnight, if a clock shows the time.
+// The seconds since midnight. `None` if a clock shows no such time.
 pub fn time_of(hour: u64, minute: u64, second: u64) -> Option<u64>
     requires hour { hour < 1000000 }
     requires minute { minute < 1000000 }
@@ -78,7 +78,7 @@ pub fn time_of(hour: u64, minute: u64, second: u64) -> Option<u64>
     }
 }
 
-// Year, month and day, that many days after 2000-01-01.
+// Year, month and day of the date that many days after 2000-01-01.
 pub fn day_after(days: u64) -> (u64, u64, u64)
     requires { days < 36525 }
     ensures date { is_date result.0 result.1 result.2 ≡ true }

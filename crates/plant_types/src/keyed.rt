@@ -4,23 +4,23 @@ ghost use Rattle.std.specs.Prelude.{◌≡◌};
 
 use std::cmp::Ordering;
 
-/// A row with a key. Keys have a total order, and only equal keys tie.
+/// A row with a key. Keys have a total order, in which two keys compare as equal only if they are the same.
 pub trait Keyed: Drop {
     ghost use Rattle.std.specs.declared.cmp.Ordering.{Ordering, TheVariants.{Equal}};
     ghost use Rattle.std.specs.Cmp.{IsTotalOrder};
 
-    /// What a row is found by.
+    /// The key by which a row is found.
     type Key;
 
     ghost order: { Self.Key → Self.Key → Ordering };
 
     ghost key: { Self → Self.Key };
 
-    /// How its key compares with this one.
+    /// Compares the row's key with this key.
     fn key_cmp(&self, other: &Self::Key) -> Ordering
         ensures { result ≡ order (key self.now) other.now };
 
-    /// How its key compares with another row's.
+    /// Compares the row's key with another row's.
     fn row_cmp(&self, other: &Self) -> Ordering
         ensures { result ≡ order (key self.now) (key other.now) };
 

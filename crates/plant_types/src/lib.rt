@@ -1,4 +1,5 @@
-//! Names, moments, lengths of time and roles.
+//! The types on which all other crates are built: names and other texts, moments, lengths of time, roles, lists,
+//! sorted rows, faults and the limits of the office.
 #![tactic(auto)]
 
 mod civil;

@@ -6,7 +6,7 @@ pub const MAX_GRANTS: usize = 500;
 /// The most alarms that a unit may have.
 pub const MAX_ALARMS: u64 = 2_000;
 
-/// The largest quota of shelves: as many as a unit may have alarms. It is the default of a unit's opening.
+/// The largest quota of shelves: as many as a unit may have alarms. It is the default when a unit is opened.
 pub const MAX_QUOTA: u64 = 2_000;
 
 /// The most changes of limits, matrices and records that may be proposed in a unit.
@@ -30,8 +30,8 @@ pub const MAX_HEAD: usize = 16_384;
 /// The longest body of a request, in bytes.
 pub const MAX_BODY: usize = 1_048_576;
 
-/// The most reads that a session makes of its stream.
+/// The most times that a session reads from its stream.
 pub const MAX_READS: u32 = 1_000_000;
 
-/// The most rows that are kept at hand, of all units.
+/// The most cached rows, of all units together.
 pub const MAX_ROWS_AT_HAND: u128 = 2_000_000;

@@ -31,7 +31,7 @@ impl<T: Drop> List<T> {
         }
     }
 
-    /// The empty list, with room for so many values.
+    /// The empty list, with room for `capacity` values.
     pub fn with_capacity(alloc: Global, capacity: usize) -> Result<Self, Fault>
         ensures none { IfOk result (λ list. list ≡ []) }
         ensures memory { OnlyMemory result }
@@ -109,8 +109,7 @@ impl<T: Drop> List<T> {
         }
     }
 
-    /// Puts a value in the place of the one that is there, counted from 0. Past the end
-    /// nothing changes.
+    /// Replaces the value at that place, counted from 0. Past the end nothing changes.
     pub fn replace_at(&mut self, place: usize, row: T)
         ensures { self.new ≡ slice_set self.old place row }
     {
@@ -119,7 +118,7 @@ impl<T: Drop> List<T> {
         }
     }
 
-    /// Takes out the value at that place, counted from 0. Past the end nothing changes.
+    /// Removes and returns the value at that place, counted from 0. Past the end nothing changes.
     pub fn remove_at(&mut self, place: usize) -> Option<T>
         ensures taken { result ≡ slice_get self.old place }
         ensures rest { self.new ≡ remove self.old place }

@@ -46,8 +46,8 @@ impl Role {
     }
 }
 
-/// A role, and until when it is given. A steward's has no end. Contracts see it as the pair of
-/// the two.
+/// A role and the moment at which it ends, if any. A steward's role has no end. Contracts see it
+/// as the pair of the two.
 #[derive(Clone, Copy, Debug, PartialEq, Eq)]
 pub struct Tenure {
     role: Role,
@@ -68,7 +68,7 @@ impl Model for Tenure {
 }
 
 impl Tenure {
-    /// The tenure, unless it is a steward's with an end.
+    /// The tenure. `None` for a steward's role with an end.
     pub fn new(role: Role, until: Option<Moment>) -> Option<Tenure>
         ensures { result ≡ (if is_tenure role until then Some (role, until) else None) }
     {

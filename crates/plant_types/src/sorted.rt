@@ -28,7 +28,7 @@ impl<T: Keyed> Model for Sorted<T> {
     ghost invariant = { λ s. IsInOrder T.order T.key s.rows };
 }
 
-/// Whether the rows stand in the order of their keys.
+/// Whether the rows are in the order of their keys.
 fn rise<T: Keyed>(rows: &[T]) -> bool
     ensures { IsTrue result ↔ IsInOrder T.order T.key rows.now }
 {
@@ -45,7 +45,7 @@ impl<T: Keyed> Sorted<T> {
         }
     }
 
-    /// The rows, if they stand in the order of their keys, else the list again.
+    /// The rows, if they are in the order of their keys. Otherwise the list is given back.
     pub fn from_list(list: List<T>) -> Result<Self, List<T>>
         ensures ok { IfOk result (λ s. s ≡ list) }
         ensures err { IfErr result (λ l. l ≡ list) }
@@ -58,7 +58,7 @@ impl<T: Keyed> Sorted<T> {
         }
     }
 
-    /// Rows that are known to stand in order. Nothing is tested.
+    /// Rows that are known to be in order. Nothing is checked at run time.
     pub fn of(list: List<T>) -> Self
         requires { IsInOrder T.order T.key list }
         ensures { result ≡ list }
@@ -89,7 +89,7 @@ impl<T: Keyed> Sorted<T> {
         self.rows.len()
     }
 
-    /// How many rows have a smaller key, found by halving.
+    /// How many rows have a smaller key, found by binary search.
     pub fn place(&self, key: &T::Key) -> usize
         ensures bound { result ≤ length self.now }
         ensures place { IsPlace T.order T.key key.now self.now result }
@@ -98,7 +98,7 @@ impl<T: Keyed> Sorted<T> {
         rows.partition_point(|row| row.key_cmp(key).is_lt())
     }
 
-    /// How many rows have a smaller key than this row: all, if the last has; else found by halving.
+    /// How many rows have a smaller key than this row: all, if the last row has; otherwise found by binary search.
     fn place_from(&self, row: &T) -> usize
         ensures bound { result ≤ length self.now }
         ensures place { IsPlace T.order T.key (T.key row.now) self.now result }
@@ -110,7 +110,7 @@ impl<T: Keyed> Sorted<T> {
         }
     }
 
-    /// The place of the row of the same key, or else the place where the row belongs.
+    /// `Ok` with the place of the row with the same key, or else `Err` with the place where this row belongs.
     fn place_for(&self, row: &T) -> Result<usize, usize>
         ensures { IsPlaceFor T.order T.key row.now self.now result }
     {
@@ -121,7 +121,7 @@ impl<T: Keyed> Sorted<T> {
         }
     }
 
-    /// The row of the key, which stands at the key's place if it is there.
+    /// The row with the key, if any: it is then at the key's place.
     fn row_at(&self, place: usize, key: &T::Key) -> Option<&T>
         requires { IsPlace T.order T.key key.now self.now place }
         ensures { option_copied result ≡ row_at T.order T.key key.now self.now }
@@ -132,14 +132,14 @@ impl<T: Keyed> Sorted<T> {
         }
     }
 
-    /// The row of the key.
+    /// The row with the key, if any.
     pub fn get(&self, key: &T::Key) -> Option<&T>
         ensures { option_copied result ≡ row_at T.order T.key key.now self.now }
     {
         self.row_at(self.place(key), key)
     }
 
-    /// How the key of the row at the place compares with this one; it is greater past the end.
+    /// How the key of the row at the place compares with this key. Past the end it is greater.
     fn cmp_at(&self, place: usize, key: &T::Key) -> Ordering
         ensures value { result ≡ cmp_at T.order T.key key.now self.now place }
         ensures order { IsInOrder T.order T.key self.now }
@@ -150,7 +150,7 @@ impl<T: Keyed> Sorted<T> {
         }
     }
 
-    /// The place of the row of the key, else a place where it does not stand, found by halving.
+    /// `Ok` with the place of the row with the key, or else `Err` with some place. Found by binary search.
     fn find(&self, key: &T::Key) -> Result<usize, usize>
         ensures { IsFound T.order T.key key.now self.now result }
     {
@@ -162,7 +162,8 @@ impl<T: Keyed> Sorted<T> {
         }
     }
 
-    /// What `find` gives, where the row at the place has a greater key or none is there. The row before it is looked at first.
+    /// As `find`, if the row at the place has a greater key or the place is past the end. Looks first at the row before
+    /// it.
     fn find_before(&self, place: usize, key: &T::Key) -> Result<usize, usize>
         requires order { IsInOrder T.order T.key self.now }
         requires place { cmp_at T.order T.key key.now self.now place ≡ Greater }
@@ -178,7 +179,7 @@ impl<T: Keyed> Sorted<T> {
         }
     }
 
-    /// What `find` gives, where the row at the place has a smaller key. The row behind it is looked at first.
+    /// As `find`, if the row at the place has a smaller key. Looks first at the row after it.
     fn find_behind(&self, place: usize, key: &T::Key) -> Result<usize, usize>
         ensures { IsFound T.order T.key key.now self.now result }
     {
@@ -190,7 +191,7 @@ impl<T: Keyed> Sorted<T> {
         }
     }
 
-    /// What `find` gives. The row at the place is looked at first, and then the one before or behind it.
+    /// As `find`. Looks first at the row at the place, and then at the one before or after it.
     fn find_near(&self, place: usize, key: &T::Key) -> Result<usize, usize>
         ensures { IsFound T.order T.key key.now self.now result }
     {
@@ -201,9 +202,11 @@ impl<T: Keyed> Sorted<T> {
         }
     }
 
-    /// The place of the row of the key, looked for first at the place that is next, and then at the one before or behind it.
-    /// Next becomes the place behind the row, stays at a row that was asked for again, and is the key's own place where no row
-    /// has it. So rows that are asked for one behind another, or again, are found without halving.
+    /// The place of the row with the key, if any. Looks first at the place `next`, and then at the one before or after
+    /// it.
+    /// Then `next` becomes the place after the row, or the row's own place if it lies before `next`; if no row has the
+    /// key,
+    /// the place where it belongs. So rows asked for one after another, or twice, are found without a binary search.
     pub fn place_next(&self, next: &mut usize, key: &T::Key) -> Option<usize>
         ensures { IsPlaceOf T.order T.key key.now self.now result }
     {
@@ -219,7 +222,7 @@ impl<T: Keyed> Sorted<T> {
         }
     }
 
-    /// The row of the key, looked for as `place_next` does.
+    /// The row with the key, if any, looked for as in `place_next`.
     pub fn get_next(&self, next: &mut usize, key: &T::Key) -> Option<&T>
         ensures { option_copied result ≡ row_at T.order T.key key.now self.now }
     {
@@ -227,7 +230,7 @@ impl<T: Keyed> Sorted<T> {
         self.as_slice().get(place)
     }
 
-    /// Whether there is a row of the key.
+    /// Whether some row has the key.
     pub fn has(&self, key: &T::Key) -> bool
         ensures { result ≡ is_some (row_at T.order T.key key.now self.now) }
     {
@@ -241,7 +244,7 @@ impl<T: Keyed> Sorted<T> {
         self.as_slice().last()
     }
 
-    /// The rows of smaller keys, and the others.
+    /// The rows with smaller keys, and the others.
     pub fn split(&self, key: &T::Key) -> (&[T], &[T])
         ensures below { result.0.now ≡ rows_below T.order T.key key.now self.now }
         ensures from { result.1.now ≡ rows_from T.order T.key key.now self.now }
@@ -249,7 +252,8 @@ impl<T: Keyed> Sorted<T> {
         self.as_slice().split_at(self.place(key))
     }
 
-    /// Puts a row over that of its key, else where it belongs. If memory runs out, the rows are unchanged.
+    /// Replaces the row with the same key, or else inserts the row where it belongs. If memory runs out, the rows are
+    /// unchanged.
     pub fn put(&mut self, row: T) -> Result<(), Fault>
         ensures ok { OnOk result (self.new ≡ put_row T.order T.key row self.old) }
         ensures err { OnErr result (self.new ≡ self.old) }
@@ -264,8 +268,9 @@ impl<T: Keyed> Sorted<T> {
         }
     }
 
-    /// Moves rows to the end that are known to come after all others, in order. Nothing is tested. If memory runs out, the
-    /// rows are unchanged.
+    /// Moves rows to the end. They are known to be in order and to come after all others; nothing is checked at run
+    /// time.
+    /// If memory runs out, the rows are unchanged.
     pub fn append(&mut self, more: List<T>) -> Result<(), Fault>
         requires { IsInOrder T.order T.key (self.old ++ more) }
         ensures ok { OnOk result (self.new ≡ self.old ++ more) }
@@ -275,7 +280,7 @@ impl<T: Keyed> Sorted<T> {
         self.rows.append(more)
     }
 
-    /// Takes out the row of the key.
+    /// Removes and returns the row with the key, if any.
     pub fn remove(&mut self, key: &T::Key) -> Option<T>
         ensures taken { result ≡ row_at T.order T.key key.now self.old }
         ensures rest { self.new ≡ remove_row T.order T.key key.now self.old }

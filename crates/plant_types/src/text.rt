@@ -16,24 +16,24 @@ use std::fmt;
 use std::hash::{Hash, Hasher};
 use std::marker::{Model, PhantomData};
 
-/// A set of bytes, and how many of them a text may have.
+/// A set of bytes, and the greatest length of a text of these bytes.
 pub trait Alphabet {
     ghost admits: { ℕ → Bool };
 
     ghost longest: { ℕ };
 
-    /// Whether the byte is of the set.
+    /// Whether the byte is in the set.
     fn admits_byte(byte: u8) -> bool
         ensures { result ≡ admits byte };
 
-    /// The length of the longest text.
+    /// The greatest length of a text, in bytes.
     fn longest_len() -> usize
         ensures { result ≡ longest };
 }
 
 /// A text of one set of bytes, neither empty nor too long. Contracts see it as its bytes, and
-/// texts are compared as their bytes are. One of up to 32 bytes, so each code, tag and name of a
-/// person, lies in place and needs no memory of its own.
+/// texts are compared as their bytes are. A text of up to 32 bytes, so each code, tag and name of a
+/// person, is stored in place and allocates nothing.
 #[derive(Drop)]
 pub struct Text<C: Alphabet> {
     bytes: SmallVec<u8, 32>,
@@ -52,8 +52,8 @@ impl<C: Alphabet> Model for Text<C> {
 }
 
 impl<C: Alphabet> Text<C> {
-    /// The text with these bytes. It is `Ok(None)` where there is no byte, where there are too
-    /// many, or where one is not of the set; that takes no memory.
+    /// The text with these bytes. `Ok(None)` if there is no byte, if there are too many, or if one
+    /// is not in the set; that takes no memory.
     pub fn read(alloc: Global, bytes: &[u8]) -> Result<Option<Text<C>>, Fault>
         ensures value { IfOk result (λ text. text ≡ text_of C.admits C.longest bytes.now) }
         ensures outside { text_of C.admits C.longest bytes.now ≡ None → result ≡ Ok None }
@@ -76,7 +76,7 @@ impl<C: Alphabet> Text<C> {
         self.bytes.as_slice()
     }
 
-    /// The same text again.
+    /// A copy of the text.
     pub fn copy(&self, alloc: Global) -> Result<Text<C>, Fault>
         ensures value { IfOk result (λ text. text ≡ self.now) }
         ensures err { OnlyMemory result }
@@ -239,7 +239,7 @@ impl Alphabet for PersonBytes {
     }
 }
 
-/// The bytes of words: those of ASCII that are printed, and the space.
+/// The bytes of words: printable ASCII, with the space.
 pub struct WordsBytes;
 
 impl Alphabet for WordsBytes {
@@ -268,6 +268,6 @@ pub type Tag = Text<TagBytes>;
 /// `.`, `-`.
 pub type Person = Text<PersonBytes>;
 
-/// What a person wrote, as a remark or a line of a record: 1 to 120 bytes of printed ASCII and
+/// What a person wrote, as a remark or a line of a record: 1 to 120 bytes of printable ASCII, with
 /// the space.
 pub type Words = Text<WordsBytes>;

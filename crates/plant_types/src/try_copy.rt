@@ -6,9 +6,9 @@ ghost use Rattle.plant_types.specs.Results.{OnlyMemory};
 use crate::{Alphabet, Fault, List, Text};
 use std::alloc::Global;
 
-/// Values that can be copied, if there is memory for it.
+/// Values that can be copied if memory suffices.
 pub trait TryCopy: Drop {
-    /// The same value again. An error is of memory alone.
+    /// A copy of the value. The only error is out of memory.
     fn copy(&self, alloc: Global) -> Result<Self, Fault>
         ensures value { IfOk result (λ x. x ≡ self.now) }
         ensures err { OnlyMemory result };
@@ -35,7 +35,7 @@ impl<T: TryCopy> TryCopy for List<T> {
     }
 }
 
-/// The list of the same values again.
+/// A list of copies of the values.
 pub fn copy_all<T: TryCopy>(alloc: Global, rows: &[T]) -> Result<List<T>, Fault>
     ensures value { IfOk result (λ t. t ≡ rows.now) }
     ensures err { OnlyMemory result }
