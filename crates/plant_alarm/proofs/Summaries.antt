@@ -29,7 +29,7 @@ had_reset es = list_any is_reset (after_first is_rtn (since_act es))
 abbrev state_by : Bool → Bool → Bool → Bool → Bool → AlarmState
 state_by latching active act ack reset = state_named active (latching && not active && act && not reset) (act && not ack)
 
--- how the words fit together
+-- how the tests of a state depend on each other
 record Fit (active act rtn reset : Bool) : Type 0 where
   had : active ≡ true → act ≡ true
   returned : act ≡ true → rtn ≡ not active
@@ -88,7 +88,7 @@ resets_state l k a h r s f = grind (arith, f.had, f.returned, f.first)
 keeps_state : (l k a h r s : Bool) → Fit a h r s → Keeps l k a h r s
 keeps_state l k a h r s f = grind (arith, f.had, f.returned, f.first)
 
--- how the words fit goes on
+-- the same after one more event
 fit_along : {a b c d a' b' c' d' : Bool} → a' ≡ a → b' ≡ b → c' ≡ c → d' ≡ d → Fit a b c d → Fit a' b' c' d'
 fit_along p q r s f = rw (p, q, r, s) f
 

@@ -8,33 +8,33 @@ ghost use Rattle.plant_alarm.specs.Shelves as shelves;
 
 use plant_types::{Moment, Seconds};
 
-/// What the last shelving or unshelving of an alarm left. It stays as it is when its time has
-/// passed: `shelf_at` says whether it still holds.
+/// What the last shelving or unshelving of an alarm left. It is not updated when its time has
+/// passed: `shelf_at` computes whether it still holds.
 #[derive(Clone, Copy, Debug, PartialEq, Eq)]
 pub enum Shelf {
     /// No shelf.
     Clear,
     /// A shelf for a time: `until` is the second, from 2000-01-01T00:00:00Z on, at which it ends.
     Timed { start: Moment, until: u64 },
-    /// A shelf until the alarm returns, but at most to the second `until`.
+    /// A shelf until the alarm returns to normal, but at most until the second `until`.
     OneShot { start: Moment, until: u64 },
 }
 
-/// What a shelf is at a moment, with the seconds that are left.
+/// The state of a shelf at a moment, with the seconds that are left.
 #[derive(Clone, Copy, Debug, PartialEq, Eq)]
 pub enum ShelfState {
-    /// It was never there, or has ended.
+    /// The alarm was never shelved, or its shelf has ended.
     Unshelved,
-    /// Shelved for a time, at least a second longer.
+    /// Shelved for a time. The seconds left are at least 1.
     TimedShelved(u64),
-    /// Shelved until the alarm returns, at most so much longer.
+    /// Shelved until the alarm returns to normal, but at most for this many seconds more.
     OneShotShelved(u64),
 }
 
-/// Why an alarm isn't shelved or unshelved.
+/// Why shelving or unshelving is refused.
 #[derive(Clone, Copy, Debug, PartialEq, Eq)]
 pub enum ShelfRefused {
-    /// The time is above the limit, which is given.
+    /// The time is above this limit.
     ShelvingTimeOutOfRange(Seconds),
     /// The alarm is shelved in this way already. A running timer is not reset.
     ConditionAlreadyShelved,
@@ -48,7 +48,7 @@ pub enum ShelfRefused {
 pub fn shelf_at(shelf: &Shelf, returned: Option<Moment>, now: Moment) -> ShelfState
     ensures state { result ≡ shelf_state shelf.now returned now }
 
-    // For an alarm's events and their last return it is what those events say.
+    // If `returned` is the last return of an alarm's events, the state is the one that these events define.
     ensures events { (es : List Event) → IsInTime es → returned ≡ last_return es
         → result ≡ shelf_of shelf.now es now }
 {
@@ -102,8 +102,8 @@ pub fn timed(
     }
 }
 
-/// Shelves until the alarm returns, but no longer than the limit `max`. Refused where the alarm has
-/// a one-shot shelf now. A shelf for a time is replaced.
+/// Shelves until the alarm returns to normal, but no longer than the limit `max`. Refused if the
+/// alarm has a one-shot shelf now. A shelf for a time is replaced.
 pub fn one_shot(
     shelf: &Shelf,
     returned: Option<Moment>,

@@ -1,4 +1,4 @@
--- What the last return says of the shelf is what the events say.
+-- The shelf by the last return is the shelf by the events.
 use Rattle.std.proofs.Common.{rules, ◌≡◌, ◌-◌, ◌∙◌}
 use Rattle.plant_alarm.specs.{Shelves.{shelf_state}, declared.shelf.ShelfState.TheVariants.{Unshelved, OneShotShelved}}
 use Rattle.plant_alarm.proofs.public.Returns.{shelf_by_events}
