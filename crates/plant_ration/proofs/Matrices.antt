@@ -97,7 +97,7 @@ there (x ∷ xs) (suc k) lt = there xs k (omega arith)
 wide_rows : (limits : List ℕ) (rows : List (List Cell)) → is_matrix limits rows ≡ true → list_all (λ row. length row == length limits + 1) rows ≡ true
 wide_rows limits rows h = grind arith
 
--- the cell is there where the row is
+-- if there is a row, it has the cell
 cell_in_row : (t : Grid) (row : Option (List Cell)) (k response : ℕ) → is_matrix t.limits t.cells ≡ true → slice_get t.cells k ≡ row
     → is_some (option_and_then (λ r. slice_get r (band t.limits response)) row) ≡ is_some row
 cell_in_row t None k response h e = refl

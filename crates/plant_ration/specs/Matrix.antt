@@ -18,7 +18,7 @@ rank N = 5
 abbrev pub no_lower : Cell → Cell → Bool
 no_lower a b = nat_le (rank a) (rank b)
 
--- each element and its neighbour pass
+-- each element passes together with the next one
 abbrev pub neighbours : {A : Type 0} → (A → A → Bool) → List A → Bool
 neighbours ok [] = true
 neighbours ok (x ∷ []) = true
@@ -34,7 +34,7 @@ has_shape limits rows =
 abbrev pub is_rising : List ℕ → Bool
 is_rising limits = neighbours nat_lt limits
 
--- no cell of the more severe row is lower than that beside it
+-- no cell of the more severe row is lower than the cell in the same band of the other row
 abbrev pub is_no_lower_row : List Cell → List Cell → Bool
 is_no_lower_row less more = list_all (λ e. no_lower e.1 e.0) (zip less more)
 
@@ -54,7 +54,7 @@ fault_of limits rows =
 abbrev pub is_matrix : List ℕ → List (List Cell) → Bool
 is_matrix limits rows = has_shape limits rows && is_rising limits && is_ordered rows
 
--- what is made: the matrix, or the fault
+-- the fault if any, else the matrix
 abbrev pub made_or : Option MatrixFault → List ℕ → List (List Cell) → Result Grid MatrixFault
 made_or None limits rows = Ok (record { limits = limits; cells = rows })
 made_or (Some fault) limits rows = Err fault
@@ -67,7 +67,7 @@ matrix_of limits rows = made_or (fault_of limits rows) limits rows
 abbrev pub band : List ℕ → ℕ → ℕ
 band limits response = unwrap_or (position (nat_lt response) limits) (length limits)
 
--- the severities that are rows, from 1
+-- whether the matrix has a row for the severity; severities count from 1
 abbrev pub is_row : Grid → ℕ → Bool
 is_row t severity = nat_le 1 severity && nat_le severity (length t.cells)
 

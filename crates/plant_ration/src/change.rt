@@ -8,13 +8,13 @@ use crate::Matrix;
 use plant_types::{Fault, Seconds, Tag, Words};
 use std::alloc::Global;
 
-/// What is recorded of an alarm: why it comes, what follows, what the operator does about it, and
-/// from which its priority comes.
+/// The rationalisation of an alarm: its cause, its consequence, the operator's action, and the
+/// severity and the time to respond that determine its priority.
 #[derive(Debug, Drop)]
 pub struct Sheet {
-    /// What makes the alarm come.
+    /// The cause of the alarm.
     pub cause: Words,
-    /// What follows where nobody acts.
+    /// The consequence if nobody acts.
     pub consequence: Words,
     /// The operator's corrective action.
     pub action: Words,
@@ -25,7 +25,7 @@ pub struct Sheet {
 }
 
 impl Sheet {
-    /// The same sheet again.
+    /// A copy of the sheet.
     pub fn copy(&self, alloc: Global) -> Result<Sheet, Fault>
         ensures value { IfOk result (λ sheet. sheet ≡ self.now) }
         ensures memory { OnlyMemory result }
@@ -52,7 +52,7 @@ pub enum ChangeKind {
 }
 
 impl ChangeKind {
-    /// The same change again.
+    /// A copy of the change.
     pub fn copy(&self, alloc: Global) -> Result<ChangeKind, Fault>
         ensures value { IfOk result (λ kind. kind ≡ self.now) }
         ensures memory { OnlyMemory result }
@@ -68,17 +68,17 @@ impl ChangeKind {
     }
 }
 
-/// A change that is proposed, with the revision of the thing that it was drawn up for.
+/// A proposed change, with the revision on which it is based.
 #[derive(Debug, Drop)]
 pub struct Proposal {
     /// The change.
     pub kind: ChangeKind,
-    /// The number of changes of that thing approved before it.
+    /// How many changes of the same record, matrix or limit were approved when it was drawn up.
     pub base: u32,
 }
 
 impl Proposal {
-    /// The same proposal again.
+    /// A copy of the proposal.
     pub fn copy(&self, alloc: Global) -> Result<Proposal, Fault>
         ensures value { IfOk result (λ proposal. proposal ≡ self.now) }
         ensures memory { OnlyMemory result }
@@ -90,15 +90,15 @@ impl Proposal {
     }
 }
 
-/// How far a change has come.
+/// The state of a change.
 #[derive(Clone, Copy, Debug, PartialEq, Eq)]
 pub enum ChangeState {
     /// Not decided yet.
     Proposed,
-    /// Approved by another person than its proposer, and in force until a later one is.
+    /// Approved by someone other than its proposer, and in force until a later one is approved.
     Approved,
-    /// Rejected by another person than its proposer.
+    /// Rejected by someone other than its proposer.
     Rejected,
-    /// Taken back by its proposer.
+    /// Withdrawn by its proposer.
     Withdrawn,
 }

@@ -10,11 +10,11 @@ use plant_types::{Fault, Seconds};
 use std::alloc::Global;
 use std::marker::Model;
 
-/// Which priority an alarm has, by the severity of its consequence and the time to respond.
+/// The priority of an alarm by the severity of its consequence and the time to respond.
 ///
-/// It has 1 to 5 rows of severity and 1 to 5 bands of time, which 0 to 4 limits in seconds divide;
+/// It has 1 to 5 rows of severity and 1 to 5 bands of time, divided by 0 to 4 limits in seconds;
 /// the last band has no end. From one row to the next more severe, and from one band to the next
-/// shorter, a cell stays or becomes higher. Contracts see a matrix as its limits and cells.
+/// shorter, the priority stays the same or becomes higher. Contracts see a matrix as its limits and cells.
 #[derive(Debug, Drop)]
 pub struct Matrix {
     limits: Vec<u64>,
@@ -33,7 +33,7 @@ impl Model for Matrix {
 }
 
 impl Matrix {
-    /// The matrix with these limits and cells, or the first fault that they have.
+    /// The matrix with these limits and cells, or their first fault.
     pub fn new(
         alloc: Global,
         limits: &[u64],
@@ -43,7 +43,7 @@ impl Matrix {
             ≡ matrix_of limits.now (map (λ row. row.items) cells.now)) }
         ensures err { OnlyMemory result }
 
-        // A fault is answered without memory.
+        // Reporting a fault takes no memory.
         ensures faulty { (fault : MatrixFault)
             → matrix_of limits.now (map (λ row. row.items) cells.now) ≡ Err fault
             → result ≡ Ok (Err fault) }
@@ -95,7 +95,7 @@ impl Matrix {
         &self.cells
     }
 
-    /// The same matrix again.
+    /// A copy of the matrix.
     pub fn copy(&self, alloc: Global) -> Result<Matrix, Fault>
         ensures value { IfOk result (λ matrix. matrix ≡ self.now) }
         ensures memory { OnlyMemory result }
