@@ -16,14 +16,14 @@ is_activation_of before e = is_activation (of_alarm e.tag before) e
 abbrev pub activations_of_all : List Event → List Event
 activations_of_all es = passing is_activation_of [] es
 
--- within the ten minutes from a moment on
+-- whether a moment lies in the ten minutes that begin at a second
 abbrev pub is_in_period : ℕ → ℕ → Bool
 is_in_period t m = nat_le t m && nat_lt m (t + 600)
 
 abbrev pub activations_from : List Event → ℕ → ℕ
 activations_from es t = count_by (λ e. is_in_period t e.moment) (activations_of_all es)
 
--- the counts of the whole periods of a range, one after another
+-- the number of activations in each whole period of a range, oldest period first
 abbrev pub period_counts : List Event → ℕ → ℕ → List ℕ
 period_counts es begin until =
     map (λ i. activations_from es (begin + 600 * i)) (range_with_len 0 ((until - begin) / 600))

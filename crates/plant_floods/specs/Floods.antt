@@ -3,7 +3,7 @@ use Rattle.std.specs.List.{list_all, slice_split}
 use Rattle.std.specs.Prelude.{ℕ, ◌+◌, Bool, false, ◌&&◌, ◌||◌, not, nat_lt, nat_le, List, [], ◌∷◌, ◌++◌, Option, Some, None, length, map, sum, fold, max, filter_map}
 use Rattle.plant_floods.specs.declared.run.Run.{Run}
 
--- of the periods so far the last is in a flood: some count is above 10, and it and each after it is at least 5
+-- the last of these periods is in a flood: some count is above 10, and from it on all counts are at least 5
 abbrev pub ends_in_flood : List ℕ → Bool
 ends_in_flood [] = false
 ends_in_flood (c ∷ counts) = (nat_lt 10 c && list_all (nat_le 5) (c ∷ counts)) || ends_in_flood counts
@@ -25,7 +25,7 @@ periods_after before (c ∷ counts) = period before c ∷ periods_after (before 
 abbrev pub periods : List ℕ → List Period
 periods counts = periods_after [] counts
 
--- a run of periods: its ends, and its counts' sum and greatest
+-- a run of periods: the first and the last of them, and the sum and the greatest of their counts
 abbrev pub run_of : List Period → Option Run
 run_of [] = None
 run_of (p ∷ ps) =
@@ -36,6 +36,6 @@ run_of (p ∷ ps) =
       peak = fold max 0 (map (λ q. q.count) (p ∷ ps));
     })
 
--- the floods, in order: the longest runs between periods that are in none
+-- the floods, in order: the longest runs of periods that are in a flood
 unfoldable pub floods : List ℕ → List Run
 floods counts = filter_map run_of (slice_split (λ p. not p.in_flood) (periods counts))

@@ -11,7 +11,7 @@ use crate::Run;
 use plant_types::Fault;
 use std::alloc::Global;
 
-/// The floods among periods of ten minutes, in order of time. The counts are the activations of each period.
+/// The floods in consecutive periods of ten minutes, oldest first. Each count is the number of activations in a period.
 pub fn floods(alloc: Global, counts: &[u32]) -> Result<Vec<Run>, Fault>
     ensures value { IfOk result (λ runs. runs.items ≡ floods_of.floods counts.now) }
     ensures err { OnlyMemory result }
@@ -27,7 +27,7 @@ pub fn floods(alloc: Global, counts: &[u32]) -> Result<Vec<Run>, Fault>
     Ok(runs)
 }
 
-/// Adds the run, if there is one.
+/// Appends the run, if any.
 fn push_some(runs: &mut Vec<Run>, current: Option<Run>) -> Result<(), Fault>
     ensures value { OnOk result (runs.new.items ≡ runs.old.items ++ option_to_list current) }
     ensures err { OnlyMemory result }
@@ -38,7 +38,7 @@ fn push_some(runs: &mut Vec<Run>, current: Option<Run>) -> Result<(), Fault>
     Ok(())
 }
 
-/// Closes the open run where none goes on.
+/// Appends the open run, if it does not go on.
 fn close(runs: &mut Vec<Run>, current: Option<Run>, next: &Option<Run>) -> Result<(), Fault>
     ensures value { OnOk result (runs.new.items ≡ next_runs runs.old.items current next.now) }
     ensures err { OnlyMemory result }
@@ -49,7 +49,8 @@ fn close(runs: &mut Vec<Run>, current: Option<Run>, next: &Option<Run>) -> Resul
     Ok(())
 }
 
-/// The open run after one more period: it goes on from 5 activations on, and one begins above 10.
+/// The open run after one more period. An open run goes on if the period has at least 5 activations; if no run is open,
+/// one begins if the period has more than 10.
 fn grown(current: Option<Run>, i: usize, count: u32) -> Option<Run>
     requires room { IfSome current (λ r. r.total ≤ 4294967295 * i) }
     ensures value { result ≡ pass.grown current i count }

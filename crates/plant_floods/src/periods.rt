@@ -1,4 +1,4 @@
-//! The activations of all alarms, from their events in rising number.
+//! The activations of all alarms, found in their events, and how many of them lie in each period of ten minutes.
 
 ghost use Rattle.std.specs.List.{range_with_len};
 ghost use Rattle.std.specs.Prelude.{◌≡◌, ◌≤◌, ◌<◌, ◌+◌, ◌-◌, ◌*◌, ◌/◌, ◌++◌, ◌∷◌, [], ℕ, List, IfOk, OnOk, count_by, if◌then◌else◌, length, map, nat_le, slice_index};
@@ -12,8 +12,8 @@ use plant_types::{Fault, List, Moment, Tag};
 use std::alloc::Global;
 use std::collections::BTreeSet;
 
-/// Whether the event is an activation, where `active` has the tags of the alarms that are active before it; it then has
-/// those that are active after it.
+/// Whether the event is an activation. Before the call `active` has the tags of the alarms that are active before the
+/// event, and afterwards those of the alarms that are active after it.
 fn is_activation(alloc: Global, active: &mut BTreeSet<Tag>, event: &Event) -> Result<bool, Fault>
     ensures value { (before : List TheEvent) → AreActive active.old before
         → IfOk result (λ b. b ≡ is_activation_of before event.now) }
@@ -38,7 +38,7 @@ fn is_activation(alloc: Global, active: &mut BTreeSet<Tag>, event: &Event) -> Re
     }
 }
 
-/// The moments of the activations of all alarms. The events stand in rising number.
+/// The moments of the activations of all alarms. The events are ordered by number.
 pub fn activations(alloc: Global, events: &[Event]) -> Result<List<Moment>, Fault>
     ensures value { IfOk result (λ moments. moments
         ≡ map (λ e. e.moment) (activations_of_all events.now)) }
@@ -54,7 +54,8 @@ pub fn activations(alloc: Global, events: &[Event]) -> Result<List<Moment>, Faul
     Ok(moments)
 }
 
-/// The number of the period of ten minutes in which the moment lies, counted from a second on.
+/// The number of the ten-minute period in which the moment lies, counted from 0. The first period begins at the second
+/// `start`; `None` for an earlier moment.
 fn period_of(start: u64, moment: Moment) -> Option<u64>
     ensures { result ≡ when (nat_le start moment) ((moment - start) / 600) }
 {
@@ -62,7 +63,7 @@ fn period_of(start: u64, moment: Moment) -> Option<u64>
     Some(after / 600)
 }
 
-/// Counts the moment in its period, if that is one of these.
+/// Adds 1 to the count of the moment's period, if that is one of the counted periods.
 fn count_in(counts: &mut Vec<u32>, start: u64, moment: Moment)
     ensures len { length counts.new.items ≡ length counts.old.items }
     ensures counted { (i : ℕ) → i < length counts.old.items
@@ -77,7 +78,8 @@ fn count_in(counts: &mut Vec<u32>, start: u64, moment: Moment)
     }
 }
 
-/// How many of the moments lie in each of some periods of ten minutes, the first of which begins at a second.
+/// How many of the moments lie in each of `periods` ten-minute periods, the first of which begins at the second
+/// `start`.
 fn counts_from(
     alloc: Global,
     moments: &[Moment],
@@ -96,8 +98,8 @@ fn counts_from(
     Ok(counts)
 }
 
-/// How many activations there are in each whole period of ten minutes of a range, one after another. The events stand
-/// in rising number.
+/// The number of activations in each whole ten-minute period of a range, oldest period first. The events are ordered by
+/// number.
 pub fn period_counts(
     alloc: Global,
     events: &[Event],
