@@ -35,7 +35,7 @@ abbrev pub first_cause : List (Bool × Cause) → Option Cause
 first_cause [] = None
 first_cause ((holds, cause) ∷ rest) = if holds then Some cause else first_cause rest
 
--- the fault of the k-th row, with the lowest number
+-- the fault of the k-th row, if any: the first of these
 unfoldable pub row_fault : ℕ → List (List ℕ) → Option Cause
 row_fault k fields =
     first_cause ((not (length fields == 4), FieldCount)

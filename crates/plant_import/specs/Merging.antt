@@ -7,7 +7,7 @@ use Rattle.plant_import.specs.{Fields.{first_cause}, Reading.{bad}, declared.bad
 use Rattle.plant_import.specs.declared.bad_file.Cause.TheVariants.{TagUnknown, MomentAhead, SequenceClash, MomentOutOfOrder}
 use Rattle.plant_import.specs.declared.merging.Merged.{Merged}
 
--- events in rising number, whose moments don't fall
+-- events ordered by number, whose moments do not fall
 abbrev pub IsRising : List Event → Type 0
 IsRising events = AllPairs (λ a b. (a.seq < b.seq) × (a.moment ≤ b.moment)) events
 
@@ -23,15 +23,15 @@ abbrev pub same_event : Event → Event → Bool
 same_event a b =
     (a.seq == b.seq) && (a.moment == b.moment) && same_name a.tag b.tag && (kind_no a.kind == kind_no b.kind)
 
--- the same number, and other content
+-- the same number, but other content
 abbrev pub clashes : Event → Event → Bool
 clashes a b = (a.seq == b.seq) && not (same_event a b)
 
--- one has the smaller number and the later moment
+-- one of the two has the smaller number and the later moment
 abbrev pub out_of_order : Event → Event → Bool
 out_of_order a b = (nat_lt a.seq b.seq && nat_lt b.moment a.moment) || (nat_lt b.seq a.seq && nat_lt a.moment b.moment)
 
--- the fault of a row, with the lowest number; others are the kept events and the earlier rows
+-- the fault of a row, if any: the first of these. `others` are the kept events and the earlier rows
 unfoldable pub merge_fault : List Name → ℕ → List Event → Event → Option Cause
 merge_fault tags now others e =
     first_cause ((not (list_any (same_name e.tag) tags), TagUnknown)
@@ -40,14 +40,14 @@ merge_fault tags now others e =
     ∷ (list_any (out_of_order e) others, MomentOutOfOrder)
     ∷ [])
 
--- the first fault of rows that begin on this line
+-- the first fault of rows, the first of which is on this line
 abbrev pub first_fault : List Name → ℕ → ℕ → List Event → List Event → Option BadFile
 first_fault tags now line others [] = None
 first_fault tags now line others (e ∷ rows) =
     or_else (option_map (bad line) (merge_fault tags now others e))
     (first_fault tags now (line + 1) (others ++ e ∷ []) rows)
 
--- a row that is none of these
+-- a row that is not one of these events
 abbrev pub is_new : List Event → Event → Bool
 is_new others e = not (list_any (same_event e) others)
 

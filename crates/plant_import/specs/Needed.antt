@@ -1,6 +1,6 @@
 -- The kept events that an import needs. A row's neighbours by number show whether it is faulty, and whether it is kept
--- already. An alarm's state can be brought forward from its last event, as long as no new row has a smaller number than
--- that event.
+-- already. An alarm's state can be continued from its last event, as long as no new row has a smaller number than that
+-- event.
 use Rattle.std.specs.List.{list_all, list_any}
 use Rattle.std.specs.Prelude.{Bool, List, None, [], drop, false, filter, if◌then◌else◌, length, nat_lt, not, ℕ, ◌&&◌, ◌++◌, ◌-◌, ◌≡◌}
 use Rattle.plant_alarm.specs.declared.event.Event.{Event}
@@ -11,7 +11,7 @@ use Rattle.plant_types.specs.Names.{Name, same_name}
 abbrev pub is_before_all : List Event → Event → Bool
 is_before_all rows k = list_all (λ e. nat_lt k.seq e.seq) rows
 
--- the events, in rising number, from the last one that comes before every row on; all where none does
+-- the events, ordered by number, from the last one that comes before every row; all of them if none does
 abbrev pub from_last_before : List Event → List Event → List Event
 from_last_before kept rows = drop (length (filter (is_before_all rows) kept) - 1) kept
 
@@ -26,7 +26,7 @@ is_late kept e = is_overtaken kept e && not (list_any (has_number e.seq) kept)
 abbrev pub has_late : List Event → List Event → Bool
 has_late kept rows = list_any (is_late kept) rows
 
--- all events where a row is late, since states are then computed again from all of them
+-- all events if a row is late, since states are then computed again from all of them
 abbrev pub needed : List Event → List Event → List Event
 needed kept rows = if has_late kept rows then kept else from_last_before kept rows
 

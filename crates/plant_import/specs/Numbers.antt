@@ -30,7 +30,7 @@ with_events kept more = fold (λ es e. put_row nat_cmp event_number e es) kept m
 abbrev pub AreNumbered : List Event → Type 0
 AreNumbered es = IsInOrder nat_cmp event_number es
 
--- the events with this one, in the place of the one with its number if there is one
+-- the events with this one, which replaces the one with its number, if any
 abbrev pub with_event : Event → List Event → List Event
 with_event e es = put_row nat_cmp event_number e es
 

@@ -3,7 +3,7 @@ use Rattle.std.specs.{BTreeMap.{BTreeMap, get}, List.{list_any}, Prelude.{List, 
 use Rattle.plant_alarm.specs.declared.event.Event.{Event}
 use Rattle.plant_types.specs.Names.{Name, name_cmp, same_name}
 
--- a number is below the last one of an alarm where it is below one of the alarm's events
+-- a number is below the last one of an alarm exactly if it is below that of one of the alarm's events
 abbrev pub AreReached : BTreeMap Name ℕ → List Event → Type 0
 AreReached lasts es =
     (a : Name) (n : ℕ)

@@ -26,7 +26,7 @@ below n es = filter (λ e. nat_lt e.seq n) es
 abbrev pub from : ℕ → List Event → List Event
 from n es = filter (λ e. not (nat_lt e.seq n)) es
 
--- it is the first of the events, or the last; none where there are none
+-- it is the first of the events, or the last; none if there are no events
 abbrev pub IsFirst : List Event → Option (Bor Event) → Type 0
 IsFirst es e = option_copied e ≡ slice_get es 0
 
@@ -43,7 +43,7 @@ JudgesRow tags now kept seen e (Err cause) = merge_fault tags now (kept ++ seen)
 JudgesRow tags now kept seen e (Ok new) = (merge_fault tags now (kept ++ seen) e ≡ None)
     × (is_new (kept ++ seen) e ≡ new)
 
--- what the relation to the kept events and to the earlier new rows comes to
+-- the relation to the kept events combined with that to the earlier new rows
 abbrev pub joined : Relation → Relation → Result Bool Cause
 joined Clash fresh = Err SequenceClash
 joined kept Clash = Err SequenceClash

@@ -1,23 +1,23 @@
 //! The reasons for which an import file is refused, and the line to which a reason applies.
 
-/// Why a row of a file is faulty. Where a row has several faults, the first of this order counts.
+/// Why a row of a file is faulty. If a row has several faults, the first in this order is reported.
 #[derive(Clone, Copy, Debug, PartialEq, Eq)]
 pub enum Cause {
-    /// The first record is not `seq,moment,tag,event`, or there is none.
+    /// The first record is not `seq,moment,tag,event`, or the file has no record.
     Header,
-    /// The row has not four fields.
+    /// The row does not have four fields.
     FieldCount,
     /// A field is not UTF-8.
     NotUtf8,
     /// The number is not 1 to 12 digits, or begins with 0.
     BadNumber,
-    /// The moment is none.
+    /// The second field is not a moment.
     BadMoment,
-    /// The tag is none.
+    /// The third field is not a tag.
     BadTag,
-    /// The event is not one of the six.
+    /// The event is not one of the six kinds.
     BadEvent,
-    /// The row is the 10,001st.
+    /// The row is the 10,001st: a file has at most 10,000.
     TooLong,
     /// The unit has no alarm of this tag.
     TagUnknown,

@@ -1,4 +1,5 @@
-//! Events by their numbers: how many of a file are new, and all events with those of a file.
+//! Events compared and merged by their numbers: how many numbers of a file are new, and the kept events with new
+//! ones added.
 
 ghost use Rattle.std.specs.List.{list_any};
 ghost use Rattle.std.specs.Prelude.{◌≡◌, ◌↔◌, ◌++◌, [], IfOk, IsTrue, List, OnOk, false, filter, length, option_map, slice_get, unwrap_or};
@@ -14,7 +15,7 @@ use plant_types::{Fault, List, Sorted, copy_all};
 use std::alloc::Global;
 use std::collections::BTreeMap;
 
-/// Whether the event at a place, if there is one, has this number.
+/// Whether the event at a place has this number. False past the end.
 fn is_at(events: &[Event], place: usize, number: Number) -> bool
     ensures { result ≡ unwrap_or
         (option_map (numbers.has_number number) (slice_get events.now place)) false }
@@ -61,7 +62,7 @@ pub fn count_new(alloc: Global, kept: &Sorted<Event>, file: &[Event]) -> Result<
     Ok(count_others(kept, rising.as_slice()))
 }
 
-/// Puts an event among others by their numbers, over the one of its number if any.
+/// Puts an event into a map by number. It replaces the event with the same number, if any.
 pub fn put(events: &mut BTreeMap<Number, Event>, event: Event) -> Result<(), Fault>
     ensures value { (es : List TheEvent) → AreByNumber events.old es
         → OnOk result (AreByNumber events.new (with_event event es)) }
@@ -71,7 +72,7 @@ pub fn put(events: &mut BTreeMap<Number, Event>, event: Event) -> Result<(), Fau
     Ok(())
 }
 
-/// The events by their numbers. Of two with the same number the last counts.
+/// The events in a map by number. Of events with the same number the last is kept.
 fn by_number(alloc: Global, events: List<Event>) -> Result<BTreeMap<Number, Event>, Fault>
     ensures value { IfOk result (λ rising. AreByNumber rising (with_events [] events)) }
     ensures err { OnlyMemory result }
@@ -83,7 +84,7 @@ fn by_number(alloc: Global, events: List<Event>) -> Result<BTreeMap<Number, Even
     Ok(rising)
 }
 
-/// The events in rising number; of two with the same number the last. Events that rise already stay as they stand.
+/// The events ordered by number, and of events with the same number the last. A list that is in order is kept as it is.
 pub fn in_rising_number(alloc: Global, events: List<Event>) -> Result<Sorted<Event>, Fault>
     ensures value { IfOk result (λ rising. rising ≡ with_events [] events) }
     ensures err { OnlyMemory result }
@@ -94,7 +95,7 @@ pub fn in_rising_number(alloc: Global, events: List<Event>) -> Result<Sorted<Eve
     }
 }
 
-/// The events in rising number, by a map.
+/// The events ordered by number, and of events with the same number the last, through a map.
 fn in_order(alloc: Global, events: List<Event>) -> Result<Sorted<Event>, Fault>
     ensures value { IfOk result (λ rising. rising ≡ with_events [] events) }
     ensures err { OnlyMemory result }
@@ -106,7 +107,7 @@ fn in_order(alloc: Global, events: List<Event>) -> Result<Sorted<Event>, Fault>
     Ok(Sorted::of(rising))
 }
 
-/// Adds copies of the events.
+/// Appends copies of the events.
 fn push_all(alloc: Global, all: &mut List<Event>, events: &[Event]) -> Result<(), Fault>
     ensures value { OnOk result (all.new ≡ all.old ++ events.now) }
     ensures err { OnlyMemory result }
@@ -117,7 +118,7 @@ fn push_all(alloc: Global, all: &mut List<Event>, events: &[Event]) -> Result<()
     Ok(())
 }
 
-/// The events without the first, where it has this number.
+/// The events, without the first if it has this number.
 fn without_first(events: &[Event], number: Number) -> &[Event]
     ensures { result.now ≡ numbers.behind_number number events.now }
 {
@@ -128,7 +129,7 @@ fn without_first(events: &[Event], number: Number) -> &[Event]
     }
 }
 
-/// The kept events and more as one list. Of two with the same number that of the second counts.
+/// The kept events and more, merged into one list. Of two events with the same number the one in `more` is kept.
 fn joined(alloc: Global, kept: &Sorted<Event>, more: &Sorted<Event>) -> Result<Sorted<Event>, Fault>
     ensures value { IfOk result (λ all. all ≡ with_events kept.now more.now) }
     ensures err { OnlyMemory result }
@@ -146,7 +147,7 @@ fn joined(alloc: Global, kept: &Sorted<Event>, more: &Sorted<Event>) -> Result<S
     Ok(Sorted::of(all))
 }
 
-/// The kept events and more of them, in any order, in rising number.
+/// The kept events together with more, which may be in any order. The result is ordered by number.
 pub fn events_after(
     alloc: Global,
     kept: &Sorted<Event>,
@@ -162,8 +163,8 @@ pub fn events_after(
     joined(alloc, kept, &rising)
 }
 
-/// Puts events, in any order, among the kept ones. Its time is that of the new events where these rise and come after
-/// all others, else that of going over the kept events once.
+/// Adds events, in any order, to the kept ones. If the new events are in order and come after all kept ones, the kept
+/// ones are not touched; otherwise each of them is copied once.
 pub fn put_events(alloc: Global, kept: &mut Sorted<Event>, more: List<Event>) -> Result<(), Fault>
     ensures value { OnOk result (kept.new ≡ with_events kept.old more) }
     ensures err { OnlyMemory result }

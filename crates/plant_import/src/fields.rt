@@ -6,7 +6,7 @@ ghost use Rattle.plant_import.specs.Fields as fields;
 
 use plant_alarm::{EventKind, Number};
 
-/// The number that a field is: one to twelve digits, the first not 0.
+/// The number in a field: one to twelve digits, the first not 0.
 pub fn number_of(field: &[u8]) -> Option<Number>
     ensures { result ≡ fields.event_number_of field.now }
 {

@@ -1,4 +1,4 @@
-//! Import files: their rows or first fault, and what they add to the events that are kept.
+//! Import files: reading their rows or first fault, and what they add to the kept events.
 #![tactic(auto)]
 
 mod bad_file;

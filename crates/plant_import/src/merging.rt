@@ -22,12 +22,12 @@ use std::collections::BTreeMap;
 pub struct Merged {
     /// The rows that are not kept yet, each once, in the file's order.
     pub fresh: List<Event>,
-    /// How many rows are kept already, or stand on an earlier line too.
+    /// How many rows are kept already or repeat an earlier line.
     pub repeated: u64,
 }
 
-/// What a file adds to the kept events of alarms, whose moments don't fall, or its first faulty row with the first cause
-/// of that row.
+/// What a file adds to the kept events, whose moments do not fall, or its first faulty row with the first cause of that
+/// row.
 pub fn merge<T: Keyed<Key = Tag>>(
     alloc: Global,
     kept: &Sorted<Event>,
@@ -66,7 +66,7 @@ pub fn merge<T: Keyed<Key = Tag>>(
     Ok(Ok(Merged { fresh, repeated }))
 }
 
-/// An empty tree for the new rows of a file, or none where the file's numbers rise.
+/// An empty tree for the new rows of a file. `None` if the file's numbers rise: its rows then need no tree.
 fn tree_for(alloc: Global, file: &[Event]) -> Option<BTreeMap<Number, Event>>
     ensures { MatchOption result (AreNumbered file.now) (λ m. AreByNumber m []) }
 {
@@ -77,7 +77,7 @@ fn tree_for(alloc: Global, file: &[Event]) -> Option<BTreeMap<Number, Event>>
     }
 }
 
-/// The nearest to a row's number of the new rows before it. Where no tree has these, all are below it.
+/// Of the new rows before a row, the ones nearest to it by number. Without a tree, all of them have smaller numbers.
 fn nearest_new<'a>(
     fresh: &'a [Event],
     rising: &'a Option<BTreeMap<Number, Event>>,
@@ -97,7 +97,7 @@ fn nearest_new<'a>(
     }
 }
 
-/// Adds a new row to those in the file's order and, where there is a tree, to those by their numbers.
+/// Adds a new row to the list in the file's order and, if there is a tree, to the tree.
 fn add(
     alloc: Global,
     fresh: &mut List<Event>,
@@ -118,8 +118,9 @@ fn add(
     Ok(())
 }
 
-/// Whether a row is new beside the kept events and the earlier rows that were new, of which these are the nearest,
-/// or its first fault. Its alarm is known or not.
+/// Whether a row is new, or its first fault. It is compared with the kept events and with the earlier new rows, of
+/// which
+/// `nearest` are the ones nearest to it by number. `is_known` is whether the unit has the row's alarm.
 #[tactic(auto, unfolding(crate::specs::Merging::merge_fault))]
 fn judged(
     kept: &Sorted<Event>,
@@ -144,7 +145,7 @@ fn judged(
     )
 }
 
-/// What a row's relation to the kept events and to the earlier new rows comes to.
+/// Combines a row's relation to the kept events with its relation to the earlier new rows.
 fn joined(kept: Relation, fresh: Relation) -> Result<bool, Cause>
     ensures { result ≡ relation.joined kept fresh }
 {

@@ -1,4 +1,5 @@
-//! The kept events that an import needs.
+//! Which kept events an import needs: all of them, if a row comes late for its alarm; otherwise only those from the
+//! last one that comes before all its rows.
 
 ghost use Rattle.std.specs.Prelude.{◌≡◌, ◌≤◌, ◌&&◌, IfOk, List, filter, length, nat_lt, option_map, true, unwrap_or};
 ghost use Rattle.plant_alarm.specs.declared.event.Event.{Event as TheEvent};
@@ -12,7 +13,7 @@ use plant_types::{Fault, Sorted, Tag};
 use std::alloc::Global;
 use std::collections::BTreeMap;
 
-/// The least number of the rows.
+/// The least number of the rows. `None` without rows.
 fn least_number(rows: &[Event]) -> Option<Number>
     ensures { (k : TheEvent) → needs.is_before_all rows.now k
         ≡ unwrap_or (option_map (λ least. nat_lt k.seq least) result) true }
@@ -27,7 +28,7 @@ fn least_number(rows: &[Event]) -> Option<Number>
     least
 }
 
-/// How many of the kept events come before every row.
+/// How many kept events have a smaller number than every row.
 pub fn count_before(kept: &Sorted<Event>, rows: &[Event]) -> usize
     ensures bound { result ≤ length kept.now }
     ensures value { result ≡ length (filter (needs.is_before_all rows.now) kept.now) }
@@ -38,7 +39,7 @@ pub fn count_before(kept: &Sorted<Event>, rows: &[Event]) -> usize
     }
 }
 
-/// The kept events from the last before every row on.
+/// The kept events from the last one that comes before every row. If none does, all of them.
 fn from_last_before<'a>(kept: &'a Sorted<Event>, rows: &[Event]) -> &'a [Event]
     ensures value { result.now ≡ needs.from_last_before kept.now rows.now }
     ensures order { AreNumbered result.now }
@@ -78,7 +79,7 @@ fn is_overtaken(lasts: &BTreeMap<Tag, Number>, event: &Event) -> bool
     }
 }
 
-/// Whether the row's number is new, and an alarm's last number greater.
+/// Whether the row's number is new and smaller than the last number of its alarm.
 fn is_late(lasts: &BTreeMap<Tag, Number>, kept: &Sorted<Event>, row: &Event) -> bool
     ensures { (near : List TheEvent) → AreReached lasts.now near
         → result ≡ (needs.is_overtaken near row.now && is_other kept.now row.now) }
@@ -86,13 +87,13 @@ fn is_late(lasts: &BTreeMap<Tag, Number>, kept: &Sorted<Event>, row: &Event) -> 
     is_overtaken(lasts, row) && !has_number(kept, row.seq)
 }
 
-/// Whether a row has a new number, and a kept event of its alarm a greater one.
+/// Whether some row has a new number while a kept event of its alarm has a greater one.
 #[tactic(auto, using(crate::proofs::public::NeededLaws::near_late, std::proofs::lemmas::List::take_all))]
 pub fn has_late(alloc: Global, kept: &Sorted<Event>, rows: &[Event]) -> Result<bool, Fault>
     ensures value { IfOk result (λ late. late ≡ needs.has_late kept.now rows.now) }
     ensures err { OnlyMemory result }
 {
-    // Gives the proof the order of the events; tests nothing.
+    // Gives the proof the order of the events; checks nothing at run time.
     let _events = kept.as_slice();
     if count_before(kept, rows) == kept.len() {
         return Ok(false);
@@ -106,8 +107,8 @@ pub fn has_late(alloc: Global, kept: &Sorted<Event>, rows: &[Event]) -> Result<b
     Ok(false)
 }
 
-/// The kept events that a file of these rows is seen beside: all, where a row comes late, else those from the last
-/// before every row on.
+/// The kept events that are needed to import these rows: all, if a row comes late; otherwise those from the last one
+/// that comes before every row.
 pub fn needed<'a>(
     alloc: Global,
     kept: &'a Sorted<Event>,

@@ -16,7 +16,7 @@ use plant_types::limits::MAX_FILE_ROWS;
 use plant_types::{Fault, List, Moment, Tag};
 use std::alloc::Global;
 
-/// The bytes of the shortest row, with the end of its line.
+/// The length of the shortest row in bytes, with the end of its line.
 const SHORTEST_ROW: usize = 29;
 
 /// The rows of a file, or its first fault.
@@ -25,7 +25,7 @@ pub type FileRead = Result<List<Event>, BadFile>;
 /// The events of a file, or its first faulty line with the first cause of that line.
 ///
 /// A file is comma-separated values, after one byte order mark if it has one. Its first record is
-/// `seq,moment,tag,event`, and at most 10,000 rows follow. Blank lines count for nothing.
+/// `seq,moment,tag,event`, and at most 10,000 rows follow. Blank lines are ignored.
 pub fn read_file(alloc: Global, bytes: &[u8]) -> Result<FileRead, Fault>
     ensures value { IfOk result (λ read. read ≡ file_read bytes.now) }
     ensures err { OnlyMemory result }
@@ -45,7 +45,7 @@ pub fn read_file(alloc: Global, bytes: &[u8]) -> Result<FileRead, Fault>
     read_rows(alloc, reader, most_rows(bytes))
 }
 
-/// How many rows are read of a file at most.
+/// For how many rows room is made at first: as many as bytes of this number can hold, and at most `MAX_FILE_ROWS`.
 fn most_rows(bytes: &[u8]) -> usize {
     (bytes.len() / SHORTEST_ROW).min(MAX_FILE_ROWS as usize)
 }
@@ -60,8 +60,9 @@ fn is_header(row: &ByteRecord) -> bool
         && field(row, 3) == b"event".as_slice()
 }
 
-/// The events of the rows below the header, for so many of which there is room at first, or their first fault. It reads no
-/// further than that.
+/// The events of the rows below the header, or their first fault, where reading stops. Room for `capacity` events is
+/// made
+/// at first.
 fn read_rows(alloc: Global, mut reader: Reader<&[u8]>, capacity: usize) -> Result<FileRead, Fault>
     ensures value { IfOk result (λ read. (text : List ℕ) → (header : List (List ℕ))
         → HasRead reader.entry text (header ∷ []) → AreRowsRead text header read) }
@@ -85,7 +86,7 @@ fn read_rows(alloc: Global, mut reader: Reader<&[u8]>, capacity: usize) -> Resul
     Ok(Ok(events))
 }
 
-/// The event of the row at a place from 1, or its first fault.
+/// The event of a row, or the row's first fault. `place` is the row's number, counted from 1.
 #[tactic(auto, unfolding(crate::specs::Fields::row_fault, crate::specs::Fields::event_in))]
 fn read_row(alloc: Global, place: u64, row: &ByteRecord) -> Result<Result<Event, Cause>, Fault>
     ensures value { IfOk result (λ read. read ≡ row_read place (fields_of row.now)) }

@@ -10,7 +10,7 @@ use csv::{ByteRecord, Reader, ReaderBuilder};
 use plant_types::Fault;
 use std::alloc::Global;
 
-/// A reader of a file's records, of any lengths, after a byte order mark.
+/// A reader of a file's records, which may have any number of fields. It skips a byte order mark at the start.
 pub fn reader_of(alloc: Global, bytes: &[u8]) -> Reader<&[u8]>
     ensures { HasRead result bytes.now [] }
 {
@@ -20,7 +20,7 @@ pub fn reader_of(alloc: Global, bytes: &[u8]) -> Reader<&[u8]>
         .from_reader(alloc, bytes)
 }
 
-/// Reads the next record, if any.
+/// Reads the next record into `row`. False if there are no more.
 pub fn next_record(reader: &mut Reader<&[u8]>, row: &mut ByteRecord) -> Result<bool, Fault>
     ensures value { IfOk result (λ found. (text : List ℕ) → (rows : List (List (List ℕ)))
         → HasRead reader.old text rows

@@ -11,17 +11,17 @@ use plant_alarm::{Event, Number};
 use plant_types::Sorted;
 use std::collections::BTreeMap;
 
-/// How an event relates to events in rising number.
+/// How an event relates to other events, which are ordered by number.
 #[derive(Clone, Copy)]
 pub enum Relation {
-    /// None has its number, and it may stand among them.
+    /// No other event has its number, and its moment is in order.
     New,
     /// It is one of them.
     Known,
-    /// One has its number and other content.
+    /// One has its number but other content.
     Clash,
-    /// None has its number. One has a smaller number and a later moment, or a greater number and an
-    /// earlier moment.
+    /// No other event has its number. One has a smaller number and a later moment, or a greater number and
+    /// an earlier moment.
     OutOfOrder,
 }
 
@@ -34,7 +34,7 @@ pub struct Nearest<'a> {
     pub from: Option<&'a Event>,
 }
 
-/// The nearest to a number of events.
+/// The events that are nearest to a number.
 pub fn nearest_among<'a>(events: &'a Sorted<Event>, seq: Number) -> Nearest<'a>
     ensures { AreNearest events.now seq result }
 {
@@ -45,7 +45,7 @@ pub fn nearest_among<'a>(events: &'a Sorted<Event>, seq: Number) -> Nearest<'a>
     }
 }
 
-/// The nearest to a number of events by their numbers.
+/// The events in a map that are nearest to a number.
 pub fn nearest_by_number<'a>(events: &'a BTreeMap<Number, Event>, seq: Number) -> Nearest<'a>
     ensures { (es : List TheEvent) → AreByNumber events.now es → AreNearest es seq result }
 {
@@ -75,8 +75,8 @@ fn first_from(events: &BTreeMap<Number, Event>, seq: Number) -> Option<&Event>
     }
 }
 
-/// How an event relates to events in rising number whose moments don't fall, of which these are the nearest to its
-/// number.
+/// How an event relates to other events, of which `nearest` are the ones nearest to its number. The other events are
+/// ordered by number, and their moments do not fall.
 pub fn relation_of(nearest: Nearest<'_>, event: &Event) -> Relation
     ensures { (es : List TheEvent) → IsRising es → AreNearest es event.now.seq nearest.entry
         → IsRelated es event.now result }
@@ -99,7 +99,7 @@ pub fn relation_of(nearest: Nearest<'_>, event: &Event) -> Relation
     }
 }
 
-/// How many of the events, which stand in rising number, have a smaller number.
+/// How many events have a smaller number. The events are ordered by number.
 pub fn place_of(events: &[Event], seq: Number) -> usize
     ensures bound { result ≤ length events.now }
     ensures place { AreNumbered events.now
@@ -108,7 +108,7 @@ pub fn place_of(events: &[Event], seq: Number) -> usize
     events.partition_point(|event| event.seq < seq)
 }
 
-/// Whether an event is earlier than the last of others, and so than one of them.
+/// Whether an event is earlier than the last of some other events, and so than at least one of them.
 #[tactic(auto, using(crate::proofs::public::Risings::last_none))]
 fn is_before_last(event: &Event, last: Option<&Event>) -> bool
     ensures { (es : List TheEvent) → IsRising es → IsLast es last.entry
@@ -120,7 +120,7 @@ fn is_before_last(event: &Event, last: Option<&Event>) -> bool
     }
 }
 
-/// Whether an event is later than the first of others, and so than one of them.
+/// Whether an event is later than the first of some other events, and so than at least one of them.
 #[tactic(auto, using(crate::proofs::public::Risings::first_none))]
 fn is_after_first(event: &Event, first: Option<&Event>) -> bool
     ensures { (es : List TheEvent) → IsRising es → IsFirst es first.entry

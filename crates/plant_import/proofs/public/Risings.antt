@@ -1,4 +1,4 @@
--- Events in rising number, whose moments don't fall: as a list that is gone through, its parts, and what they are next to one more.
+-- Events ordered by number, whose moments do not fall: as a list, its parts, and how they relate to one more event.
 use Rattle.std.specs.List.{list_any}
 use Rattle.std.proofs.{lemmas.{Bool.{lt-ltb, ltb-true}, List.{take_all, take_more}, Option.{slice_get-get_or}}, Math.Bool.{or-false}}
 use Rattle.std.proofs.Common.{◌≡◌, ℕ, ◌-◌, ◌<◌, ◌≤◌, refl, sym, ap, ◌∙◌, subst, arith, List, [], ◌∷◌, ◌++◌, length, take, drop, true, Some, None, nat_lt, slice_get, nat_cmp}
