@@ -10,7 +10,7 @@ abbrev pub limit_by : Name → Option Registration → Option ℕ → Option ℕ
 limit_by a (Some x) by_change = when (same_name a x.tag) x.max
 limit_by a None by_change = by_change
 
--- what an entry says of an alarm's limit: a registration, or the approval of a change of it
+-- what an entry states about an alarm's limit: it registers the alarm, or approves a change of its limit
 abbrev pub said_of_limit : Name → List Call → Request → Option ℕ
 said_of_limit a before r = limit_by a (says r).registration (approved_limit a before r)
 
@@ -19,7 +19,7 @@ said_of_limit a before r = limit_by a (says r).registration (approved_limit a be
 abbrev pub limit : List Call → Name → Option ℕ
 limit h a = latest (λ c before. said_of_limit a before c.request) h
 
--- whether a registration makes the alarm a latching one: nothing where it is of another alarm
+-- whether a registration makes the alarm a latching one; none if it registers another alarm
 abbrev pub latching_by : Name → Option Registration → Option Bool
 latching_by a None = None
 latching_by a (Some x) = when (same_name a x.tag) x.latching

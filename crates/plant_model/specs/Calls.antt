@@ -1,4 +1,6 @@
--- What a unit answers to each call: its refusals in their order and its reply, with one line a kind in each table.
+-- What a unit answers to each call: its refusals in their order, and its reply. Each table has one line for each kind
+-- of
+-- call.
 use Rattle.std.specs.Prelude.{Bool, List, None, Option, Some, [], is_none, is_some, nat_le, nat_lt, not, ℕ, ◌&&◌, ◌++◌, ◌+◌, ◌∷◌}
 use Rattle.plant_alarm.specs.Shelves.{is_one_shot, is_timed, is_unshelved}
 use Rattle.plant_model.specs.{Events.{flood_lines, is_aligned, rows_of_file}, Facts.{Facts, is_out, limit_of, shelf_now}}
@@ -14,8 +16,8 @@ use Rattle.plant_model.specs.declared.reply.Reply.TheVariants.{Alarms as AlarmsO
 use Rattle.plant_types.specs.{Limits.{max_alarms, max_changes, max_grants}, Names.{Name, same_name}, Roles.{same_role}}
 use Rattle.plant_types.specs.declared.role.Role.TheVariants.{Steward}
 
--- the refusals of a request of this person at this moment, beside those of a caller without the role and of a moment
--- before the last one
+-- the refusals of a request of this person at this moment, apart from those for a caller without the role and for a
+-- moment before the last one
 abbrev pub own_refusals : Facts → Name → ℕ → Request → List (Bool × Refused)
 own_refusals f p t (Grant u q r) =
     (nat_le max_grants f.pairs, UnitFull TooManyGrants) ∷ (f.held t (q, r.0), AlreadyHeld)
@@ -55,7 +57,7 @@ abbrev pub record_reply : Option RecordRow → Reply
 record_reply None = Done
 record_reply (Some r) = RecordReply r
 
--- the reply to it, where it is accepted
+-- the reply to a request that is accepted
 abbrev pub reply : Facts → ℕ → Request → Reply
 reply f t (Import u file) = import_reply f.events (rows_of_file file)
 reply f t (Propose u x) = Number (f.change_count + 1)

@@ -27,24 +27,24 @@ is_proposal r = is_some (says r).proposal
 abbrev pub proposals : List Call → ℕ
 proposals h = counted (λ c before. is_proposal c.request) h
 
--- the change of a number, where this proposal is the one of that number
+-- the change with a number, if this proposal is the one with that number
 abbrev pub draft_by : ℕ → Name → ℕ → List Call → Option Proposal → Option Draft
 draft_by n p t before None = None
 draft_by n p t before (Some x) =
     when (same_number n (proposals before + 1)) (record { proposer = p; proposed = t; kind = x.kind; base = x.base })
 
--- what an entry says of the change of a number: that it is proposed
+-- what an entry states about the proposal of the change with a number
 abbrev pub said_of_draft : ℕ → Name → ℕ → List Call → Request → Option Draft
 said_of_draft n p t before r = draft_by n p t before (says r).proposal
 
--- the change of a number as it was proposed
+-- the change with a number as it was proposed
 abbrev pub draft : List Call → ℕ → Option Draft
 draft h n = latest (λ c before. said_of_draft n c.person c.moment before c.request) h
 
 abbrev pub decision_as : Name → ℕ → ℕ × ChangeState → ℕ × Decision
 decision_as p t e = (e.0, record { state = e.1; decider = p; decided = t })
 
--- that the change of a number is withdrawn, approved or rejected
+-- what an entry states about the decision on the change with a number: withdrawn, approved or rejected
 abbrev pub said_of_decision : ℕ → Name → ℕ → Request → Option Decision
 said_of_decision n p t r = of_key same_number n (option_map (decision_as p t) (says r).decision)
 
@@ -55,7 +55,7 @@ abbrev pub state_after : Option Decision → ChangeState
 state_after None = Proposed
 state_after (Some d) = d.state
 
--- the change of a number, with its state
+-- the change with a number, with its state
 abbrev pub change_as : ℕ → Option Decision → Draft → ChangeRow
 change_as n decided d =
     record {
@@ -72,11 +72,11 @@ change_as n decided d =
 abbrev pub change : List Call → ℕ → Option ChangeRow
 change h n = option_map (change_as n (decision h n)) (draft h n)
 
--- the content of the change of a number
+-- the content of the change with a number
 abbrev pub kind_of_change : List Call → ℕ → Option ChangeKind
 kind_of_change h n = option_map (λ d. d.kind) (draft h n)
 
--- what a change is of: a matrix, an alarm's record, an alarm's limit
+-- what a change changes: a matrix, an alarm's record, or an alarm's limit
 abbrev pub matrix_of_kind : ChangeKind → Option Grid
 matrix_of_kind (Rationale b s) = None
 matrix_of_kind (Matrix m) = Some m
@@ -127,7 +127,7 @@ abbrev pub matrix_by : Option Opening → Option (ℕ × Grid) → Option (ℕ �
 matrix_by (Some o) by_change = Some (0, o.matrix)
 matrix_by None by_change = by_change
 
--- what an entry says of the matrix: that of an opening has number 0, an approved one that of its change
+-- the matrix that an entry puts into force: that of an opening has number 0, an approved one the number of its change
 abbrev pub said_of_matrix : List Call → Request → Option (ℕ × Grid)
 said_of_matrix before r = matrix_by (says r).opening (approved_matrix before r)
 
@@ -142,7 +142,7 @@ matrix h = unwrap_or (latest (λ c before. said_of_matrix before c.request) h) n
 abbrev pub sheet : List Call → Name → Option (ℕ × Sheet)
 sheet h a = latest (λ c before. approved_sheet a before c.request) h
 
--- revisions: how many changes of the thing were approved
+-- revisions: how many changes of the matrix, of an alarm's record or of an alarm's limit were approved
 abbrev pub matrix_revision : List Call → ℕ
 matrix_revision h = counted (λ c before. is_some (approved_matrix before c.request)) h
 

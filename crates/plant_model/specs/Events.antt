@@ -1,4 +1,5 @@
--- The events of a unit: the rows of all its imports, each number once, as the numbers rise. Arrival plays no part.
+-- The events of a unit: the rows of all its imports, ordered by number, each number once. The order of arrival plays no
+-- part.
 use Rattle.std.specs.Ordering.{nat_cmp}
 use Rattle.std.specs.Prelude.{find, Bool, List, None, Option, Result, Some, [], filter_map, map, nat_le, nat_lt, ℕ, ◌%◌, ◌&&◌, ◌*◌, ◌+◌, ◌-◌, ◌==◌}
 use Rattle.plant_import.specs.{Numbers.{has_number, numbers_of}, declared.bad_file.BadFile.{BadFile}}
@@ -17,18 +18,18 @@ imported_rows (Some file) = rows_of_file file
 abbrev pub imported : Request → List Event
 imported r = imported_rows (says r).file
 
--- the event of a number, where some import has it
+-- the event with a number, if some import has it
 abbrev pub event_numbered : List Call → ℕ → Option Event
 event_numbered h n = latest (λ c before. find (has_number n) (imported c.request)) h
 
 abbrev pub events : List Call → List Event
 events h = filter_map (event_numbered h) (in_order nat_cmp (all_named (λ c before. numbers_of (imported c.request)) h))
 
--- those of one alarm
+-- the events of one alarm
 abbrev pub events_of : List Call → Name → List Event
 events_of h a = of_alarm a (events h)
 
--- a range of whole periods of ten minutes, from 1 to 1,008 of them: a week
+-- a range of 1 to 1,008 whole periods of ten minutes, which is up to a week
 abbrev pub is_aligned : ℕ → ℕ → Bool
 is_aligned begin until =
     (begin % 600 == 0) && (until % 600 == 0) && nat_lt begin until && nat_le (until - begin) max_flood_seconds

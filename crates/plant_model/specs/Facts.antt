@@ -1,4 +1,4 @@
--- What a verdict looks at, of a unit.
+-- The facts about a unit at which a verdict looks.
 use Rattle.std.specs.Prelude.{Bool, List, Option, Some, count_by, false, is_some, length, not, option_and_then, option_map, unwrap_or, ℕ, ◌&&◌}
 use Rattle.plant_model.specs.{Changes.{proposals, record_of, record_revision, matrix, change}, Events.{events}, Grants.{held, stands}}
 use Rattle.plant_model.specs.Rows.{records_of, revision_of_limit, alarm_row, alarm_rows, grant_rows, shelf_rows, unit_row}
@@ -11,7 +11,7 @@ use Rattle.plant_types.specs.{Names.{Name, same_name}, Roles.{Pair, same_role}, 
 pub record Facts : Type 0 where
   -- its last moment, the matrix in force and the quota
   pub unit : UnitRow
-  -- whether a grant of a role to a person stands, its end past or not; whether the role is held at a moment
+  -- whether a grant of a role to a person stands, ended or not; whether the role is held at a moment
   pub stands : Pair → Bool
   pub held : ℕ → Pair → Bool
   -- how many grants stand, and how many of Steward
@@ -21,7 +21,7 @@ pub record Facts : Type 0 where
   pub alarm_count : ℕ
   pub alarm : Name → Option AlarmRow
   pub alarms : List AlarmRow
-  -- the shelf that the last shelving of an alarm left, its time past or not
+  -- the shelf that the last shelving of an alarm left, even if its time has passed
   pub shelf : Name → Option ShelfRow
   pub shelves : List ShelfRow
   -- all events, in rising number
@@ -33,7 +33,7 @@ pub record Facts : Type 0 where
   pub revision : Name → ℕ
   pub rationale : Name → Option RecordRow
   pub rationales : List RecordRow
-  -- how many changes were proposed, and the change of a number
+  -- how many changes were proposed, and the change with a number
   pub change_count : ℕ
   pub change : ℕ → Option ChangeRow
 

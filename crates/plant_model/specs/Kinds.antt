@@ -1,5 +1,5 @@
--- The kinds of calls: what all calls of a kind have in common, and what a request of each kind says. Each table has one
--- line a kind.
+-- The kinds of calls: what all calls of a kind have in common, and what a request of each kind states. Each table has
+-- one line for each kind.
 use Rattle.std.specs.Prelude.{Bool, Err, List, None, Ok, Option, Result, Some, [], false, true, ℕ}
 use Rattle.plant_alarm.specs.declared.event.Event.{Event}
 use Rattle.plant_import.specs.declared.bad_file.BadFile.{BadFile}
@@ -45,7 +45,7 @@ traits_of (request.Floods u begin until) = (Reads, None, count.Nothing, OneUnit 
 traits_of request.MyUnits = (Reads, None, count.Nothing, OwnUnits)
 traits_of request.MyShelves = (Reads, None, count.Nothing, OwnShelves)
 
--- each of them by itself
+-- each of these alone
 abbrev pub effect_of : Request → Effect
 effect_of r = (traits_of r).0
 
@@ -101,27 +101,28 @@ pub record Registration : Type 0 where
   pub latching : Bool
   pub max : ℕ
 
--- a shelf that begins, and why: timed, for so many seconds, or one-shot
+-- a shelf that begins, and why: timed, with its length in seconds, or one-shot
 pub data NewShelf : Type 0 where
   TimedShelf : ℕ → Name → NewShelf
   OneShotShelf : Name → NewShelf
 
--- what an entry says, and of what: one field for each thing that the definitions ask for. Most entries say one thing
+-- what an entry states, and about what: one field for each thing that the definitions read. Most entries state one
+-- thing
 pub record Sayings : Type 0 where
   pub opening : Option Opening
-  -- of a person's role: it is held from now on until an end (None: for good), or it is over
+  -- about a person's role: it is held from now on until an end (None: without end), or it is over
   pub pair : Option (Pair × Said (Option ℕ))
   pub registration : Option Registration
   pub file : Option (Result (List Event) BadFile)
-  -- of an alarm's shelf
+  -- about an alarm's shelf
   pub shelf : Option (Name × Said NewShelf)
-  -- of an alarm's removal from service, with its reason
+  -- about an alarm's removal from service, with its reason
   pub outage : Option (Name × Said Name)
   pub proposal : Option Proposal
-  -- of the change of a number
+  -- about the change with a number
   pub decision : Option (ℕ × ChangeState)
 
--- an entry that says nothing
+-- an entry that states nothing
 abbrev pub silent : Sayings
 silent = record {
   opening = None;
@@ -134,8 +135,8 @@ silent = record {
   decision = None;
 }
 
--- what a request says once it is an entry. An opening also makes its first steward a Steward, for good; a request that
--- only reads says nothing
+-- what a request states once it is an entry. An opening also grants Steward to the first steward, without end; a
+-- request that only reads states nothing
 abbrev pub says : Request → Sayings
 says (request.OpenUnit u s m q) =
     record silent {

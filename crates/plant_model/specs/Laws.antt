@@ -1,4 +1,4 @@
--- What holds of the definitions alone: isolation, legality, ends, the quota, and what is said of shelves.
+-- Laws about the definitions alone: isolation, legality, ends of grants, the quota, and the answers about shelves.
 use Rattle.std.specs.{FinMap.{keys}, List.{AllByRecursion, list_all}}
 use Rattle.std.specs.Prelude.{Bool, List, Option, Some, count_by, false, filter_map, flat_map, is_none, is_some, map, not, true, ℕ, ◌&&◌, ◌<◌, ◌≡◌}
 use Rattle.plant_types.specs.{Limits.{max_quota}, Names.{Name, same_name}, Roles.{Pair}}
@@ -33,7 +33,8 @@ EqualViewsEqualAnswers =
     → view c.moment c.person w ≡ view c.moment c.person v
     → (answer w c ≡ answer v c) × (view c.moment c.person (next w c) ≡ view c.moment c.person (next v c))
 
--- a call of anyone to a unit that the person sees gets equal answers, and leaves equal views of the person
+-- in two worlds that the person sees alike, anyone's call to a unit that the person sees gets equal answers, and leaves
+-- worlds that the person sees alike
 abbrev pub CallsToSeenUnits : Type 0
 CallsToSeenUnits =
     (w v : World) (p : Name) (t : ℕ) (c : Call) (u : Name)
@@ -43,19 +44,19 @@ CallsToSeenUnits =
     → holds_any (history w u) t p ≡ true
     → (answer w c ≡ answer v c) × (view t p (next w c) ≡ view t p (next v c))
 
--- a person's calls get the answers that they would get had no one else called on units in which the person never had a
--- pair
+-- a person's calls get the answers that they would get if no one else had called on units in which the person never had
+-- a role
 abbrev pub OthersCallsCanGo : Type 0
 OthersCallsCanGo =
     (admin p : Name) (units : Name → Bool) (calls : List Call)
     → IsAlwaysInside p units (empty_world admin) calls
     → answers_to p (empty_world admin) (purge p units calls) ≡ answers_to p (empty_world admin) calls
 
--- the next world of a world of legal histories is one
+-- if all histories of a world are legal, so are those of the next world
 abbrev pub NextWorldsAreLegal : Type 0
 NextWorldsAreLegal = (w : World) (c : Call) → IsLegalWorld w → has_matrix c.request ≡ true → IsLegalWorld (next w c)
 
--- and so is the world in which no unit was opened
+-- the histories of the world in which no unit was opened are legal
 abbrev pub FirstWorldsAreLegal : Type 0
 FirstWorldsAreLegal = (admin : Name) → IsLegalWorld (empty_world admin)
 
@@ -66,7 +67,7 @@ is_for_good e = passes is_none (what_stands e.1)
 abbrev pub has_no_end : Request → Bool
 has_no_end r = passes is_for_good (says r).pair
 
--- without ends, standing is holding: at every moment
+-- without ends, a pair that stands is held at every moment
 abbrev pub WithoutEndsStandingIsHolding : Type 0
 WithoutEndsStandingIsHolding =
     (h : List Call) → list_all (λ c. has_no_end c.request) h ≡ true → (t : ℕ) (k : Pair) → held h t k ≡ stands h k
@@ -82,17 +83,17 @@ QuotaOf2000RefusesNothing =
 abbrev pub shelf_in_history : List Call → Name → ℕ → ShelfState
 shelf_in_history h a t = shelf_of (shelf_left (shelf h a)) (events_of h a) t
 
--- the lines of the shelves that hold, each by that
+-- the lines of the shelves that hold, each by all events of its alarm
 abbrev pub lines_in_history : List Call → ℕ → List ShelfLine
 lines_in_history h t = filter_map (λ s. line_of s (shelf_in_history h s.tag t)) (shelf_rows h)
 
--- how many other alarms are shelved by it
+-- how many other alarms are shelved, by all their events
 abbrev pub others_in_history : List Call → Name → ℕ → ℕ
 others_in_history h a t =
     count_by (λ s. not (same_name a s.tag) && not (is_unshelved (shelf_in_history h s.tag t))) (shelf_rows h)
 
--- all that a verdict and its reply say of shelves at a moment is that: the state of one alarm, the lines of shelves, of
--- alarms and of standing alarms, and what is counted for the quota
+-- all that a verdict and its reply state about shelves at a moment agrees with all events of the alarms: the state of
+-- one alarm, the lines of shelves, of alarms and of standing alarms, and the count for the quota
 pub record SaysShelves (h : List Call) (t : ℕ) : Type 0 where
   pub state : (a : Name) → shelf_now (facts h) a t ≡ shelf_in_history h a t
   pub lines : shelf_lines (facts h) t ≡ lines_in_history h t
@@ -102,11 +103,11 @@ pub record SaysShelves (h : List Call) (t : ℕ) : Type 0 where
       (standing_lines (facts h) t)
   pub others : (a : Name) → others_shelved (facts h) a t ≡ others_in_history h a t
 
--- a verdict sees an alarm's last return alone; in a legal history that makes no difference
+-- a verdict sees only an alarm's last return; in a legal history that makes no difference
 abbrev pub ShelvesEndByReturns : Type 0
 ShelvesEndByReturns = (h : List Call) → IsLegal h → (t : ℕ) → SaysShelves h t
 
--- nor does it to the list of the shelves of several units
+-- nor does it make a difference to the list of the shelves of several units
 abbrev pub AllShelvesEndByReturns : Type 0
 AllShelvesEndByReturns =
     (units : List (Name × List Call)) → AllByRecursion (λ (e : Name × List Call). IsLegal e.1) units → (t : ℕ)

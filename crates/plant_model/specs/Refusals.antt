@@ -13,15 +13,15 @@ use Rattle.plant_types.specs.{Limits.{max_events}, Names.{Name}, declared.role.R
 use Rattle.plant_alarm.specs.declared.event.Event.{Event}
 use Rattle.plant_import.specs.{Merging.{first_fault}, Numbers.{new_numbers}, declared.bad_file.BadFile.{BadFile}}
 
--- no alarm has this tag
+-- the unit has no alarm with this tag
 abbrev pub unknown : Facts → Name → Bool × Refused
 unknown f a = (is_none (f.alarm a), AlarmUnknown)
 
--- so many other alarms are shelved now that the quota is used up
+-- the quota is used up by the other alarms that are shelved now
 abbrev pub over_quota : Facts → Name → ℕ → Bool × Refused
 over_quota f a t = (nat_le (quota_of f) (others_shelved f a t), ShelfQuota (quota_of f))
 
--- a file: its fault of reading; else no room for its numbers, or its first fault of merging
+-- a file: the fault found in reading it; else no room for its new events, or the first fault found in merging it
 abbrev pub tags_of : Facts → List Name
 tags_of f = map (λ r. r.tag) f.alarms
 
@@ -35,7 +35,7 @@ file_refusals f t (Ok rows) =
     (nat_lt max_events (length f.events + length (new_numbers f.events rows)), UnitFull TooManyEvents)
     ∷ fault_entries (first_fault (tags_of f) t 2 f.events rows)
 
--- a change of an alarm's record or limit: whether the alarm is there
+-- a change of an alarm's record or limit: the unit does not have the alarm
 abbrev pub kind_unknown : Facts → ChangeKind → List (Bool × Refused)
 kind_unknown f (Rationale a s) = unknown f a ∷ []
 kind_unknown f (Matrix m) = []
@@ -67,7 +67,7 @@ kind_refusals f base (Matrix m) =
     ∷ []
 kind_refusals f base (Limit a max) = base_changed base (limit_revision_of f a) ∷ []
 
--- a decision is about a change that is there and not decided yet
+-- a decision needs a change that exists and is not decided yet
 abbrev pub is_open : ChangeState → Bool
 is_open Proposed = true
 is_open Approved = false

@@ -1,4 +1,4 @@
--- What stands in the replies to accepted calls.
+-- The contents of the replies to accepted calls.
 use Rattle.std.specs.Prelude.{List, None, Option, Some, false, filter_map, is_some, length, map, not, option_map, true, ℕ, ◌-◌, ◌||◌}
 use Rattle.plant_model.specs.{Facts.{Facts, returned}, Rows.{revision_of_limit}, Shelves.{state_of_shelf}, declared.reply.AlarmLine.{AlarmLine}}
 use Rattle.plant_model.specs.declared.reply.{ChangeRow.{ChangeRow}, Reply.{Reply}}
@@ -8,7 +8,7 @@ use Rattle.plant_alarm.specs.{Shelves.{is_unshelved}, declared.{event.Event.{Eve
 use Rattle.plant_alarm.specs.declared.shelf.ShelfState.TheVariants.{OneShotShelved, TimedShelved, Unshelved}
 use Rattle.plant_import.specs.Merging.{fresh}
 
--- an alarm's state (ISA-18.2, IEC 62682): SuppressedOrShelved holds where it is shelved, suppressed by design or out of
+-- an alarm's state (ISA-18.2, IEC 62682): SuppressedOrShelved holds if it is shelved, suppressed by design or out of
 -- service
 abbrev pub status_of : AlarmRow → ShelfState → StatusRow
 status_of r shelf =
@@ -23,7 +23,7 @@ status_of r shelf =
       suppressed_or_shelved = not (is_unshelved shelf) || r.suppressed || is_some r.out_s;
     }
 
--- the line of a shelf that is not over
+-- the line of a shelf that has not ended
 abbrev pub line_of : ShelfRow → ShelfState → Option ShelfLine
 line_of s Unshelved = None
 line_of s (TimedShelved left) =

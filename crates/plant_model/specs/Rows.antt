@@ -23,7 +23,7 @@ grant_as k until = record { person = k.0; role_no = k.1; end_s = until }
 abbrev pub grant_row : List Call → Pair → Option GrantRow
 grant_row h k = option_map (grant_as k) (standing h k)
 
--- Grants: the pairs that stand, also those whose end has come
+-- Grants: the pairs that stand, including those that have ended
 abbrev pub grant_rows : List Call → List GrantRow
 grant_rows h = filter_map (grant_row h) (in_order pair_cmp (all_named (λ c before. pairs_named c.request) h))
 
@@ -48,11 +48,11 @@ alarm_as a max revision es out latches =
       out_words = option_map (λ o. o.words) out;
     }
 
--- how often the limit of an alarm was changed by approval, 0 for an alarm that is not there
+-- how many changes of an alarm's limit were approved, 0 for an alarm that does not exist
 abbrev pub revision_of_limit : Option AlarmRow → ℕ
 revision_of_limit alarm = unwrap_or (option_map (λ r. r.max_rev) alarm) 0
 
--- an alarm with the limit of one more approved change
+-- an alarm with the limit from one more approved change
 abbrev pub with_limit : ℕ → AlarmRow → AlarmRow
 with_limit max r = record r { max_s = max; max_rev = r.max_rev + 1 }
 
@@ -67,7 +67,7 @@ alarm_rows h = filter_map (alarm_row h) (in_order name_cmp (all_named (λ c befo
 abbrev pub tags_shelved : Request → List Name
 tags_shelved r = option_to_list (option_map (λ e. e.0) (says r).shelf)
 
--- Shelves, those whose time has passed too
+-- Shelves, including those whose time has passed
 abbrev pub shelf_rows : List Call → List ShelfRow
 shelf_rows h = filter_map (shelf h) (in_order name_cmp (all_named (λ c before. tags_shelved c.request) h))
 

@@ -19,7 +19,7 @@ begun a p s before (OneShotShelf words) = shelf_row_as true s (s + unwrap_or (li
 abbrev pub shelf_as : Name → ℕ → List Call → Name × Said NewShelf → Name × Said ShelfRow
 shelf_as p s before e = (e.0, said_as (begun e.0 p s before) e.1)
 
--- what an entry says of the alarm's shelf: that one begins, or that it is over
+-- what an entry states about the alarm's shelf: that one begins, or that it is over
 abbrev pub said_of_shelf : Name → Name → ℕ → List Call → Request → Option (Said ShelfRow)
 said_of_shelf a p s before r = of_key same_name a (option_map (shelf_as p s before) (says r).shelf)
 
@@ -33,6 +33,6 @@ shelf_left None = Clear
 shelf_left (Some s) = if s.one_shot then OneShot s.start_s s.until_s else Timed s.start_s s.until_s
 
 -- the shelved state at a moment, by the shelf that the last method left and the moment of the alarm's last return to
--- normal: every answer and the quota say their shelf by it
+-- normal; every answer and the quota use this state
 abbrev pub state_of_shelf : Option ShelfRow → Option ℕ → ℕ → ShelfState
 state_of_shelf shelf returned t = shelf_state (shelf_left shelf) returned t

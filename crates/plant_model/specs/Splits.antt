@@ -1,4 +1,4 @@
--- An office that is split by unit: what is left of its world, and how the answers of its parts come together.
+-- An office that is split by unit: the world of each part, and how the answers of the parts are merged.
 use Rattle.std.specs.{FinMap.{retain_keys}, Set.{sorted_merge}}
 use Rattle.std.specs.Prelude.{Bool, Err, List, None, Ok, Result, Some, [], false, filter, if◌then◌else◌, max, nat_eq, not, suc, true, zero, ℕ, ◌∷◌, ◌≡◌, ◌≤◌}
 use Rattle.plant_model.specs.{Verdicts.{is_opening}, Views.{names_in}, Worlds.{World, answer, answers, by_admin, next, unit_named}}
@@ -23,48 +23,48 @@ answers_on units w [] = []
 answers_on units w (c ∷ calls) = if names_in units (unit_named c.request) then
     answer w c ∷ answers_on units (next w c) calls else answers_on units (next w c) calls
 
--- two lists of lines as one, in the order of the units
+-- two lists of lines merged into one, in the order of the units
 abbrev pub by_unit : {A : Type 0} → (A → Name) → List A → List A → List A
 by_unit unit xs ys = sorted_merge (λ x y. name_cmp (unit x) (unit y)) true xs ys
 
--- two lists of a person's units, or of their shelves, as one
+-- two lists of a person's units, or of their shelves, merged into one
 abbrev pub both_lists : Reply → Reply → Reply
 both_lists (Units xs) (Units ys) = Units (by_unit (λ l. l.unit) xs ys)
 both_lists (Mine p t xs) (Mine q s ys) = Mine p t (by_unit (λ l. l.unit) xs ys)
 both_lists x y = x
 
--- of two refusals the one with the greater last moment
+-- two refusals merged: of two last moments the later one
 abbrev pub later : Refused → Refused → Refused
 later (MomentBehind s) (MomentBehind t) = MomentBehind (max s t)
 later x y = x
 
--- the answers of two parts of an office to a call that names no unit, as one: a refusal, if a part refuses it
+-- the answers of two parts of an office to a call that names no unit, merged: a refusal if a part refuses the call
 abbrev pub merged : Result Reply Refused → Result Reply Refused → Result Reply Refused
 merged (Ok x) (Ok y) = Ok (both_lists x y)
 merged (Ok x) (Err r) = Err r
 merged (Err r) (Ok y) = Err r
 merged (Err r) (Err q) = Err (later r q)
 
--- the answers of parts as one, from part 0 to this one, where each code has the number of its part
+-- the merged answers of the parts from number 0 to this number; `part` gives the part of each code
 abbrev pub merged_to : ℕ → (Name → ℕ) → World → Call → Result Reply Refused
 merged_to zero part w c = answer (only (λ u. nat_eq (part u) zero) w) c
 merged_to (suc n) part w c = merged (merged_to n part w c) (answer (only (λ u. nat_eq (part u) (suc n)) w) c)
 
--- a call on one of these units is answered by an office of these units alone as by the whole one, and leaves it what
--- it leaves of these units in the whole one
+-- an office of these units alone answers a call on one of them as the whole office does, and afterwards has these units
+-- as the whole office has them
 abbrev pub PartsAnswerTheirCalls : Type 0
 PartsAnswerTheirCalls =
     (units : Name → Bool) (w : World) (c : Call) → names_in units (unit_named c.request) ≡ true
     → (answer (only units w) c ≡ answer w c) × (next (only units w) c ≡ only units (next w c))
 
--- no other call changes anything of these units
+-- no other call changes anything in these units
 abbrev pub OtherCallsChangeNoPart : Type 0
 OtherCallsChangeNoPart =
     (units : Name → Bool) (w : World) (c : Call) → names_in units (unit_named c.request) ≡ false
     → only units (next w c) ≡ only units w
 
--- so whatever is called, an office of these units that is sent the calls on them gives the answers of the whole one to
--- these calls, and is then what the whole one is of these units
+-- so whatever is called, an office of these units alone that gets the calls on them answers them as the whole office
+-- does, and afterwards has these units as the whole office has them
 abbrev pub PartsRunAsTheWhole : Type 0
 PartsRunAsTheWhole =
     (units : Name → Bool) (w : World) (calls : List Call)
@@ -79,7 +79,7 @@ OtherUnitsMakeNoDifference =
     → names_in units (unit_named c.request) ≡ true
     → (answer w c ≡ answer v c) × (only units (next w c) ≡ only units (next v c))
 
--- the answer to a call that names no unit is that of the parts, as one: of two, and of any number
+-- the answer to a call that names no unit is the merged answer of the parts: of two, and of any number
 abbrev pub ListsAreMerged : Type 0
 ListsAreMerged =
     (units : Name → Bool) (w : World) (c : Call) → unit_named c.request ≡ None
@@ -90,7 +90,7 @@ ListsAreMergedOfMany =
     (n : ℕ) (part : Name → ℕ) (w : World) (c : Call) → ((u : Name) → part u ≤ n) → unit_named c.request ≡ None
     → answer w c ≡ merged_to n part w c
 
--- the other office does not know which codes are taken here: it opens the unit of the same code again
+-- an office of other units does not know which codes are taken here: it accepts the opening of any of these codes again
 abbrev pub OnlyAPartKnowsItsCodes : Type 0
 OnlyAPartKnowsItsCodes =
     (units : Name → Bool) (w : World) (c : Call) (u : Name) → unit_named c.request ≡ Some u → units u ≡ false

@@ -26,7 +26,7 @@ verdict_of f c = refused_or (first_refusal (refusals f c)) (reply f c.moment c.r
 abbrev pub verdict : List Call → Call → Result Reply Refused
 verdict h c = verdict_of (facts h) c
 
--- an accepted call that is not a read is an entry of the history
+-- an accepted call that is not a read becomes an entry of the history
 abbrev pub changes_history : Result Reply Refused → Call → Bool
 changes_history v c = is_ok v && not (is_read c.request)
 

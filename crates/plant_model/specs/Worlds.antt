@@ -13,11 +13,11 @@ pub record World : Type 0 where
   pub admin : Name
   pub units : FinMap name_cmp (List Call)
 
--- the history of a unit, empty where the code was never opened
+-- the history of a unit, empty if the code was never opened
 abbrev pub history : World → Name → List Call
 history w u = unwrap_or (get w.units u) []
 
--- a unit with its history, where the person holds a role in it at the moment
+-- a unit with its history, if the person holds a role in it at the moment
 abbrev pub unit_seen : World → ℕ → Name → Name → Option (Name × List Call)
 unit_seen w t p u = when (holds_any (history w u) t p) (u, history w u)
 
@@ -55,8 +55,8 @@ answer_of_units units c = if nat_lt c.moment (greatest_last units) then
 abbrev pub opening : Bool → Bool → Result Reply Refused
 opening by_admin taken = if not by_admin then Err NotAdministrator else (if taken then Err UnitTaken else Ok Done)
 
--- what a unit's own machine answers: whether the caller is the administrator, whether the unit is there, its history,
--- the call
+-- what one unit answers; the arguments are whether the caller is the administrator, whether the unit exists, its
+-- history, and the call
 abbrev pub unit_answer : Bool → Bool → List Call → Call → Result Reply Refused
 unit_answer by_admin taken h c = if is_opening c.request then opening by_admin taken else verdict h c
 

@@ -1,4 +1,4 @@
--- The words of the code's own steps: what a call looks at, the facts read from rows, and the rows that change.
+-- Definitions for the code's own steps: what a call looks at, the facts read from rows, and the rows that change.
 pub mod LooksAt
 pub mod Parts
 pub mod Scopes

@@ -14,13 +14,13 @@ pub enum Request {
         matrix: Matrix,
         quota: Quota,
     },
-    /// Grants a role to a person, for good or until an end.
+    /// Grants a role to a person, either until a moment or without an end.
     Grant {
         unit: UnitCode,
         person: Person,
         tenure: Tenure,
     },
-    /// Takes a role from a person.
+    /// Withdraws a role from a person.
     Withdraw {
         unit: UnitCode,
         person: Person,
@@ -33,7 +33,7 @@ pub enum Request {
         latching: bool,
         max: Seconds,
     },
-    /// Imports the events of a file, or carries the first fault found in reading it.
+    /// Imports the events of a file. A file that could not be read is carried as its first fault.
     Import {
         unit: UnitCode,
         file: FileRead,
@@ -72,7 +72,7 @@ pub enum Request {
         unit: UnitCode,
         proposal: Proposal,
     },
-    /// Takes a proposed change back.
+    /// Withdraws a proposed change.
     WithdrawChange {
         unit: UnitCode,
         number: u32,
@@ -114,7 +114,7 @@ pub enum Request {
     Standing {
         unit: UnitCode,
     },
-    /// Asks for the floods of alarms from a moment to before another.
+    /// Asks for the floods of alarms from a moment on, to before another.
     Floods {
         unit: UnitCode,
         begin: Moment,
@@ -126,7 +126,7 @@ pub enum Request {
     MyShelves,
 }
 
-/// A request with the person who makes it and the moment that the person names.
+/// A request with the person who makes it and the moment that the call states.
 #[derive(Drop)]
 pub struct Call {
     pub person: Person,

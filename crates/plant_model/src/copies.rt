@@ -13,7 +13,7 @@ use plant_types::{Fault, List, Sorted, TryCopy};
 use std::alloc::Global;
 
 impl UnitRows {
-    /// No row in any table, as of a unit before its opening. It takes no memory.
+    /// Tables without rows, as for a unit before its opening. It takes no memory.
     pub fn none(alloc: Global) -> UnitRows
         ensures { result ≡ no_rows }
     {
@@ -31,7 +31,7 @@ impl UnitRows {
     }
 }
 
-/// The same three values again: a function that owns more is proved for all of them at each copy that can fail.
+/// Copies of three values. The prover treats each value owned at a copy that can fail, so few are owned here.
 fn copy_three<A: TryCopy, B: TryCopy, C: TryCopy>(
     alloc: Global,
     first: &A,
@@ -45,8 +45,9 @@ fn copy_three<A: TryCopy, B: TryCopy, C: TryCopy>(
     Ok((first.copy(alloc)?, second.copy(alloc)?, third.copy(alloc)?))
 }
 
-/// Puts copies of the rows in place of others, list by list. A function that owns nine lists is proved for all of them at
-/// each copy that can fail; this one owns none.
+/// Replaces the rows with copies of others, list by list. The prover treats each list owned at a copy that can fail;
+/// this
+/// function owns none of the nine.
 fn copy_over(alloc: Global, rows: &UnitRows, copies: &mut UnitRows) -> Result<(), Fault>
     ensures value { OnOk result (copies.new ≡ rows.now) }
     ensures memory { OnlyMemory result }

@@ -1,4 +1,4 @@
-//! Which grants are held at a moment.
+//! Which grants hold at a moment: those that stand and have not ended yet.
 
 ghost use Rattle.std.specs.{List.{list_any}, Prelude.{◌≡◌, option_copied}};
 ghost use Rattle.plant_model.specs.steps.RowFacts.{held_by, holds_by, pair_of};
@@ -9,21 +9,21 @@ ghost use Rattle.plant_model.specs.steps.RowFacts as facts;
 use crate::GrantRow;
 use plant_types::{Moment, Person, Role, Sorted};
 
-/// Whether the moment lies before the end. Without an end it does.
+/// Whether the moment lies before the end. True without an end.
 pub fn is_before(now: Moment, end: Option<Moment>) -> bool
     ensures { result ≡ grants.is_before now end }
 {
     end.is_none_or(|end| now.seconds() < end.seconds())
 }
 
-/// Whether the row is the grant of the pair.
+/// Whether the row is the grant for the pair of a person and a role.
 pub fn is_pair(row: &GrantRow, person: &Person, role: Role) -> bool
     ensures { result ≡ same_pair (person.now, role) (pair_of row.now) }
 {
     *person == row.person && role.is(row.role_no)
 }
 
-/// Whether the pair stands: one of the grants is of it, whether or not it has ended.
+/// Whether the pair of a person and a role stands: one of the grants is for it, ended or not.
 pub fn stands(grants: &[GrantRow], person: &Person, role: Role) -> bool
     ensures { result ≡ list_any (λ g. same_pair (person.now, role) (pair_of g)) grants.now }
 {
@@ -43,14 +43,14 @@ pub fn is_held_by(grants: &[GrantRow], person: &Person, role: Role, now: Moment)
     grant_of(grants, person, role).is_some_and(|row| is_before(now, row.end_s))
 }
 
-/// Whether the row is a grant of the person whose end is not yet there.
+/// Whether the row is a grant to the person that has not ended.
 pub fn is_held_row(row: &GrantRow, person: &Person, now: Moment) -> bool
     ensures { result ≡ facts.is_held_row now person.now row.now }
 {
     *person == row.person && is_before(now, row.end_s)
 }
 
-/// Whether the grants have one of the person whose end is not yet there.
+/// Whether one of the grants is to the person and has not ended.
 pub fn has_held_row(grants: &[GrantRow], person: &Person, now: Moment) -> bool
     ensures { result ≡ list_any (facts.is_held_row now person.now) grants.now }
 {

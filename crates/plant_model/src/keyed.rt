@@ -1,4 +1,4 @@
-//! What the rows of each table are found by.
+//! The key of each table's rows, by which they are ordered and found.
 
 use crate::{AlarmRow, BandRow, CellRow, ChangeEntry, GrantRow, RecordEntry, ShelfRow};
 use plant_types::{Keyed, Person, Role, Tag};

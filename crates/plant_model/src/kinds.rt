@@ -13,7 +13,7 @@ use plant_import::FileRead;
 use plant_ration::ChangeKind;
 use plant_types::{Role, Tag, UnitCode};
 
-/// The kinds of calls: a request without what it carries.
+/// The kinds of calls: a request without its data.
 #[derive(Clone, Copy, Debug, PartialEq, Eq)]
 pub enum CallKind {
     OpenUnit,
@@ -44,15 +44,15 @@ pub enum CallKind {
 /// What calls do to the history of their unit.
 #[derive(Clone, Copy, Debug, PartialEq, Eq)]
 pub enum Effect {
-    /// They begin it.
+    /// They begin the history.
     Opens,
-    /// Accepted, they are its next entry.
+    /// If accepted, they become its next entry.
     Changes,
     /// They leave it as it is.
     Reads,
 }
 
-/// What of a unit is counted for a call: changes by the number of the last.
+/// What is counted in a unit for a call. Changes are counted by the number of the last one.
 #[derive(Clone, Copy, Debug, PartialEq, Eq)]
 pub enum Counted {
     Nothing,
@@ -61,26 +61,28 @@ pub enum Counted {
     Changes,
 }
 
-/// What a call looks at, beside the unit's own row and the caller's grants.
+/// What a call looks at, apart from the unit's own row and the caller's grants.
 #[derive(Clone, Copy)]
 pub enum Scope<'a> {
     NothingElse,
     AllGrants,
     /// An alarm with its shelf.
     OneAlarm(&'a Tag),
-    /// The same for a shelving, and whether it looks at all others too: where the quota may be used up.
+    /// An alarm with its shelf, for a shelving. The flag is whether it looks at all other alarms and shelves too,
+    /// because
+    /// the quota may be used up.
     Shelving(&'a Tag, bool),
     /// An alarm with its record and the change that it came from.
     OneRecord(&'a Tag),
     /// A change with its matrix.
     OneChange(u32),
-    /// A change that is to be approved, with its row if it is there, and what it is a change of.
+    /// A change to be approved, with its row if it exists, and what it changes.
     Approval(u32, Option<&'a ChangeEntry>),
     /// An alarm with its record, and the matrix in force.
     Content(&'a Tag),
     /// All records with the changes that they came from, and the matrix in force.
     AllRecords,
-    /// All alarms, and the events that these rows of a file are seen beside.
+    /// All alarms, and the events that are needed to import these rows of a file.
     File(&'a [Event]),
     /// All shelves with their alarms.
     AllShelves,
@@ -137,21 +139,21 @@ impl Request {
         self.traits().0
     }
 
-    /// The role that the request needs, if it needs one in particular.
+    /// The role that the request needs. `None` if any role suffices, or if none is needed.
     pub fn role_needed(&self) -> Option<Role>
         ensures { result ≡ kinds.role_needed self.now }
     {
         self.traits().1
     }
 
-    /// What of a unit is counted for the request.
+    /// What is counted in the unit for the request.
     pub fn counted(&self) -> Counted
         ensures { result ≡ kinds.count_of self.now }
     {
         self.traits().2
     }
 
-    /// The unit that the request names, if it names one.
+    /// The unit that the request names, if any.
     pub fn unit(&self) -> Option<&UnitCode>
         ensures { option_map (λ u. u.now) result ≡ kinds.unit_named self.now }
     {
@@ -214,7 +216,7 @@ pub fn looks_at_reviews(request: &Request) -> bool
     )
 }
 
-/// The number of the change that the request approves, if it approves one.
+/// The number of the change that the request approves, if any.
 pub fn number_approved(request: &Request) -> Option<u32>
     ensures { result ≡ scopes.number_approved request.now }
 {
@@ -224,7 +226,7 @@ pub fn number_approved(request: &Request) -> Option<u32>
     }
 }
 
-/// The rows of a file, none where it can't be read.
+/// The rows of a file. Empty if the file could not be read.
 fn rows_of(file: &FileRead) -> &[Event]
     ensures { result.now ≡ rows_of_file file.now }
 {
@@ -244,7 +246,9 @@ fn scope_of_kind(kind: &ChangeKind) -> Scope<'_>
     }
 }
 
-/// What the request looks at in a unit that is crowded or not, and in which this is the change that it approves.
+/// What the request looks at in a unit. `crowded` is whether the unit's quota may be used up; `approved` is the row of
+/// the
+/// change that the request approves, if any.
 pub fn scope_of<'a>(
     request: &'a Request,
     crowded: bool,

@@ -1,4 +1,4 @@
-//! What holds of the definitions alone: contracts that stand on empty bodies.
+//! Laws about the definitions alone, stated as contracts of functions with empty bodies.
 
 ghost use Rattle.plant_model.specs.ImportLaw.{ImportsAgree};
 ghost use Rattle.plant_model.specs.Laws.{AllShelvesEndByReturns, UnseenCallsChangeNothing, CodesAreTheAdministrators, EqualViewsEqualAnswers, CallsToSeenUnits, FirstWorldsAreLegal, OthersCallsCanGo, NextWorldsAreLegal, WithoutEndsStandingIsHolding, QuotaOf2000RefusesNothing, ShelvesEndByReturns};
@@ -6,7 +6,7 @@ ghost use Rattle.plant_model.specs.steps.Keys.{PutsOverWhatIsSeen};
 ghost use Rattle.plant_model.specs.Openings.{HistoriesAreOwn};
 ghost use Rattle.plant_model.specs.Splits.{ListsAreMerged, ListsAreMergedOfMany, OnlyAPartKnowsItsCodes, OtherCallsChangeNoPart, OtherUnitsMakeNoDifference, PartsAnswerTheirCalls, PartsRunAsTheWhole};
 
-/// Isolation: what one person sees of two worlds.
+/// Isolation: if a person sees the same in two worlds, calls have the same results for that person in both.
 pub fn two_worlds()
     ensures unseen { UnseenCallsChangeNothing }
     ensures codes { CodesAreTheAdministrators }
@@ -14,7 +14,7 @@ pub fn two_worlds()
     ensures shared { CallsToSeenUnits }
 {}
 
-/// Purge: a person's answers, without the calls of others elsewhere.
+/// Purge: a person's answers stay the same if the calls of others on units where the person has no role are left out.
 #[tactic(auto, using(crate::proofs::PurgeLaws::others_calls_can_go))]
 pub fn purged()
     ensures { OthersCallsCanGo }
@@ -38,13 +38,13 @@ pub fn histories_stay_legal()
     ensures next { NextWorldsAreLegal }
 {}
 
-/// Each unit's history is its own: opened by the administrator, with values of their sets.
+/// Each unit's history is its own: opened by the administrator, and with valid values.
 #[tactic(auto, using(crate::proofs::OwnLaws::histories_are_own))]
 pub fn histories_are_own()
     ensures { HistoriesAreOwn }
 {}
 
-/// Without ends, what stands is held at every moment.
+/// Without ends, the grants that stand hold at every moment.
 pub fn standing_without_ends()
     ensures { WithoutEndsStandingIsHolding }
 {}
@@ -60,15 +60,15 @@ pub fn imports_agree()
     ensures { ImportsAgree }
 {}
 
-/// A verdict looks at an alarm's last return alone. What every answer and the quota say of a shelf is what all returns
-/// of its alarm leave of it.
+/// A verdict looks only at an alarm's last return. Every answer and the quota nevertheless treat a shelf as all returns
+/// of its alarm require.
 pub fn shelves_end_by_returns()
     ensures unit { ShelvesEndByReturns }
     ensures units { AllShelvesEndByReturns }
 {}
 
-/// Each row that an accepted call puts over another is among the rows that the call looks at, so a keeper that looks
-/// for it there finds it.
+/// If an accepted call replaces a row, that row is among the rows that the call looks at. So a keeper that looks for it
+/// there finds it.
 #[tactic(auto, using(crate::proofs::KeyLaws::puts_over_seen))]
 pub fn changes_lie_in_what_is_seen()
     ensures { PutsOverWhatIsSeen }

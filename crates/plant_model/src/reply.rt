@@ -14,62 +14,62 @@ pub enum Full {
     Changes,
 }
 
-/// Why a call is refused, with the value that shows it. Results of shelving have their names of OPC 10000-9.
+/// Why a call is refused, with the value that matters. Refusals of shelving have the names of OPC 10000-9.
 #[derive(Clone, Copy, Debug, PartialEq, Eq)]
 pub enum Refused {
-    /// Someone else than the administrator opens a unit.
+    /// Someone other than the administrator tries to open a unit.
     NotAdministrator,
-    /// A unit of this code is open.
+    /// A unit with this code exists already.
     UnitTaken,
     /// The caller holds no role in the unit at the call's moment, or no unit has this code.
     NotGranted,
-    /// The caller holds other roles than this one, which the call needs.
+    /// The caller holds roles in the unit, but not this one, which the call needs.
     RoleLacking(Role),
-    /// The call's moment lies before this one: the unit's last moment, or the greatest of the caller's units.
+    /// The call's moment lies before this one: the unit's last moment, or the latest of those of the caller's units.
     MomentBehind(Moment),
     /// The unit has no room for one more of these.
     UnitFull(Full),
-    /// The unit has an alarm of this tag.
+    /// The unit already has an alarm with this tag.
     AlarmTaken,
-    /// The unit has no alarm of this tag.
+    /// The unit has no alarm with this tag.
     AlarmUnknown,
     /// The time is longer than this, the limit in force.
     ShelvingTimeOutOfRange(Seconds),
     /// The alarm is shelved in this way already.
     ConditionAlreadyShelved,
-    /// The alarm is not shelved, or no longer.
+    /// The alarm is not shelved, or is no longer shelved.
     ConditionNotShelved,
     /// The alarm is out of service.
     AlreadyOutOfService,
     /// The alarm is in service.
     NotOutOfService,
-    /// The person holds the role.
+    /// The person already holds the role.
     AlreadyHeld,
-    /// No such grant stands.
+    /// The person has no grant of the role.
     NotHeld,
     /// The unit would be left without a steward.
     LastSteward,
-    /// The unit has no change of this number.
+    /// The unit has no change with this number.
     ChangeUnknown,
-    /// The change was decided before, and is in this state.
+    /// The change has already been decided, and is in this state.
     NotProposed(ChangeState),
-    /// The caller proposed the change, which others approve or reject.
+    /// The caller proposed the change, and only others may approve or reject it.
     SamePerson,
-    /// The caller did not propose the change, which its proposer alone withdraws.
+    /// The caller did not propose the change, and only its proposer may withdraw it.
     NotProposer,
     /// The proposal's base is not this, the revision in force.
     BaseChanged(u32),
     /// A severity has no row in the matrix.
     OutsideMatrix,
-    /// The matrix in force says that no alarm is needed.
+    /// By the matrix in force no alarm is needed.
     NotAnAlarm,
-    /// No record of the alarm was approved.
+    /// No record of the alarm has been approved.
     RecordUnknown,
-    /// The range is not of whole periods of ten minutes, from 1 to 1,008 of them.
+    /// The range does not consist of 1 to 1,008 whole periods of ten minutes.
     RangeNotAligned,
     /// The line and the cause of the file's first fault.
     BadFile(BadFile),
-    /// As many other alarms of the unit are shelved as this, its quota.
+    /// As many other alarms of the unit are shelved as its quota, which is this, allows.
     ShelfQuota(Quota),
     /// A grant's end is not after the call's moment.
     EndNotAhead,
@@ -79,7 +79,7 @@ pub enum Refused {
 #[derive(Drop)]
 pub struct StatusRow {
     pub tag: Tag,
-    /// MaxTimeShelved, and how many changes of it were approved.
+    /// MaxTimeShelved; `limit_revision` is how many changes of it were approved.
     pub limit: Seconds,
     pub limit_revision: u32,
     pub state: AlarmState,
@@ -128,8 +128,8 @@ pub struct AlarmLine {
     pub limit: Seconds,
 }
 
-/// A flood of alarms: from the start of its first period to the end of its last, the sum of their activations and the
-/// greatest number in one.
+/// A flood of alarms, from the start of its first period to the end of its last: the number of activations in it, and
+/// the greatest number in one period.
 #[derive(Clone, Copy, Debug, PartialEq, Eq)]
 pub struct FloodLine {
     pub start: Moment,
@@ -145,7 +145,7 @@ pub struct MineLine {
     pub line: ShelfLine,
 }
 
-/// The rationalisation record of an alarm that is in force: what the last approved change of it said, with that
+/// The rationalisation record of an alarm that is in force: the content of the last approved change of it, with that
 /// change's number, how many changes of it were approved, and the priority by the matrix in force.
 #[derive(Drop)]
 pub struct RecordRow {
@@ -162,7 +162,7 @@ pub struct RecordRow {
     pub priority: Cell,
 }
 
-/// A change, as it was proposed and as far as it has come.
+/// A change as it was proposed, with its state.
 #[derive(Drop)]
 pub struct ChangeRow {
     pub number: u32,
@@ -171,7 +171,7 @@ pub struct ChangeRow {
     pub proposer: Person,
     pub proposed: Moment,
     pub state: ChangeState,
-    /// Who decided it and when. A change that was taken back has its proposer here.
+    /// Who decided it; `decided` is when. For a withdrawn change this is its proposer.
     pub decider: Option<Person>,
     pub decided: Option<Moment>,
 }
@@ -226,7 +226,7 @@ pub enum Reply {
     },
 }
 
-/// What is answered to a call. A fault stands in place of any other answer, and then nothing has changed.
+/// The answer to a call. After a fault nothing has changed.
 #[derive(Drop)]
 pub enum Answer {
     Reply(Reply),

@@ -20,7 +20,7 @@ pub struct UnitRow {
     pub quota: Quota,
 }
 
-/// A pair of a person and a role that stands, with its end where it has one.
+/// A grant of a role to a person, with its end if any. It may have ended.
 #[derive(Drop)]
 pub struct GrantRow {
     pub person: Person,
@@ -28,7 +28,7 @@ pub struct GrantRow {
     pub end_s: Option<Moment>,
 }
 
-/// An alarm: its registration, the limit in force, its state, and the removal from service that stands.
+/// An alarm: its registration, the limit in force, its state, and its removal from service if it is out of service.
 #[derive(Drop)]
 pub struct AlarmRow {
     pub tag: Tag,
@@ -45,7 +45,7 @@ pub struct AlarmRow {
 }
 
 impl AlarmRow {
-    /// An alarm as it is registered: normal, in service, and with a limit that no change has moved.
+    /// An alarm as it is registered: normal, in service, and with a limit that no change has altered.
     pub fn new(alloc: Global, tag: &Tag, latching: bool, max: Seconds) -> Result<AlarmRow, Fault>
         ensures value { IfOk result (λ row. row ≡ alarm_as tag.now max 0 [] None latching) }
         ensures err { OnlyMemory result }
@@ -72,7 +72,7 @@ impl AlarmRow {
         self.max_rev
     }
 
-    /// The alarm with the limit of one more approved change.
+    /// The alarm with the limit from one more approved change.
     pub fn with_limit(&self, alloc: Global, max: Seconds) -> Result<AlarmRow, Fault>
         ensures value { revision_of_limit (Some self.now) < 4294967295
             → Gives result (with_limit max self.now) }
@@ -85,7 +85,7 @@ impl AlarmRow {
     }
 }
 
-/// The shelf that the last shelving of an alarm left, also where its time has passed.
+/// The shelf that the last shelving of an alarm left, even if its time has passed.
 #[derive(Drop)]
 pub struct ShelfRow {
     pub tag: Tag,
@@ -96,7 +96,7 @@ pub struct ShelfRow {
     pub words: Words,
 }
 
-/// A finite limit of a matrix's time bands, from 1.
+/// A finite limit between a matrix's time bands, in seconds. Bands are counted from 1.
 #[derive(Clone, Copy, Debug, PartialEq, Eq)]
 pub struct BandRow {
     pub matrix_no: u32,
@@ -104,7 +104,7 @@ pub struct BandRow {
     pub limit_s: u64,
 }
 
-/// A cell of a matrix, severity and band each from 1.
+/// A cell of a matrix. Severities and bands are counted from 1.
 #[derive(Clone, Copy, Debug, PartialEq, Eq)]
 pub struct CellRow {
     pub matrix_no: u32,
@@ -122,7 +122,7 @@ pub struct RecordEntry {
     pub cell_no: Cell,
 }
 
-/// What a change is of.
+/// What a change changes.
 #[derive(Clone, Copy, Debug, PartialEq, Eq)]
 pub enum ChangeTopic {
     Record,
@@ -130,7 +130,7 @@ pub enum ChangeTopic {
     Limit,
 }
 
-/// A change: what was proposed, but for the bands and cells of a matrix, and how it was decided.
+/// A change: what was proposed, except the bands and cells of a matrix, and how it was decided.
 #[derive(Drop)]
 pub struct ChangeEntry {
     pub number: u32,
@@ -166,8 +166,9 @@ pub struct UnitRows {
 }
 
 /// The rows that one call looks at; how many alarms, changes or events the unit has, whichever the call needs; and
-/// whether the caller holds a role in the unit. A unit that has more than a count can say has no part; no unit of a legal
-/// history has.
+/// whether the caller holds a role in the unit. A unit with more of these than `count` can hold has no part; a unit
+/// with
+/// a legal history never has so many.
 #[derive(Drop)]
 pub struct UnitPart {
     pub rows: UnitRows,
@@ -189,15 +190,16 @@ pub enum Row {
     Change(ChangeEntry),
 }
 
-/// The key of a row that may go.
+/// The key of a row that may be removed.
 #[derive(Drop)]
 pub enum Key {
     Grant(Person, Role),
     Shelf(Tag),
 }
 
-/// What changes in the tables: a row that is put in the place of the row of its key, events that are all put so, or the
-/// key of a row that goes.
+/// A change of the tables: a row that is inserted or replaces the row with its key, several events of which each does
+/// so,
+/// or the key of a row that is removed.
 #[derive(Drop)]
 pub enum RowEdit {
     Put(Row),
@@ -205,7 +207,7 @@ pub enum RowEdit {
     Remove(Key),
 }
 
-/// Rows put or removed by key, in this order.
+/// Changes of the tables, made in this order.
 pub type Changes = List<RowEdit>;
 
 /// What a unit answers: a refusal, or the reply with the changes that the call makes (none for a read).

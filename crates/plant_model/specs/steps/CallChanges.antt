@@ -1,4 +1,4 @@
--- What each accepted call changes in the rows of its unit, with one line a kind.
+-- What each accepted call changes in the rows of its unit, with one line for each kind of call.
 use Rattle.std.specs.Prelude.{List, None, [], false, option_and_then, true, unwrap_or, ℕ, ◌+◌, ◌∷◌}
 use Rattle.plant_model.specs.{Alarms.{said_of_quota}, Changes.{change_as, number_approved}, Events.{rows_of_file}, Facts.{Facts, limit_of}}
 use Rattle.plant_model.specs.{Kinds.{effect_of}, declared.kinds.Effect.{Effect, TheVariants.{Changes, Opens, Reads}}}
@@ -12,7 +12,7 @@ use Rattle.plant_ration.specs.declared.change.ChangeState.TheVariants.{Rejected,
 use Rattle.plant_types.specs.Names.{Name}
 use Rattle.plant_types.specs.declared.role.Role.TheVariants.{Steward}
 
--- the changes that an accepted call makes beside that of the unit's row
+-- the changes that an accepted call makes, apart from that of the unit's own row
 abbrev pub own_changes : Facts → Name → ℕ → Request → List RowEdit
 own_changes f p t (OpenUnit u s m q) = Put (GrantPut (grant_as (s, Steward) None)) ∷ matrix_changes 0 m
 own_changes f p t (Grant u q r) = Put (GrantPut (grant_as (q, r.0) r.1)) ∷ []

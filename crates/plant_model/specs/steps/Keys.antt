@@ -1,4 +1,4 @@
--- Whether rows of a unit have one with the key of another, and which rows a change puts over others.
+-- Whether a unit has a row with a given row's key, and which rows a change replaces.
 use Rattle.std.specs.{List.{list_any}, Ordering.{eq_by_cmp}, Prelude.{Bool, List, [], false, true, ℕ, ◌∷◌, ◌≡◌}}
 use Rattle.plant_import.specs.Numbers.{has_number}
 use Rattle.plant_model.specs.{Histories.{same_number}, Matrices.{band_cmp, cell_cmp}}
@@ -9,7 +9,7 @@ use Rattle.plant_types.specs.{Names.{same_name}, Roles.{same_pair}}
 use Rattle.plant_model.specs.{Facts.{facts}, Legality.{IsLegal, may_follow}, Rows.{rows_of}, declared.call.Call.{Call}}
 use Rattle.plant_model.specs.steps.{CallChanges.{changes_for}, Parts.{part_of}}
 
--- there is a row
+-- the list is not empty
 abbrev pub has_any : {A : Type 0} → List A → Bool
 has_any [] = false
 has_any (x ∷ xs) = true
@@ -26,11 +26,11 @@ has_key (Event e) rows = list_any (λ other. same_number e.seq other.seq) rows.e
 has_key (Record r) rows = list_any (λ other. same_name r.tag other.tag) rows.records
 has_key (Change r) rows = list_any (λ other. same_number r.number other.number) rows.changes
 
--- if a row is put over one of the unit's rows, it is put over one of those that were seen
+-- if a row replaces one of the unit's rows, that one is among those that were seen
 abbrev pub IsOverSeen : UnitRows → UnitRows → Row → Type 0
 IsOverSeen rows seen r = has_key r rows ≡ true → has_key r seen ≡ true
 
--- so it is with the rows that a change puts. Events, limits and cells never change, and are put over none
+-- the same for the rows that a change puts. Events, limits and cells never change, and replace none
 abbrev pub PutsOverSeen : UnitRows → UnitRows → RowEdit → Type 0
 PutsOverSeen rows seen (Put (UnitRow r)) = IsOverSeen rows seen (UnitRow r)
 PutsOverSeen rows seen (Put (Grant r)) = IsOverSeen rows seen (Grant r)
@@ -45,12 +45,12 @@ PutsOverSeen rows seen (PutEvents es) = (n : ℕ) → list_any (has_number n) es
     → list_any (has_number n) rows.events ≡ false
 PutsOverSeen rows seen (Remove k) = Unit {0}
 
--- and with all of these changes, made in their order
+-- the same for all of these changes, made in their order
 abbrev pub AllPutOverSeen : UnitRows → UnitRows → List RowEdit → Type 0
 AllPutOverSeen rows seen [] = Unit {0}
 AllPutOverSeen rows seen (c ∷ cs) = PutsOverSeen rows seen c × AllPutOverSeen (changed c rows) seen cs
 
--- each row that an accepted call puts over another lies in what the call looks at, whatever the legal history
+-- each row that an accepted call replaces is among those that the call looks at, whatever the legal history
 abbrev pub PutsOverWhatIsSeen : Type 0
 PutsOverWhatIsSeen =
     (h : List Call) (c : Call) → IsLegal h → may_follow h c ≡ true

@@ -7,26 +7,26 @@ use Rattle.plant_types.specs.Names.{Name}
 use Rattle.plant_model.specs.declared.call.Request.TheVariants as request
 use Rattle.plant_model.specs.Kinds.{rows_of_file}
 
--- what a call looks at, beside the unit's own row and the caller's grants
+-- what a call looks at, apart from the unit's own row and the caller's grants
 pub data Scope : Type 0 where
   -- nothing else
   NothingElse : Scope
   AllGrants : Scope
   -- an alarm with its shelf
   OneAlarm : Name → Scope
-  -- an alarm with its shelf, and all others where the quota may be used up
+  -- an alarm with its shelf, and all others if the quota may be used up
   Shelving : Name → Scope
   -- an alarm with its record and the change that it came from
   OneRecord : Name → Scope
   -- a change with its matrix
   OneChange : ℕ → Scope
-  -- a change with its matrix, and what it is a change of
+  -- a change with its matrix, and what it changes
   Approval : ℕ → Scope
   -- an alarm with its record, and the matrix in force
   Content : Name → Scope
   -- all records with the changes that they came from, and the matrix in force
   AllRecords : Scope
-  -- all alarms, and the events that a file's rows are seen beside
+  -- all alarms, and the events that are needed to import a file's rows
   File : List Event → Scope
   -- all shelves with their alarms
   AllShelves : Scope

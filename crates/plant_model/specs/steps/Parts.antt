@@ -14,8 +14,8 @@ use Rattle.plant_model.specs.declared.rows.ChangeTopic.TheVariants.{Limit as Lim
 use Rattle.plant_model.specs.declared.rows.{ShelfRow.{ShelfRow}, UnitPart.{UnitPart}, UnitRows.{UnitRows}}
 use Rattle.plant_types.specs.{Names.{Name, same_name}, Roles.{Pair}}
 
--- the rows of a scope, beside the unit's own row and the caller's grants: by pair, tag, number of a matrix, number of a
--- change
+-- the rows of a scope, apart from the unit's own row and the caller's grants: by pair, tag, number of a matrix, number
+-- of a change
 pub record Selection : Type 0 where
   pub pair : Pair → Bool
   pub alarm : Name → Bool
@@ -72,7 +72,7 @@ is_source rows tags n = list_any (λ r. tags r.tag && same_number n r.change_no)
 abbrev pub of_records : UnitRows → Selection
 of_records rows = record nothing { rationale = every; matrix = is_in_force rows; change = is_source rows every }
 
--- what a change is of: a change of a record or of a limit that has no tag leaves nothing out
+-- what a change changes: a change of a record or of a limit without a tag leaves nothing out
 abbrev pub of_topic : UnitRows → Option Name → ChangeTopic → Selection
 of_topic rows tag MatrixTopic = of_records rows
 of_topic rows (Some a) RecordTopic = of_content rows a
@@ -87,7 +87,7 @@ abbrev pub of_approved : UnitRows → ℕ → Option ChangeEntry → Selection
 of_approved rows n None = change_by_number n
 of_approved rows n (Some c) = with_number n (of_topic rows c.tag c.kind_no)
 
--- so many shelves are kept that the quota may be used up
+-- there are at least as many shelves as the quota, so it may be used up
 abbrev pub is_crowded : UnitRows → Bool
 is_crowded rows = nat_le (unit_read rows).quota (length rows.shelves)
 
@@ -95,7 +95,7 @@ is_crowded rows = nat_le (unit_read rows).quota (length rows.shelves)
 abbrev pub has_shelf : List ShelfRow → Name → Bool
 has_shelf shelves a = list_any (λ s. same_name a s.tag) shelves
 
--- for a shelving the alarm and the shelf of its tag, and those of all others where the quota may be used up
+-- for a shelving, the alarm and the shelf of its tag, and all others if the quota may be used up
 abbrev pub of_shelving : Bool → Name → Selection
 of_shelving crowded a = record nothing { alarm = λ b. crowded || same_name a b; shelf = λ b. crowded || same_name a b }
 
@@ -150,7 +150,7 @@ part_of_holder c rows =
       held = true;
     }
 
--- of one who holds no role: the unit's row and the caller's grants, which have ended
+-- for a caller who holds no role: the unit's row and the caller's grants, which have ended
 abbrev pub part_of_stranger : Call → UnitRows → UnitPart
 part_of_stranger c rows =
     record {

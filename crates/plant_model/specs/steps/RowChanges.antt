@@ -41,7 +41,7 @@ abbrev pub changed_by : List RowEdit → UnitRows → UnitRows
 changed_by [] rows = rows
 changed_by (c ∷ cs) rows = changed_by cs (changed c rows)
 
--- what a unit's rows are before its opening
+-- the rows of a unit before its opening: none
 abbrev pub no_rows : UnitRows
 no_rows =
     record {

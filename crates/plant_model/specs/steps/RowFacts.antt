@@ -125,11 +125,11 @@ held_by grants t k = unwrap_or (option_map (λ g. is_before t g.end_s) (row_at p
 abbrev pub holds_by : List GrantRow → ℕ → Name → Bool
 holds_by grants t p = some_role (λ r. held_by grants t (p, r))
 
--- a grant of the person whose end is not yet there
+-- a grant to the person that has not ended
 abbrev pub is_held_row : ℕ → Name → GrantRow → Bool
 is_held_row t p g = if same_name p g.person then is_before t g.end_s else false
 
--- the facts, with the numbers of alarms and of changes beside the rows
+-- the facts from rows, given the numbers of alarms and of changes
 abbrev pub facts_from : UnitRows → ℕ → ℕ → Facts
 facts_from rows alarm_count change_count =
     record {

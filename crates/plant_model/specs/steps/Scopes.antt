@@ -1,4 +1,4 @@
--- What a request looks at in a unit, as the code says it, and the rows that it takes in.
+-- What a request looks at in a unit, in the code's types, and the rows that it takes in.
 use Rattle.std.specs.Prelude.{Bool, Option, Some, false, option_copied, true, ℕ, ◌≡◌}
 use Rattle.plant_import.specs.Needed.{needed}
 use Rattle.plant_model.specs.{Histories.{begins}, Kinds.{says}}
@@ -33,7 +33,7 @@ selection_by rows AllShelves = record nothing { alarm = has_shelf rows.shelves; 
 selection_by rows AllAlarms = record nothing { alarm = every; shelf = every; rationale = every }
 selection_by rows AllEvents = record nothing { events = all_events }
 
--- what a change is of
+-- what a change changes
 abbrev pub of_entry : ChangeEntry → UnitRows → Selection
 of_entry c rows = of_topic rows c.tag c.kind_no
 
