@@ -1,4 +1,4 @@
--- What a call looks at in a unit's rows, and which rows of each table that is.
+-- Which rows of each table a scope takes in, that is, which rows a call looks at.
 use Rattle.std.specs.{BTreeSet.{BTreeSet, contains}, List.{list_any}, Ordering.{nat_cmp}}
 use Rattle.std.specs.Prelude.{Bool, IfOk, List, [], None, Option, Result, Some, false, filter, length, true, ℕ, ◌&&◌, ◌||◌, ◌≡◌}
 use Rattle.plant_alarm.specs.declared.event.Event.{Event}
@@ -28,12 +28,12 @@ grants_by p rows scope = filter (λ g. same_name p g.person || (selection_by row
 abbrev pub changes_by : UnitRows → Scope → List ChangeEntry
 changes_by rows scope = filter (λ r. (selection_by rows scope).change r.number) rows.changes
 
--- a unit with this row of its own and so many shelves is crowded, or not
+-- whether a unit with this row of its own and this number of shelves is crowded
 abbrev pub IsCrowdedWith : List UnitRow → ℕ → Bool → Type 0
 IsCrowdedWith units shelves crowded = (rows : UnitRows) → rows.units ≡ units → length rows.shelves ≡ shelves
     → is_crowded rows ≡ crowded
 
--- the change that the request approves is this, if it is there
+-- the change that the request approves is this, if it exists
 abbrev pub IsApprovedBy : UnitRows → Request → Option ChangeEntry → Type 0
 IsApprovedBy rows q approved = (n : ℕ) → number_approved q ≡ Some n → change_found rows n ≡ approved
 
@@ -63,7 +63,7 @@ is_wanted Every a = true
 abbrev pub AreWanted : (UnitRows → Name → Bool) → Wanted → Type 0
 AreWanted passes wanted = (rows : UnitRows) (a : Name) → passes rows a ≡ is_wanted wanted a
 
--- the tag is among those of the alarms that are wanted, in a unit with these shelves
+-- in a unit with these shelves, the tag is that of a wanted alarm
 abbrev pub is_alarm_wanted : List ShelfRow → WantedAlarms → Name → Bool
 is_alarm_wanted shelves (Those wanted) a = is_wanted wanted a
 is_alarm_wanted shelves Shelved a = has_shelf shelves a
@@ -73,16 +73,16 @@ abbrev pub AreAlarmsWanted : Scope → WantedAlarms → Type 0
 AreAlarmsWanted scope wanted = (rows : UnitRows) (a : Name)
     → (selection_by rows scope).alarm a ≡ is_alarm_wanted rows.shelves wanted a
 
--- where shelves decide which alarms are wanted, all shelves are selected too
+-- if the shelves determine which alarms are wanted, all shelves are selected too
 abbrev pub HasTheirShelves : Selection → WantedAlarms → Type 0
 HasTheirShelves chosen (Those wanted) = Unit {0}
 HasTheirShelves chosen Shelved = (a : Name) → chosen.shelf a ≡ true
 
--- the alarms that are wanted, of all
+-- those of all alarms that are wanted
 abbrev pub alarms_wanted : WantedAlarms → List ShelfRow → List AlarmRow → List AlarmRow
 alarms_wanted wanted shelves alarms = filter (λ r. is_alarm_wanted shelves wanted r.tag) alarms
 
--- the events that are wanted, of all
+-- those of all events that are wanted
 abbrev pub events_wanted : WantedEvents → List Event → List Event
 events_wanted NoEvents es = []
 events_wanted (Beside rows) es = needed es rows.now
@@ -93,7 +93,7 @@ abbrev pub AreEventsWanted : Scope → WantedEvents → Type 0
 AreEventsWanted scope wanted = (rows : UnitRows) (es : List Event)
     → (selection_by rows scope).events es ≡ events_wanted wanted es
 
--- the number is the one, if there is one
+-- there is a number, and it is this one
 abbrev pub is_asked_number : Option ℕ → ℕ → Bool
 is_asked_number None n = false
 is_asked_number (Some m) n = same_number m n

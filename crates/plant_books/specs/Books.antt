@@ -1,20 +1,20 @@
--- What the calls of the trait `Books` say, by its ghost members.
+-- The contracts of the trait `Books`, in terms of its ghost members.
 use Rattle.std.specs.Prelude.{IfOk, List, OnErr, OnOk, Option, Result, Some, ℕ, ◌≡◌}
 use Rattle.plant_books.specs.{Contents.{Content, IsKnownTo, after_changes, part_in}, Counting.{Counts}}
 use Rattle.plant_model.specs.{Worlds.{unit_named}, declared.{call.Call.{Call}, rows.{RowEdit.{RowEdit}, UnitPart.{UnitPart}}}}
 use Rattle.plant_types.specs.{Names.{Name}, declared.fault.Fault.{Fault}}
 
--- if the keeper's premise holds as a call ends, it held as it began
+-- if the keeper's premise holds when a call ends, it held when the call began
 abbrev pub WasHonest : {B : Type 0} → (B → Type 0) → B → B → Type 0
 WasHonest is_honest before after = is_honest after → is_honest before
 
--- if the call succeeds, and the keeper's premise holds as it ends, it gives this of what the books hold
+-- if the call succeeds and the keeper's premise holds when it ends, it gives this value of the books' content
 abbrev pub Finds : {B A E : Type 0} → (B → Content → Type 0) → (B → Type 0) → B → B → Result A E → (Content → A)
     → Type 0
 Finds represents is_honest before after said what = (m : Content) → represents before m → is_honest after
     → IfOk said (λ x. x ≡ what m)
 
--- the same of the part of the rows that a call looks at, if it names a unit
+-- the same for the part of the rows that a call looks at, if it names a unit
 abbrev pub FindsPart : {B E : Type 0} → (B → Content → Type 0) → (B → Type 0) → B → B → Call
     → Result (Option UnitPart) E → Type 0
 FindsPart represents is_honest before after c said = (m : Content) → represents before m → is_honest after → (u : Name)
@@ -33,6 +33,6 @@ abbrev pub Makes : {B A E : Type 0} → (B → Content → Type 0) → B → B �
 Makes represents before after u cs said = (m : Content) → represents before m → IsKnownTo m u cs
     → OnOk said (represents after (after_changes m u cs))
 
--- the call adds one to the number of answers `Store` if it answers `Store`, else nothing
+-- the call adds one to the count of `Store` if it fails with `Store`, else nothing
 abbrev pub CountsBy : {B A : Type 0} → (B → ℕ) → B → B → Result A Fault → Type 0
 CountsBy stores before after said = Counts (stores before) (stores after) said

@@ -4,7 +4,7 @@ use Rattle.plant_model.specs.declared.rows.Row.TheVariants.{Alarm as AlarmPut, B
 use Rattle.plant_model.specs.declared.rows.Row.TheVariants.{Event as EventPut, Grant as GrantPut, Record as RecordPut, Shelf as ShelfPut, Unit as UnitPut}
 use Rattle.plant_model.specs.declared.rows.RowEdit.{RowEdit, TheVariants.{Put, PutEvents, Remove}}
 
--- a change that puts an event, or a list of events, be it empty
+-- a change that puts an event or a list of events, which may be empty
 abbrev pub is_event_put : RowEdit → Bool
 is_event_put (Put (EventPut e)) = true
 is_event_put (PutEvents es) = true

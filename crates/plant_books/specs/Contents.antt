@@ -22,19 +22,19 @@ no_units admin = record { admin = admin; units = empty }
 abbrev pub with_rows : Content → Name → UnitRows → Content
 with_rows m u rows = record { admin = m.admin; units = insert m.units u rows }
 
--- the unit's rows, none where the code was never opened
+-- the unit's rows, none if the code was never opened
 abbrev pub rows_in : Content → Name → UnitRows
 rows_in m u = unwrap_or (get m.units u) no_rows
 
--- the rows of a unit, all but its events
+-- the rows of a unit, except its events
 abbrev pub without_events : UnitRows → UnitRows
 without_events rows = record rows { events = [] }
 
--- the rows of a unit, all but what was reviewed: the limits and cells of its matrices, and its changes
+-- the rows of a unit, except what was reviewed: the limits and cells of its matrices, and its changes
 abbrev pub without_reviews : UnitRows → UnitRows
 without_reviews rows = record rows { bands = []; cells = []; changes = [] }
 
--- the rows of a unit, all but its history: what was reviewed, and its events
+-- the rows of a unit, except its history: what was reviewed, and its events
 abbrev pub without_history : UnitRows → UnitRows
 without_history rows = without_events (without_reviews rows)
 
@@ -43,11 +43,11 @@ abbrev pub with_history_of : UnitRows → UnitRows → UnitRows
 with_history_of whole rows =
     record rows { bands = whole.bands; cells = whole.cells; changes = whole.changes; events = whole.events }
 
--- the unit's rows but its history, none where the code was never opened
+-- the unit's rows except its history, none if the code was never opened
 abbrev pub rows_but_history : Content → Name → Option UnitRows
 rows_but_history m u = option_map without_history (get m.units u)
 
--- the unit's events, none where the code was never opened
+-- the unit's events, none if the code was never opened
 abbrev pub events_in : Content → Name → List Event
 events_in m u = (rows_in m u).events
 
@@ -55,7 +55,7 @@ events_in m u = (rows_in m u).events
 abbrev pub after_changes : Content → Name → List RowEdit → Content
 after_changes m u cs = with_rows m u (changed_by cs (rows_in m u))
 
--- the unit is there, or the changes put its row
+-- the unit exists, or the changes put its row
 abbrev pub IsKnownTo : Content → Name → List RowEdit → Type 0
 IsKnownTo m u cs = (contains_key m.units u ≡ true) ⊎ (puts_unit cs ≡ true)
 
@@ -76,7 +76,7 @@ roles_in t p rows = map (λ g. g.role_no) (filter (is_held_row t p) rows.grants)
 abbrev pub mine_as : ℕ → Name → Name → UnitRows → MineUnit
 mine_as t p u rows = record { unit = u; roles = roles_in t p rows; last = (unit_read rows).last_s }
 
--- the same of a unit that was opened, where the person holds a role at the moment
+-- the same for a unit that was opened, if the person holds a role there at the moment
 abbrev pub mine_unit : ℕ → Name → Name → Option UnitRows → Option MineUnit
 mine_unit t p u None = None
 mine_unit t p u (Some rows) = when (is_held_in t p (Some rows)) (mine_as t p u rows)
@@ -89,7 +89,7 @@ mine_units m t p = filter_map (λ u. mine_unit t p u (get m.units u)) (keys m.un
 abbrev pub mine_row : Name → UnitRows → ShelfRow → MineRow
 mine_row u rows s = record { unit = u; shelf = s; last_return = last_return_in rows.alarms s.tag }
 
--- the shelves of a unit are put at the end of others
+-- the shelves of a unit are appended to others
 abbrev pub AddsShelves : {A E : Type 0} → Name → UnitRows → List MineRow → List MineRow → Result A E → Type 0
 AddsShelves u rows before after said = OnOk said (after ≡ before ++ map (mine_row u rows) rows.shelves)
 
@@ -106,6 +106,6 @@ shelves_mine t p u (Some rows) = if is_held_in t p (Some rows) then map (mine_ro
 abbrev pub mine_shelves : Content → ℕ → Name → List MineRow
 mine_shelves m t p = flat_map (λ u. shelves_mine t p u (get m.units u)) (keys m.units)
 
--- the part of a unit's rows that a call looks at, none where the code was never opened
+-- the part of a unit's rows that a call looks at, none if the code was never opened
 abbrev pub part_in : Content → Call → Name → Option UnitPart
 part_in m c u = option_map (part_of c) (get m.units u)

@@ -1,10 +1,10 @@
--- What the calls of the trait `Books` say of a crash: what the next opening may find after it.
+-- What the contracts of the trait `Books` state about a crash: what the next opening may find after it.
 use Rattle.std.specs.{FinMap.{get}, Prelude.{List, ◌≡◌, ◌⊎◌}}
 use Rattle.plant_books.specs.Contents.{Content, IsKnownTo, after_changes}
 use Rattle.plant_model.specs.declared.rows.RowEdit.{RowEdit}
 use Rattle.plant_types.specs.Names.{Name}
 
--- two contents are alike: of the same administrator, with the same rows of each unit, so every call answers both alike
+-- two contents are alike: the same administrator, and the same rows of each unit, so every call has the same answer
 pub record Alike (x m : Content) : Type 0 where
   pub admin : x.admin ≡ m.admin
   pub units : (u : Name) → get x.units u ≡ get m.units u

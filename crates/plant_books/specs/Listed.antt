@@ -26,11 +26,11 @@ listed_shelves opened t p = flat_map (λ o. shelves_mine t p o.unit (Some o.rows
 abbrev pub opened_after : List OpenedUnit → Name → List RowEdit → OpenedUnit
 opened_after opened u cs = record { unit = u; rows = changed_by cs (unwrap_or (rows_at opened u) no_rows) }
 
--- the list with this unit, which is put among the others if it was never opened
+-- the list with this unit, which is added if it was never opened
 abbrev pub listed_after : List OpenedUnit → Name → List RowEdit → List OpenedUnit
 listed_after opened u cs = put_row name_cmp (λ o. o.unit) (opened_after opened u cs) opened
 
--- the administrator is that of the content, and the units are its codes with their rows, in the order of codes
+-- the content has this administrator, and the list has its units with their rows, in the order of codes
 pub record IsListed (administrator : Name) (opened : List OpenedUnit) (m : Content) : Type 0 where
   pub admin : administrator ≡ m.admin
   pub units : map (λ o. (o.unit, o.rows)) opened ≡ entries m.units

@@ -1,4 +1,4 @@
--- Rows with a number: limits and cells with that of their matrix, and changes.
+-- Rows with a number: limits and cells have that of their matrix, changes their own.
 use Rattle.std.specs.{BTreeSet.{BTreeSet, contains}, List.Sorted.{IsNonDecreasingBy}, Ordering.{nat_cmp}, Prelude.{List, filter, ℕ}}
 use Rattle.plant_model.specs.Histories.{same_number}
 
@@ -6,7 +6,7 @@ use Rattle.plant_model.specs.Histories.{same_number}
 abbrev pub NumbersRise : {X : Type 0} → (X → ℕ) → List X → Type 0
 NumbersRise number rows = IsNonDecreasingBy number rows
 
--- the rows of a number
+-- the rows with a number
 abbrev pub of_number : {X : Type 0} → (X → ℕ) → ℕ → List X → List X
 of_number number n rows = filter (λ r. same_number (number r) n) rows
 

@@ -1,4 +1,4 @@
-//! What a call looks at, and which rows of each table that is.
+//! Which rows of each table a scope takes in, that is, which rows a call looks at.
 
 ghost use Rattle.std.specs.Prelude.{◌≡◌, ◌||◌};
 ghost use Rattle.plant_books.specs.Asking.{AreAlarmsWanted, AreEventsWanted, AreWanted, HasTheirShelves, IsCrowdedWith, TakesChanges, TakesMatrix, TakesSources, is_wanted};
@@ -32,7 +32,7 @@ pub enum WantedAlarms<'a> {
 #[derive(Clone, Copy)]
 pub enum WantedEvents<'a> {
     Nothing,
-    /// Those among which these rows of a file are put.
+    /// Those that are needed to import these rows of a file.
     Beside(&'a [Event]),
     Every,
 }
@@ -50,7 +50,7 @@ impl Wanted<'_> {
     }
 }
 
-/// Whether a unit that keeps this many shelves is crowded: its quota may be used up.
+/// Whether a unit with this many shelves is crowded: its quota may be used up.
 pub fn is_crowded(units: &List<UnitRow>, shelves: u64) -> bool
     ensures { IsCrowdedWith units.now shelves result }
 {
@@ -78,7 +78,7 @@ fn wanted_in(tag: &Tag, crowded: bool) -> Wanted<'_>
     }
 }
 
-/// The alarms that a change is of.
+/// The alarms that a change concerns.
 fn alarms_changed(change: &ChangeEntry) -> Wanted<'_>
     ensures { AreWanted (λ rows. (of_entry change.now rows).alarm) result }
 {
@@ -89,7 +89,7 @@ fn alarms_changed(change: &ChangeEntry) -> Wanted<'_>
     }
 }
 
-/// The records that a change is of.
+/// The records that a change concerns.
 fn records_changed(change: &ChangeEntry) -> Wanted<'_>
     ensures { AreWanted (λ rows. (of_entry change.now rows).rationale) result }
 {
@@ -99,7 +99,7 @@ fn records_changed(change: &ChangeEntry) -> Wanted<'_>
     }
 }
 
-/// Whether a change is of all records, and so of the changes that they came from.
+/// Whether a change concerns all records, and so the changes that they came from.
 fn changes_sources(change: &ChangeEntry) -> bool
     ensures { TakesSources (of_entry change.now) result }
 {
@@ -161,7 +161,7 @@ pub fn wanted_events<'a>(scope: Scope<'a>) -> WantedEvents<'a>
     }
 }
 
-/// The number of the change that the scope takes in with its matrix, if it takes in one.
+/// The number of the change that the scope takes in with its matrix, if any.
 pub fn wanted_change(scope: Scope<'_>) -> Option<u32>
     ensures { result ≡ asked.number_named scope.entry }
 {

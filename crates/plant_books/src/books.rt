@@ -33,28 +33,28 @@ pub trait Books {
     /// The books hold this content, if the keeper's premise holds.
     ghost represents: { Self → Content → Type 0 };
 
-    /// The keeper's premise: that its store keeps what was written to it. Where it holds after a call, it held before.
+    /// The keeper's premise: its store keeps what was written to it. If it holds after a call, it held before.
     ghost is_honest: { Self → Type 0 };
 
-    /// How many answers were `Store`.
+    /// How many calls failed with `Fault::Store`.
     ghost stores: { Self → ℕ };
 
-    /// The keeper's premise on a crash: that its store's disk has returned what was written to it, whether or not a
-    /// failure has shut the store. Where it holds after a call, it held before.
+    /// The keeper's premise about a crash: the store's disk has returned what was written to it, whether or not a
+    /// failure has shut the store. If it holds after a call, it held before.
     ghost is_clean: { Self → Type 0 };
 
     /// The next opening after a crash at this moment may find books with this content.
     ghost may_leave: { Self → Content → Type 0 };
 
-    /// Whatever a crash at this moment leaves is books.
+    /// Whatever a crash at this moment leaves can be opened as books.
     ghost leaves_books: { Self → Type 0 };
 
-    /// Tells the proof what a crash leaves while the store is open. It does nothing.
+    /// Gives the proof what a crash leaves while the store is open. Does nothing at run time.
     fn settle(&self)
         ensures { IsSettled represents is_honest is_clean leaves_books may_leave self.now };
 
-    /// Whether a failure has shut the store behind these books, which are never honest again then. It asks no store and
-    /// takes no memory.
+    /// Whether a failure has shut the store behind these books. The books are then never honest again. Does not access
+    /// the store, and takes no memory.
     fn is_shut(&self) -> bool
         ensures { IsTrue result → ¬ is_honest self.now };
 
@@ -71,7 +71,7 @@ pub trait Books {
         ensures crash { LosesNothing represents is_honest is_clean leaves_books may_leave self.old self.new }
         ensures count { CountsBy stores self.old self.new result };
 
-    /// All rows of the unit, none where it was never opened.
+    /// All rows of the unit. `None` if it was never opened.
     fn rows(&mut self, unit: &UnitCode) -> Result<Option<UnitRows>, Fault>
         ensures found { Finds represents is_honest self.old self.new result
             (λ m. fin.get m.units unit.now) }
@@ -80,8 +80,8 @@ pub trait Books {
         ensures crash { LosesNothing represents is_honest is_clean leaves_books may_leave self.old self.new }
         ensures count { CountsBy stores self.old self.new result };
 
-    /// All rows of the unit but its history, which is its events, its changes, and the limits and cells of its matrices.
-    /// None where it was never opened.
+    /// All rows of the unit except its history, which is its events, its changes, and the limits and cells of its
+    /// matrices. `None` if it was never opened.
     fn rows_but_history(&mut self, unit: &UnitCode) -> Result<Option<UnitRows>, Fault>
         ensures found { Finds represents is_honest self.old self.new result
             (λ m. rows_but_history m unit.now) }
@@ -90,7 +90,7 @@ pub trait Books {
         ensures crash { LosesNothing represents is_honest is_clean leaves_books may_leave self.old self.new }
         ensures count { CountsBy stores self.old self.new result };
 
-    /// All events of the unit, none where it was never opened.
+    /// All events of the unit. Empty if it was never opened.
     fn events(&mut self, unit: &UnitCode) -> Result<Sorted<Event>, Fault>
         ensures found { Finds represents is_honest self.old self.new result
             (λ m. events_in m unit.now) }
@@ -99,7 +99,7 @@ pub trait Books {
         ensures crash { LosesNothing represents is_honest is_clean leaves_books may_leave self.old self.new }
         ensures count { CountsBy stores self.old self.new result };
 
-    /// The rows of the unit that the call looks at, none where the unit was never opened or the call names none.
+    /// The rows of the unit that the call looks at. `None` if the unit was never opened or the call names no unit.
     fn part(&mut self, call: &Call) -> Result<Option<UnitPart>, Fault>
         ensures found { FindsPart represents is_honest self.old self.new call.now result }
         ensures none { unit_named call.now.request ≡ None → IfOk result (λ part. part ≡ None) }
@@ -108,7 +108,7 @@ pub trait Books {
         ensures crash { LosesNothing represents is_honest is_clean leaves_books may_leave self.old self.new }
         ensures count { CountsBy stores self.old self.new result };
 
-    /// The codes of the units in which the person holds a role at the moment, rising, each once.
+    /// The codes of the units in which the person holds a role at the moment, in order, each once.
     fn held(&mut self, person: &Person, now: Moment) -> Result<List<UnitCode>, Fault>
         ensures found { Finds represents is_honest self.old self.new result
             (λ m. codes_held m now person.now) }
@@ -137,9 +137,9 @@ pub trait Books {
         ensures crash { LosesNothing represents is_honest is_clean leaves_books may_leave self.old self.new }
         ensures count { CountsBy stores self.old self.new result };
 
-    /// Makes the changes to this unit's rows in their order: all of them, or none. Where the caller has seen the unit's
-    /// rows of the keys that are put, a row whose key is not among them may be put as a new one, which spares a search;
-    /// if there is one nevertheless, that is a fault of the store.
+    /// Makes the changes to this unit's rows in their order: all of them, or none. `seen` has the unit's rows that the
+    /// caller looked at. If it is given, a row whose key is not in it may be inserted as a new row, which saves a
+    /// search; if a row with that key exists nevertheless, that is a fault of the store.
     fn apply(
         &mut self,
         unit: &UnitCode,
@@ -153,7 +153,7 @@ pub trait Books {
         ensures kept { OnOk result (is_clean self.new → is_honest self.new) }
         ensures count { CountsBy stores self.old self.new result };
 
-    /// Makes the changes, as `apply` does, and may take their rows for its own.
+    /// Makes the changes, as `apply` does, but takes ownership of their rows, which may save copies.
     fn carry_out(
         &mut self,
         unit: &UnitCode,

@@ -10,7 +10,7 @@ use plant_model::{Key, Row, RowEdit, UnitRow, UnitRows};
 use plant_types::{Fault, List};
 use std::alloc::Global;
 
-/// The table of the one row.
+/// The table with this one row.
 fn one_row(alloc: Global, row: UnitRow) -> Result<List<UnitRow>, Fault>
     ensures value { IfOk result (λ rows. rows ≡ row ∷ []) }
     ensures memory { OnlyMemory result }
@@ -20,7 +20,7 @@ fn one_row(alloc: Global, row: UnitRow) -> Result<List<UnitRow>, Fault>
     Ok(rows)
 }
 
-/// Puts a row of a unit.
+/// Inserts a row into its table, or replaces the row with its key.
 fn put_row(alloc: Global, rows: &mut UnitRows, row: Row) -> Result<(), Fault>
     ensures ok { OnOk result (rows.new ≡ put row rows.old) }
     ensures memory { OnlyMemory result }
@@ -41,7 +41,7 @@ fn put_row(alloc: Global, rows: &mut UnitRows, row: Row) -> Result<(), Fault>
     }
 }
 
-/// Takes the row of a key out.
+/// Removes the row with a key, if any.
 fn take_out(rows: &mut UnitRows, key: Key)
     ensures { rows.new ≡ removed key rows.old }
 {
@@ -55,7 +55,7 @@ fn take_out(rows: &mut UnitRows, key: Key)
     }
 }
 
-/// Makes one change of the rows.
+/// Makes one change to the rows.
 fn make_change(alloc: Global, rows: &mut UnitRows, change: RowEdit) -> Result<(), Fault>
     ensures value { OnOk result (rows.new ≡ changed change rows.old) }
     ensures memory { OnlyMemory result }

@@ -9,7 +9,7 @@ use plant_model::{AlarmRow, ShelfRow};
 use plant_types::{Fault, Keyed, List, Sorted, Tag, TryCopy};
 use std::alloc::Global;
 
-/// A table of a copy of the row, if there is one.
+/// A table with a copy of the row, or without rows if there is none.
 fn one_copy<T: Keyed + TryCopy>(alloc: Global, row: Option<&T>) -> Result<Sorted<T>, Fault>
     ensures value { IfOk result (λ rows. rows ≡ option_to_list (option_copied row.entry)) }
     ensures memory { OnlyMemory result }
@@ -21,7 +21,7 @@ fn one_copy<T: Keyed + TryCopy>(alloc: Global, row: Option<&T>) -> Result<Sorted
     Ok(rows)
 }
 
-/// Copies of the rows of the tags that are wanted.
+/// Copies of the rows whose tags are wanted.
 pub fn rows_wanted<T: Keyed<Key = Tag> + TryCopy>(
     alloc: Global,
     rows: &Sorted<T>,
@@ -30,7 +30,7 @@ pub fn rows_wanted<T: Keyed<Key = Tag> + TryCopy>(
     ensures value { Gives result (rows_wanted T.key wanted.now rows.now) }
     ensures memory { OnlyMemory result }
 {
-    // Gives the proof the order of the rows; tests nothing.
+    // Gives the proof the order of the rows; checks nothing at run time.
     let _rows = rows.as_slice();
     match wanted {
         Wanted::Nothing => Ok(Sorted::new(alloc)),
@@ -48,7 +48,7 @@ pub fn shelved_alarms(
     ensures value { Gives result (shelved shelves.now alarms.now) }
     ensures memory { OnlyMemory result }
 {
-    // Gives the proof the order of the alarms; tests nothing.
+    // Gives the proof the order of the alarms; checks nothing at run time.
     let _alarms = alarms.as_slice();
     let mut found = List::new(alloc);
     for shelf in shelves.as_slice() {

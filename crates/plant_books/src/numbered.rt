@@ -1,4 +1,4 @@
-//! Rows with a number, in which those of a number are found by halving.
+//! Tables whose keys begin with a number. The rows with a number are found by binary search.
 
 ghost use Rattle.std.specs.Prelude.{◌≡◌, ◌++◌, OnOk};
 ghost use Rattle.plant_books.specs.Numbered.{of_number, of_numbers};
@@ -60,7 +60,7 @@ impl Numbered for ChangeEntry {
     }
 }
 
-/// The rows of a number.
+/// The rows with a number.
 fn rows_of_number<T: Numbered>(rows: &Sorted<T>, number: u32) -> &[T]
     ensures { result.now ≡ of_number T.number number rows.now }
 {
@@ -70,7 +70,7 @@ fn rows_of_number<T: Numbered>(rows: &Sorted<T>, number: u32) -> &[T]
     these
 }
 
-/// Adds copies of the rows.
+/// Appends copies of the rows.
 fn push_all<T: TryCopy>(alloc: Global, all: &mut List<T>, rows: &[T]) -> Result<(), Fault>
     ensures ok { OnOk result (all.new ≡ all.old ++ rows.now) }
     ensures memory { OnlyMemory result }
@@ -81,7 +81,7 @@ fn push_all<T: TryCopy>(alloc: Global, all: &mut List<T>, rows: &[T]) -> Result<
     Ok(())
 }
 
-/// Copies of the rows of these numbers.
+/// Copies of the rows with these numbers.
 #[tactic(auto, using(crate::proofs::public::NumberRanges::goes_on, crate::proofs::public::NumberRanges::of_none))]
 pub fn rows_of_numbers<T: Numbered>(
     alloc: Global,
@@ -91,7 +91,7 @@ pub fn rows_of_numbers<T: Numbered>(
     ensures value { Gives result (of_numbers T.number numbers.now rows.now) }
     ensures memory { OnlyMemory result }
 {
-    // Gives the proof the order of the rows; tests nothing.
+    // Gives the proof the order of the rows; checks nothing at run time.
     let _rows = rows.as_slice();
     let mut found = List::new(alloc);
     for number in numbers {

@@ -80,7 +80,7 @@ pub fn copy_of(
     }
 }
 
-/// A copy of the rows of a unit but its history, if it was opened.
+/// A copy of the rows of a unit except its history, if it was opened.
 pub fn copy_but_history(
     alloc: Global,
     units: &Sorted<OpenedUnit>,
@@ -95,7 +95,7 @@ pub fn copy_but_history(
     }
 }
 
-/// A copy of the events of a unit, none where it was never opened.
+/// A copy of the events of a unit. Empty if it was never opened.
 pub fn events_of(
     alloc: Global,
     units: &Sorted<OpenedUnit>,
@@ -177,14 +177,14 @@ pub fn units_held(
     Ok(mine)
 }
 
-/// When the alarm of the tag last returned to normal.
+/// When the alarm with the tag last returned to normal, if ever.
 fn return_of(alarms: &Sorted<AlarmRow>, tag: &Tag) -> Option<Moment>
     ensures { result ≡ facts.last_return_in alarms.now tag.now }
 {
     alarms.get(tag).and_then(|alarm| alarm.return_s)
 }
 
-/// Puts the shelves of a unit at the end.
+/// Appends the shelves of a unit.
 pub fn push_shelves(
     alloc: Global,
     mine: &mut List<MineRow>,
@@ -223,8 +223,8 @@ pub fn shelves_held(
     Ok(mine)
 }
 
-/// Makes the changes to the rows of a unit, which is put among the others where it was never
-/// opened. If memory runs out, nothing changes.
+/// Makes the changes to the rows of a unit. If it was never opened, it is added to the list. If
+/// memory runs out, nothing changes.
 pub fn change_unit(
     alloc: Global,
     units: &mut Sorted<OpenedUnit>,

@@ -24,7 +24,7 @@ use plant_model::{
 use plant_types::{Fault, List, Person, Sorted, TryCopy, copy_all};
 use std::alloc::Global;
 
-/// A copy of the rows of a unit but its history.
+/// A copy of the rows of a unit except its history.
 pub fn rows_but_history(alloc: Global, rows: &UnitRows) -> Result<UnitRows, Fault>
     ensures value { IfOk result (λ copy. copy ≡ without_history rows.now) }
     ensures memory { OnlyMemory result }
@@ -34,7 +34,7 @@ pub fn rows_but_history(alloc: Global, rows: &UnitRows) -> Result<UnitRows, Faul
     Ok(copies)
 }
 
-/// Puts copies of a unit's rows but its history in place of others. It owns no list where a copy fails, as `put_asked`.
+/// Replaces rows with copies of a unit's rows except its history. Like `put_asked`, it owns no list when a copy fails.
 fn copy_but_history(alloc: Global, rows: &UnitRows, copies: &mut UnitRows) -> Result<(), Fault>
     ensures value { OnOk result (copies.new ≡ record copies.old {
       units = rows.now.units;
@@ -73,7 +73,7 @@ fn grants_asked(
     Ok(Sorted::of(asked))
 }
 
-/// The alarms that are wanted, of all of a unit with these shelves.
+/// Copies of the wanted alarms of a unit that has these alarms and shelves.
 fn alarms_asked(
     alloc: Global,
     alarms: &Sorted<AlarmRow>,
@@ -89,7 +89,7 @@ fn alarms_asked(
     }
 }
 
-/// Copies of the events that a file of these rows is seen beside.
+/// Copies of the events that are needed to import these rows of a file.
 fn events_needed(
     alloc: Global,
     events: &Sorted<Event>,
@@ -150,8 +150,8 @@ fn matrices_asked(
     ))
 }
 
-/// Puts the rows that the scope takes in in place of others, list by list. A function that owns nine lists is proved for
-/// all of them at each copy that can fail; this one owns none.
+/// Replaces rows with the rows that the scope takes in, list by list. The prover treats each list owned at a copy that
+/// can fail; this function owns none of the nine.
 fn put_asked(
     alloc: Global,
     asked: &mut UnitRows,
@@ -195,7 +195,7 @@ fn is_crowded_by(rows: &UnitRows, request: &Request) -> bool
     is_shelving(request) && is_crowded(&rows.units, rows.shelves.len() as u64)
 }
 
-/// The change that the request approves, if it is there.
+/// The change that the request approves, if it exists.
 fn approved_by<'a>(rows: &'a UnitRows, request: &Request) -> Option<&'a ChangeEntry>
     ensures { IsApprovedBy rows.now request.now (option_copied result) }
 {
@@ -213,14 +213,15 @@ fn scope_in<'a>(rows: &'a UnitRows, request: &'a Request) -> Scope<'a>
     )
 }
 
-/// The number of the last change, 0 where there is none.
+/// The number of the last change, 0 without changes.
 fn last_number(changes: &[ChangeEntry]) -> u32
     ensures { result ≡ last_number_of changes.now }
 {
     changes.last().map_or(0, |change| change.number)
 }
 
-/// So many rows as a part counts them. More than it can count are a fault of the store: no legal unit has as many.
+/// A number of rows, as a part counts them. More than 32 bits can hold is a fault of the store: no unit with a legal
+/// history has so many.
 fn count_of(rows: usize) -> Result<u32, Fault>
     ensures value { Gives result rows }
     ensures memory { rows < 2 ^ 32 → OnlyMemory result }
@@ -241,7 +242,7 @@ fn count_asked(rows: &UnitRows, call: &Call) -> Result<u32, Fault>
     }
 }
 
-/// The part of a caller who holds a role.
+/// The part for a caller who holds a role.
 fn part_of_holder(alloc: Global, rows: &UnitRows, call: &Call) -> Result<UnitPart, Fault>
     ensures value { Gives result (holders_part call.now rows.now) }
     ensures memory { counted_for rows.now call.now.request < 2 ^ 32 → OnlyMemory result }
@@ -272,7 +273,7 @@ fn own_grants(
     Ok(Sorted::of(own))
 }
 
-/// The part of a caller who holds no role: the unit's own row, the caller's grants, and nothing else.
+/// The part for a caller who holds no role: the unit's own row, the caller's grants, and nothing else.
 pub fn part_of_grants(alloc: Global, units: List<UnitRow>, grants: Sorted<GrantRow>) -> UnitPart
     ensures rows { result.rows ≡ record no_rows { units = units; grants = grants } }
     ensures count { result.count ≡ 0 }
@@ -289,8 +290,8 @@ pub fn part_of_grants(alloc: Global, units: List<UnitRow>, grants: Sorted<GrantR
     }
 }
 
-/// The part of a unit's rows that the call looks at: of a caller who holds no role the unit's own row and the
-/// caller's grants alone. It is a fault of the store where the unit has more rows than a part can count.
+/// The part of a unit's rows that the call looks at. For a caller who holds no role, that is the unit's own row and the
+/// caller's grants alone. It is a fault of the store if the unit has more rows than a part can count.
 pub fn part_of(alloc: Global, rows: &UnitRows, call: &Call) -> Result<UnitPart, Fault>
     ensures value { Gives result (the_part call.now rows.now) }
     ensures memory { counted_for rows.now call.now.request < 2 ^ 32 → OnlyMemory result }

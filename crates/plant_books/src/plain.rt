@@ -13,7 +13,7 @@ use plant_model::{Call, Changes, UnitPart, UnitRows};
 use plant_types::{Fault, List, Moment, Person, Sorted, UnitCode};
 use std::alloc::Global;
 
-/// The count of answers `Store`, after this fault.
+/// The count of `Fault::Store`, after this fault.
 pub fn count_after(stores: u64, fault: &Fault) -> u64
     ensures { CountsFault stores result fault.now }
 {
@@ -23,7 +23,7 @@ pub fn count_after(stores: u64, fault: &Fault) -> u64
     }
 }
 
-/// What was said. A fault of the store is counted.
+/// Returns the result as it is, and counts a fault of the store.
 fn counted<T: Drop>(stores: &mut u64, said: Result<T, Fault>) -> Result<T, Fault>
     ensures same { result ≡ said }
     ensures count { Counts stores.old stores.new result }
@@ -37,8 +37,8 @@ fn counted<T: Drop>(stores: &mut u64, said: Result<T, Fault>) -> Result<T, Fault
     }
 }
 
-/// A keeper of books in lists, in the order of the units' codes. It answers `Store` only where a unit has more rows
-/// than a part can count.
+/// A keeper of books in lists, in the order of the units' codes. It fails with `Fault::Store` only if a unit has more
+/// rows than a part can count.
 #[derive(Drop)]
 pub struct Plain {
     administrator: Person,
@@ -48,7 +48,7 @@ pub struct Plain {
 }
 
 impl Plain {
-    /// Books with no unit. It takes no memory.
+    /// Books without units. It takes no memory.
     pub fn new(alloc: Global, administrator: Person) -> Plain
         ensures represents { ⟦<Plain as Books>⟧.represents result (no_units administrator) }
         ensures stores { ⟦<Plain as Books>⟧.stores result ≡ 0 }
@@ -71,7 +71,7 @@ impl Books for Plain {
 
     ghost is_clean = { λ _. ⊤ };
 
-    // a crash leaves nothing of lists
+    // nothing of lists in memory is left after a crash
     ghost may_leave = { λ _ _. ⊥ };
 
     ghost leaves_books = { λ _. ⊤ };

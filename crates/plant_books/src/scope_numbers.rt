@@ -19,7 +19,7 @@ fn matrix_in_force(units: &List<UnitRow>) -> u32
     units.as_slice().first().map_or(0, |unit| unit.matrix_no)
 }
 
-/// The numbers of the matrices that the scope takes in of a unit with this row of its own.
+/// The numbers of the matrices that the scope takes in, in a unit whose own row is this.
 pub fn matrix_numbers(
     alloc: Global,
     units: &List<UnitRow>,
@@ -56,8 +56,8 @@ fn sources(
     Ok(numbers)
 }
 
-/// The numbers of the changes that the scope takes in of a unit with these records. Records that it does not take in
-/// may be missing.
+/// The numbers of the changes that the scope takes in, in a unit with these records. Records that the scope does not
+/// take in may be missing.
 pub fn change_numbers(
     alloc: Global,
     records: &[RecordEntry],
