@@ -15,7 +15,7 @@ use Rattle.plant_import.specs.{Merging.{IsRising, first_fault, fresh}, Needed.{n
 use Rattle.plant_types.specs.{Limits.{max_events}, Names.{Name}, Results.{Gives}}
 use Rattle.plant_unit.specs.{Readings.{has_its_sheet, has_kind, is_left_out, is_matrix_at}, Summaries.{HaveSummaries}}
 
--- what is decided, unless it is refused
+-- the decision, unless there is a refusal
 abbrev pub decided_or : {A : Type 0} → Option Refused → A → Result A Refused
 decided_or None decided = Ok decided
 decided_or (Some refused) decided = Err refused
@@ -23,33 +23,34 @@ decided_or (Some refused) decided = Err refused
 abbrev pub rows_added : List Event → List Event → Merged
 rows_added kept rows = record { fresh = fresh kept rows; repeated = length rows - length (fresh kept rows) }
 
--- the new rows of a file and the number of its repeated ones, or the first refusal that its rows meet
+-- the new rows of a file and the number of its repeated ones, or the first refusal of its rows
 abbrev pub addition : Facts → ℕ → List Event → Result Merged Refused
 addition f t rows = decided_or (first_refusal (file_refusals f t (Ok rows))) (rows_added f.events rows)
 
--- the events are not too many to be counted in 32 bits
+-- the number of events fits into 32 bits
 abbrev pub AreCountable : List Event → Type 0
 AreCountable es = length es ≤ 4294967295
 
--- the part of an import: of these events it has those that the file's rows need, and how many there are; the states of
--- its alarms are computed from them
+-- these are the unit's events, in the part of an import: the part has those of them that the file's rows need, and
+-- their number, and the states of its alarms are computed from them
 pub record AreEventsOf (part : UnitPart) (rows es : List Event) : Type 0 where
   pub rise : IsRising es
   pub needed_are : part.rows.events ≡ needed es rows
   pub count_is : part.count ≡ length es
   pub summaries : HaveSummaries part.rows.alarms es
 
--- by all events of the unit: whether with a file's new numbers they are too many
+-- by all events of the unit: the result is whether there are too many events with the file's new ones
 abbrev pub TellsFull : {E : Type 0} → UnitPart → List Event → Result Bool E → Type 0
 TellsFull part rows said = (es : List Event) → AreEventsOf part rows es
     → Gives said (nat_lt max_events (length es + length (new_numbers es rows)))
 
--- by all events of the unit: what a file's rows add at a moment, or why they are refused
+-- by all events of the unit: the result is what a file's rows add at a moment, or why they are refused
 abbrev pub GivesAddition : {E : Type 0} → UnitPart → ℕ → List Event → Result (Result Merged Refused) E → Type 0
 GivesAddition part t rows said = (es : List Event) → AreEventsOf part rows es
     → Gives said (addition (facts_among part es) t rows)
 
--- the events that a request sees in a part: an import those of which it has some, a list of floods those that it has
+-- these are the events that a request sees in a part: for an import some of them are in the part, for a list of floods
+-- all of them; for other requests they can be any
 abbrev pub AreEventsIn : UnitPart → Scope → List Event → Type 0
 AreEventsIn part NothingElse es = Unit {0}
 AreEventsIn part AllGrants es = Unit {0}
@@ -85,7 +86,7 @@ GivesImport part t rows added said =
 
 -- what the parts of a legal history keep
 pub record AreKept (part : UnitPart) : Type 0 where
-  -- events not too many to be counted
+  -- a number of events that fits into 32 bits
   pub events_few : length part.rows.events ≤ 4294967295
   -- the matrix in force, where the part has cells of it, is a matrix
   pub matrix_whole : (is_left_out part.rows (unit_read part.rows).matrix_no
@@ -93,7 +94,7 @@ pub record AreKept (part : UnitPart) : Type 0 where
   -- a change has what its kind needs: the columns, or the rows of a matrix
   pub changes_whole : (n : ℕ) (c : ChangeEntry) → change_found part.rows n ≡ Some c
       → has_kind part.rows c c.kind_no ≡ true
-  -- and nothing else: its row is that of the change that is read from it
+  -- a change has nothing else: its row is that of the change that is read from it
   pub changes_read : (n : ℕ) (c : ChangeEntry) → change_found part.rows n ≡ Some c
       → change_entry (change_read part.rows c) ≡ c
   -- the change that a record came from, where the part has it, has the columns of a sheet

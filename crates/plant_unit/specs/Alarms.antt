@@ -8,7 +8,7 @@ use Rattle.plant_types.specs.{Results.{Gives}}
 use Rattle.plant_unit.specs.{Additions.{AreAdded}, Summaries.{HaveSummaries, has_event_of, summaries, summary_in, summary_of}}
 use Rattle.plant_unit.specs.declared.alarms.Brought.{Brought}
 
--- what some events of alarms come to, and which of the alarms the new ones name
+-- the summaries of alarms by some events, and which of the alarms the new events name
 abbrev pub brought : List AlarmRow → List Event → List Event → Brought
 brought alarms es fresh = record { summaries = summaries alarms es; named = map (has_event_of fresh) alarms }
 
@@ -21,7 +21,7 @@ abbrev pub AddsAt : ℕ → Event → Bool → List Summary → List Summary →
 AddsAt place event latching before after = (es : List Event) → slice_get before place ≡ Some (summary latching es)
     → after ≡ slice_set before place (summary latching (es ++ event ∷ []))
 
--- more events come, which are new
+-- new events are added
 abbrev pub AddsEvents : List AlarmRow → List Event → Brought → Brought → Type 0
 AddsEvents alarms more before after = (es fresh : List Event) → before ≡ brought alarms es fresh
     → after ≡ brought alarms (es ++ more) (fresh ++ more)

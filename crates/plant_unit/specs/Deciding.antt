@@ -1,4 +1,4 @@
--- The rows that proposals and decisions about changes put.
+-- The rows that proposals and decisions on changes put.
 use Rattle.std.specs.Prelude.{List, None, Option, Result, ℕ, map, option_map, true, ◌≡◌}
 use Rattle.plant_model.specs.{Changes.{change_as}, Facts.{Facts}, Rows.{change_entry, max_of_kind, sheet_of_kind, tag_of_kind}, declared.call.Call.{Call}}
 use Rattle.plant_model.specs.steps.{RowChanges.{rerated}, RowFacts.{record_read}}

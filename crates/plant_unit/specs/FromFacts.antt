@@ -1,4 +1,4 @@
--- What a function gives, decides or answers by the facts of a part.
+-- The results of functions, stated by the facts of a part.
 use Rattle.std.specs.Prelude.{IfOk, List, OnOk, Option, Result, ℕ, ◌++◌, ◌≡◌}
 use Rattle.plant_model.specs.{Calls.{own_refusals}, Facts.{Facts}, Refusals.{first_refusal, kind_refusals}}
 use Rattle.plant_model.specs.steps.CallChanges.{own_changes}

@@ -1,4 +1,4 @@
--- What a judgement says.
+-- Verdicts: what the functions that judge a call return.
 use Rattle.std.specs.Prelude.{Bool, Err, IsOkAnd, List, None, Ok, Option, Result, Some, [], false, if◌then◌else◌, is_ok, is_some, nat_lt, not, true, ℕ, ◌++◌, ◌∷◌, ◌≡◌}
 use Rattle.plant_model.specs.{Calls.{own_refusals, reply}, Changes.{priority_by}, Facts.{Facts, last_of}}
 use Rattle.plant_model.specs.steps.CallChanges.{changes_for, own_changes}
@@ -23,21 +23,21 @@ use Rattle.plant_unit.specs.Additions.{AreEventsFor, decided_or}
 abbrev pub is_import : Request → Bool
 is_import r = is_some (says r).file
 
--- what is decided about a request of one who may make it: its first refusal, else the changes that it makes beside that
+-- the decision on a request by someone who may make it: its first refusal, else the changes that it makes besides that
 -- of the unit's row
 abbrev pub own_decision : Facts → Name → ℕ → Request → Result (List RowEdit) Refused
 own_decision f p t r = decided_or (first_refusal (own_refusals f p t r)) (own_changes f p t r)
 
--- the same where it makes one change
+-- the same decision, if it makes one change
 abbrev pub one_change : Result RowEdit Refused → Result (List RowEdit) Refused
 one_change (Err refused) = Err refused
 one_change (Ok change) = Ok (change ∷ [])
 
--- what is answered to such a request, by its own refusals
+-- the answer to such a request, by its own refusals
 abbrev pub own_answer : Facts → Name → ℕ → Request → Result Reply Refused
 own_answer f p t r = refused_or (first_refusal (own_refusals f p t r)) (reply f t r)
 
--- of a change whose row is this: the first of the refusals of a call on it, if any
+-- the first refusal, if any, of a call on the change with this row
 abbrev pub IsRefusalOf : ChangeEntry → (ChangeRow → List (Bool × Refused)) → Option Refused → Type 0
 IsRefusalOf e refusals refused = (rows : UnitRows)
     → refused ≡ first_refusal (of_change (Some (change_read rows e)) refusals)
@@ -68,12 +68,12 @@ abbrev pub record_decision : Facts → ℕ → Name → Sheet → Result Cell Re
 record_decision f base a s =
     decided_or (first_refusal (kind_refusals f base (Rationale a s))) (priority_by f.matrix s.severity s.response)
 
--- a verdict that makes the change of a own_decision and that of the unit's row, and one that only answers
+-- the verdict of a decision, which makes the decided change and that of the unit's row
 abbrev pub done_as : UnitRow → Result RowEdit Refused → Verdict
 done_as row (Err refused) = IsRefused refused
 done_as row (Ok change) = IsAccepted Done (Put (UnitPut row) ∷ change ∷ [])
 
--- the verdict on what was decided, if something was, with the call's moment as the unit's last
+-- the verdict of a decision, if there was no fault, with the call's moment as the unit's last
 abbrev pub IsDone : {E : Type 0} → UnitRow → ℕ → Result (Result RowEdit Refused) E → Verdict → Type 0
 IsDone unit t decided = λ v. IsOkAnd decided (λ d. v ≡ done_as (record unit { last_s = t }) d)
 
@@ -89,16 +89,16 @@ abbrev pub changes_in : Verdict → List RowEdit
 changes_in (IsRefused r) = []
 changes_in (IsAccepted reply changes) = changes
 
--- the part is what the call looks at among the rows that the history leaves; None is a code that was never opened
+-- the part is what the call looks at among the rows of the history; None for a code that was never opened
 abbrev pub IsPartOf : Option UnitPart → List Call → Call → Type 0
 IsPartOf None h c = h ≡ []
 IsPartOf (Some part) h c = (part ≡ part_of c (rows_of h)) × IsLegal h
 
--- the part says whether the caller holds a role
+-- the part states correctly whether the caller holds a role
 abbrev pub SaysHeld : UnitPart → Call → Type 0
 SaysHeld part c = part.held ≡ holds_some (facts_in part) c.moment c.person
 
--- these are all events of the unit, as far as a caller who holds a role sees some
+-- these are all events of the unit, if the caller holds a role and the call sees events
 abbrev pub AreEventsSeen : UnitPart → Call → List Event → Type 0
 AreEventsSeen part c es = holds_some (facts_in part) c.moment c.person ≡ true → AreEventsFor part c.request es
 
@@ -117,7 +117,7 @@ pub record IsJudgedOwn (f : Facts) (c : Call) (v : Verdict) : Type 0 where
 abbrev pub decided_row : ChangeState → Name → ℕ → ChangeEntry → ChangeEntry
 decided_row state p t e = record e { state_no = state; decider = Some p; decided_s = Some t }
 
--- what is answered where a change may be approved: the refusals of its base and its content, else it comes into force
+-- the verdict on a change that may be approved: refused for its base or its content, else it comes into force
 pub record IsApproved (f : Facts) (p : Name) (t : ℕ) (c : ChangeRow) (e : ChangeEntry) (v : Verdict) : Type 0 where
   pub answer : answer_in v ≡ refused_or (first_refusal (kind_refusals f c.base c.kind)) Done
   pub changes : changes_in v
@@ -125,22 +125,22 @@ pub record IsApproved (f : Facts) (p : Name) (t : ℕ) (c : ChangeRow) (e : Chan
       Put (UnitPut (kind_row t f.unit c.number c.kind)) ∷ Put (ChangePut (decided_row Approved p t e))
       ∷ in_force f c.number c.kind else [])
 
--- the refusals of one who may not make the call, or not any more at its moment
+-- the refusals of a caller who may not make the call at its moment
 abbrev pub holder_refusals : Facts → Call → List (Bool × Refused)
 holder_refusals f c =
     (not (holds_some f c.moment c.person), NotGranted)
     ∷ (lacks_role f c.moment c.person (role_needed c.request) ++ (nat_lt c.moment (last_of f), MomentBehind (last_of f))
     ∷ [])
 
--- the verdict on a unit of this history; the changes turn its rows into those of the history with the call, and put the
--- unit's row
+-- the verdict on a call in a unit with this history; the changes turn its rows into those of the history with the call,
+-- and put the unit's row
 pub record IsVerdictOn (h : List Call) (c : Call) (v : Verdict) : Type 0 where
   pub answer : answer_in v ≡ verdict h c
   pub changes : changed_by (changes_in v) (rows_of h) ≡ rows_of (after h c)
   pub none : changes_history (verdict h c) c ≡ false → changes_in v ≡ []
   pub puts : changes_history (verdict h c) c ≡ true → puts_unit (changes_in v) ≡ true
 
--- the answer to an opening; the changes turn no rows into those of the opening
+-- the verdict on an opening; the changes turn empty tables into the rows of the opening
 pub record IsOpening (by_admin taken : Bool) (c : Call) (v : Verdict) : Type 0 where
   pub answer : answer_in v ≡ opening by_admin taken
   pub changes : is_ok (opening by_admin taken) ≡ true → changed_by (changes_in v) no_rows ≡ rows_of (c ∷ [])

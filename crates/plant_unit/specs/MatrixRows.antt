@@ -1,4 +1,4 @@
--- The rows of a matrix, one after another as its limits and cells stand.
+-- The rows of a matrix, in the order of its limits and cells.
 use Rattle.std.specs.{List.{enumerate_from, range_with_len}, Prelude.{List, Vec, filter, flat_map, map, ℕ}}
 use Rattle.plant_model.specs.{Histories.{same_number}, declared.rows.{BandRow.{BandRow}, CellRow.{CellRow}}}
 use Rattle.plant_model.specs.steps.RowFacts.{cells_at, has_cells}
@@ -14,11 +14,11 @@ cell_row_of n s e = record { matrix_no = n; severity = s; band_no = e.0; cell_no
 abbrev pub row_of_cells : ℕ → ℕ × List Cell → List CellRow
 row_of_cells n e = map (cell_row_of n e.0) (enumerate_from 1 e.1)
 
--- the limits of the matrix of a number
+-- the limits of the matrix with a number
 abbrev pub limits_at : List BandRow → ℕ → List ℕ
 limits_at bands n = map (λ b. b.limit_s) (filter (λ b. same_number n b.matrix_no) bands)
 
--- the cells of the matrix of a number by severity, as far as there are cells
+-- the cells of the matrix with a number, by severity, without the severities that have none
 abbrev pub cell_lists : List CellRow → ℕ → List (List Cell)
 cell_lists cells n = filter has_cells (map (cells_at cells n) (range_with_len 1 5))
 

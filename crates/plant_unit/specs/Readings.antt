@@ -1,4 +1,4 @@
--- What is read from rows, where all of it is there.
+-- What is read from rows, if nothing of it is missing.
 use Rattle.std.specs.{List.{list_any}, Prelude.{Bool, Option, false, not, is_some, length, option_map, true, unwrap_or, ℕ, ◌&&◌, ◌==◌}}
 use Rattle.plant_model.specs.{Facts.{Facts}, Refusals.{has_row}}
 use Rattle.plant_model.specs.steps.RowFacts.{change_found, change_read, record_read, kind_read, matrix_read, sheet_read}
@@ -7,14 +7,14 @@ use Rattle.plant_model.specs.declared.rows.{ChangeTopic.TheVariants.{Limit, Matr
 use Rattle.plant_ration.specs.{Grid.{Grid}, Matrix.{is_matrix}, declared.change.{ChangeKind.{ChangeKind}, Sheet.{Sheet}}}
 use Rattle.plant_types.specs.Options.{when}
 
--- the matrix of a number
+-- the matrix with a number
 abbrev pub is_matrix_at : UnitRows → ℕ → Bool
 is_matrix_at rows n = is_matrix (matrix_read rows n).limits (matrix_read rows n).cells
 
 abbrev pub matrix_found : UnitRows → ℕ → Option Grid
 matrix_found rows n = when (is_matrix_at rows n) (matrix_read rows n)
 
--- no cell of the matrix is there
+-- the matrix has no cells among the rows
 abbrev pub is_left_out : UnitRows → ℕ → Bool
 is_left_out rows n = length (matrix_read rows n).cells == 0
 
@@ -41,14 +41,14 @@ change_whole rows c = when (has_kind rows c c.kind_no) (change_read rows c)
 abbrev pub source_found : UnitRows → RecordEntry → Option ChangeEntry
 source_found rows r = change_found rows r.change_no
 
--- the change that a record came from, where it is there, has the columns of a sheet
+-- the change that a record came from, if it is among the rows, has the columns of a sheet
 abbrev pub has_its_sheet : UnitRows → RecordEntry → Bool
 has_its_sheet rows r = unwrap_or (option_map has_sheet (change_found rows r.change_no)) true
 
--- the severity of a record that is read is no row of the matrix
+-- the matrix has no row for the severity of a record
 unfoldable pub is_outside : Grid → UnitRows → RecordEntry → Bool
 is_outside m rows r = unwrap_or (option_map (λ x. not (has_row m x.severity)) (record_read rows r)) false
 
--- the severity of some record is not a row of the matrix
+-- the matrix has no row for the severity of some record
 abbrev pub has_outside : Grid → Facts → Bool
 has_outside m f = list_any (λ r. not (has_row m r.severity)) f.rationales

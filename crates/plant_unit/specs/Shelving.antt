@@ -1,4 +1,4 @@
--- What shelving an alarm changes, and by which result name it is refused (OPC 10000-9).
+-- What shelving an alarm changes, and why it is refused, with the names of OPC 10000-9.
 use Rattle.std.specs.Prelude.{Bool, List, Option, Result, Some, [], false, filter_map, not, true, ℕ, ◌&&◌, ◌∷◌}
 use Rattle.plant_alarm.specs.{Shelves.{is_unshelved}, declared.shelf.Shelf.{Shelf, TheVariants.{Clear, OneShot, Timed}}}
 use Rattle.plant_alarm.specs.declared.shelf.ShelfRefused.{ShelfRefused}
@@ -23,7 +23,7 @@ shelf_change a p words Clear = Remove (ShelfKey a)
 shelf_change a p words (Timed start until) = Put (ShelfPut (shelf_row_as false start until p words a))
 shelf_change a p words (OneShot start until) = Put (ShelfPut (shelf_row_as true start until p words a))
 
--- what is decided about a shelving whose alarm allows it: its change, unless the unit's quota is used up
+-- the decision on a shelving that the alarm's state allows: its change, unless the unit's quota is used up
 abbrev pub shelf_decision : UnitPart → Call → Name → Name → Shelf → Result (List RowEdit) Refused
 shelf_decision part c a words shelf =
     decided_or (first_refusal (over_quota (facts_in part) a c.moment ∷ [])) (shelf_change a c.person words shelf ∷ [])

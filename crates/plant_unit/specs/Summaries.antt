@@ -5,11 +5,11 @@ use Rattle.plant_floods.specs.Activations.{of_alarm}
 use Rattle.plant_model.specs.declared.rows.AlarmRow.{AlarmRow}
 use Rattle.plant_types.specs.Names.{same_name}
 
--- what an alarm's own events come to
+-- the summary of an alarm's own events
 abbrev pub summary_of : List Event → AlarmRow → Summary
 summary_of es r = summary r.latching (of_alarm r.tag es)
 
--- the same of all alarms, in their order
+-- the summaries of all alarms, in their order
 abbrev pub summaries : List AlarmRow → List Event → List Summary
 summaries alarms es = map (summary_of es) alarms
 
@@ -22,7 +22,7 @@ with_summary r s =
 abbrev pub has_event_of : List Event → AlarmRow → Bool
 has_event_of es r = list_any (λ e. same_name r.tag e.tag) es
 
--- what a row's columns say
+-- the summary in a row's columns
 abbrev pub summary_in : AlarmRow → Summary
 summary_in r =
     record { state = r.state_no; suppressed = r.suppressed; active_since = r.active_s; last_return = r.return_s }

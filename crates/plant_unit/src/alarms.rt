@@ -1,4 +1,5 @@
-//! The states of alarms after an import.
+//! Computes the states of alarms after an import: from all events, or continued from the alarms' rows if no new event
+//! comes late.
 
 ghost use Rattle.std.specs.Prelude.{◌≡◌, ◌++◌, ◌∷◌, [], IfOk, OnOk, length, map};
 ghost use Rattle.plant_types.specs.Results.{Gives, OnlyMemory};
@@ -12,14 +13,15 @@ use plant_model::{AlarmRow, Row, RowEdit};
 use plant_types::{Fault, List, Sorted, TryCopy};
 use std::alloc::Global;
 
-/// What events of alarms come to, and which of the alarms the new ones of them name, at the places of the alarms.
+/// The summaries of alarms by their events, and which of the alarms the new events name. Both lists have one element
+/// for each alarm, in the order of the alarms.
 #[derive(Drop)]
 struct Brought {
     summaries: List<Summary>,
     named: List<bool>,
 }
 
-/// Brings the summary at a place forward by one more event of its alarm.
+/// Updates the summary at a place with one more event of its alarm.
 fn add_at(summaries: &mut List<Summary>, place: usize, event: &Event, latching: bool)
     ensures length { length summaries.new ≡ length summaries.old }
     ensures value { AddsAt place event.now latching summaries.old summaries.new }
@@ -31,7 +33,7 @@ fn add_at(summaries: &mut List<Summary>, place: usize, event: &Event, latching: 
     }
 }
 
-/// Brings alarms forward by one more event, which is new.
+/// Updates the summaries with one new event.
 fn add_event(all: &mut Brought, alarms: &Sorted<AlarmRow>, next: &mut usize, event: &Event)
     ensures summaries { length all.new.summaries ≡ length all.old.summaries }
     ensures named { length all.new.named ≡ length all.old.named }
@@ -45,7 +47,7 @@ fn add_event(all: &mut Brought, alarms: &Sorted<AlarmRow>, next: &mut usize, eve
     }
 }
 
-/// Brings alarms forward by more events, which are new.
+/// Updates the summaries with new events.
 fn add_events(all: &mut Brought, alarms: &Sorted<AlarmRow>, events: &[Event])
     ensures summaries { length all.new.summaries ≡ length all.old.summaries }
     ensures named { length all.new.named ≡ length all.old.named }
@@ -57,7 +59,7 @@ fn add_events(all: &mut Brought, alarms: &Sorted<AlarmRow>, events: &[Event])
     }
 }
 
-/// Alarms without events.
+/// The summaries of alarms without events.
 fn without_events(alloc: Global, alarms: &[AlarmRow]) -> Result<Brought, Fault>
     ensures value { IfOk result (λ all. all ≡ brought alarms.now [] []) }
     ensures err { OnlyMemory result }
@@ -71,7 +73,7 @@ fn without_events(alloc: Global, alarms: &[AlarmRow]) -> Result<Brought, Fault>
     Ok(Brought { summaries, named })
 }
 
-/// Alarms as the columns of their rows say, before new events.
+/// The summaries in the columns of the alarms' rows, before new events.
 fn from_columns(alloc: Global, alarms: &[AlarmRow]) -> Result<Brought, Fault>
     ensures value { IfOk result (λ all. all ≡ in_columns alarms.now) }
     ensures err { OnlyMemory result }
@@ -90,7 +92,7 @@ fn from_columns(alloc: Global, alarms: &[AlarmRow]) -> Result<Brought, Fault>
     Ok(Brought { summaries, named })
 }
 
-/// Alarms after new events, computed anew from their kept and their new events.
+/// The summaries after new events, computed from all kept and new events.
 fn from_events(
     alloc: Global,
     alarms: &Sorted<AlarmRow>,
@@ -113,7 +115,7 @@ fn from_events(
     })
 }
 
-/// Alarms as their rows say, brought forward by new events that come after all others of their alarms.
+/// The summaries in the alarms' rows, updated with new events that come after all other events of their alarms.
 fn from_rows(
     alloc: Global,
     alarms: &Sorted<AlarmRow>,
@@ -159,7 +161,7 @@ fn alarm_change(
     Ok(Some(RowEdit::Put(Row::Alarm(with_summary(alloc, alarm, summary)?))))
 }
 
-/// Adds the changes of the alarms that are named.
+/// Appends the changes of the named alarms' rows.
 fn push_named(
     alloc: Global,
     changes: &mut List<RowEdit>,
@@ -180,8 +182,8 @@ fn push_named(
     Ok(())
 }
 
-/// Alarms after a file's new rows, before which there were so many events. They go on from their own rows, unless all
-/// events are kept here, as they are if a row of the file comes late.
+/// The summaries after a file's new rows. `count` is the number of events before. The summaries are continued from the
+/// alarms' rows, unless `kept` has all events, as it does if a row of the file comes late.
 fn after_file(
     alloc: Global,
     alarms: &Sorted<AlarmRow>,
@@ -202,8 +204,8 @@ fn after_file(
     }
 }
 
-/// Adds the changes of the alarms that a file's new rows name, which stand in rising number here. `kept` are the events
-/// that the file needs, of so many.
+/// Appends the changes of the alarms that a file's new rows name; these rows are ordered by number here. `kept` are the
+/// events that the file needs, out of `count`.
 pub fn push_alarms(
     alloc: Global,
     changes: &mut List<RowEdit>,

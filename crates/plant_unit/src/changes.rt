@@ -10,7 +10,7 @@ use plant_model::{Call, Effect, GrantRow, Request, Row, RowEdit, UnitRow};
 use plant_types::{Fault, List, Role};
 use std::alloc::Global;
 
-/// Whether the request only asks.
+/// Whether the request only reads.
 pub fn is_read(request: &Request) -> bool
     ensures { result ≡ is_read request.now }
 {

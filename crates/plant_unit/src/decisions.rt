@@ -1,4 +1,4 @@
-//! Proposing changes, and deciding them.
+//! Proposing changes, and deciding on them: withdrawing, rejecting, and approving, which brings them into force.
 
 ghost use Rattle.std.specs.Prelude.{◌≡◌, ◌<◌, ◌+◌, ◌++◌, IfOk, None};
 ghost use Rattle.plant_types.specs.Results.{Gives, OnlyMemory};
@@ -36,7 +36,7 @@ fn topic(kind: &ChangeKind) -> ChangeTopic
     }
 }
 
-/// What the kind of a change puts into its row; columns that it lacks are `None`.
+/// The columns of a change's row that depend on its kind. Columns that the kind does not have are `None`.
 #[derive(Drop)]
 struct KindColumns {
     tag: Option<Tag>,
@@ -83,7 +83,7 @@ fn kind_columns(alloc: Global, kind: &ChangeKind) -> Result<KindColumns, Fault>
     }
 }
 
-/// The row of a change with this number that is proposed by a call.
+/// The row of the change with this number that a call proposes.
 fn proposed_entry(
     alloc: Global,
     number: u32,
@@ -114,14 +114,14 @@ fn proposed_entry(
     })
 }
 
-/// The number of the next change: 4,294,967,295 where there are as many or more.
+/// The number of the next change. If there are 4,294,967,295 changes already, it is that number.
 fn next_number(part: &UnitPart) -> u32
     ensures { part.now.count < 4294967295 → result ≡ part.now.count + 1 }
 {
     part.count.saturating_add(1)
 }
 
-/// Adds the changes of a proposal: its row, and those of its matrix where it is of one.
+/// Appends the changes of a proposal: its row, and the rows of the matrix if it proposes one.
 fn push_proposal(
     alloc: Global,
     changes: &mut List<RowEdit>,
@@ -158,7 +158,7 @@ fn decision_put(
     Ok(RowEdit::Put(Row::Change(row)))
 }
 
-/// Takes a change back.
+/// Withdraws a change.
 pub fn withdraw_change(
     alloc: Global,
     part: &UnitPart,
@@ -196,15 +196,15 @@ pub fn reject(
     Ok(Ok(decision_put(alloc, entry, ChangeState::Rejected, call)?))
 }
 
-/// The cell of a severity and a time to respond; `N`, that no alarm is needed, where the matrix has none.
+/// The cell of a severity and a time to respond. `N`, which means that no alarm is needed, if the matrix has none.
 fn cell_by(matrix: &Matrix, severity: u8, response: Seconds) -> Cell
     ensures { result ≡ priority_by matrix.now severity response }
 {
     matrix.priority(severity, response).unwrap_or(Cell::N)
 }
 
-/// Adds the change of a record that comes into force, or gives the first refusal of its base and
-/// its sheet.
+/// Appends the change of a record that comes into force, or returns the first refusal for its base
+/// and its sheet.
 fn push_record(
     alloc: Global,
     changes: &mut List<RowEdit>,
@@ -234,7 +234,7 @@ fn push_record(
     Ok(None)
 }
 
-/// The row of a record with its priority by a matrix, where the change that it came from is there.
+/// The row of a record with its priority by a matrix, if the change that it came from exists.
 fn rerate(
     alloc: Global,
     part: &UnitPart,
@@ -258,7 +258,7 @@ fn rerate(
     }))
 }
 
-/// Adds the changes of all records, with their priorities by a matrix that comes into force.
+/// Appends the changes of all records, with their priorities by a matrix that comes into force.
 fn push_rerated(
     alloc: Global,
     changes: &mut List<RowEdit>,
@@ -301,7 +301,7 @@ fn push_matrix_in_force(
     Ok(None)
 }
 
-/// Adds the change of an alarm whose limit comes into force, or gives the refusal of its base.
+/// Appends the change of an alarm whose limit comes into force, or returns the refusal for its base.
 fn push_limit(
     alloc: Global,
     changes: &mut List<RowEdit>,
@@ -326,8 +326,8 @@ fn push_limit(
     Ok(None)
 }
 
-/// Adds the changes that bring an approved change into force, or gives the first refusal of its
-/// base and its content.
+/// Appends the changes that bring an approved change into force, or returns the first refusal for
+/// its base and its content.
 fn push_in_force(
     alloc: Global,
     changes: &mut List<RowEdit>,
@@ -372,7 +372,7 @@ fn approved_row(unit: &UnitRow, now: Moment, change: &ChangeRow) -> UnitRow
     }
 }
 
-/// Brings a change into force that may be approved, unless its base or its content stands against it.
+/// Brings into force a change that the caller may approve, unless it is refused for its base or its content.
 fn bring_into_force(
     alloc: Global,
     unit: &UnitRow,

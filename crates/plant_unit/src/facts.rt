@@ -1,4 +1,4 @@
-//! The facts that a verdict looks at, read from the rows of a part.
+//! The facts on which a verdict is based, read from the rows of a part.
 
 ghost use Rattle.std.specs.Prelude.{◌≡◌, count_by, option_copied};
 ghost use Rattle.plant_types.specs.{KeyedRows.{row_at}, Names.{name_cmp}};
@@ -19,7 +19,7 @@ pub fn is_held(part: &UnitPart, person: &Person, role: Role, now: Moment) -> boo
     is_held_by(part.rows.grants.as_slice(), person, role, now)
 }
 
-/// How many Steward pairs stand.
+/// How many grants of Steward stand.
 pub fn stewards(grants: &[GrantRow]) -> usize
     ensures { result ≡ count_by is_steward_row grants.now }
 {
@@ -29,14 +29,14 @@ pub fn stewards(grants: &[GrantRow]) -> usize
         .count()
 }
 
-/// The shelf that the last shelving of a tag's alarm left.
+/// The shelf that the last shelving of the alarm with the tag left.
 pub fn shelf_of<'a>(shelves: &'a [ShelfRow], tag: &Tag) -> Option<&'a ShelfRow>
     ensures { option_copied result ≡ row_at name_cmp shelf_tag tag.now shelves.now }
 {
     shelves.iter().find(|row| *tag == row.tag)
 }
 
-/// The shelf of a row, or no shelf without a row.
+/// The shelf that a row describes. Without a row there is no shelf.
 pub fn shelf_left(row: Option<&ShelfRow>) -> Shelf
     ensures { result ≡ shelves.shelf_left (option_copied row.entry) }
 {
@@ -53,14 +53,14 @@ pub fn shelf_left(row: Option<&ShelfRow>) -> Shelf
     }
 }
 
-/// The shelved state that a row leaves at the moment.
+/// The shelved state at the moment, by a shelf's row.
 pub fn state_of(row: Option<&ShelfRow>, returned: Option<Moment>, now: Moment) -> ShelfState
     ensures { result ≡ shelves.state_of_shelf (option_copied row.entry) returned now }
 {
     shelf_at(&shelf_left(row), returned, now)
 }
 
-/// The shelved state of a tag's alarm at the moment.
+/// The shelved state at the moment of the alarm with the tag.
 pub fn state_now(part: &UnitPart, tag: &Tag, now: Moment) -> ShelfState
     ensures { result ≡ shelf_now (facts_in part.now) tag.now now }
 {
@@ -74,14 +74,14 @@ fn is_unshelved(state: ShelfState) -> bool
     matches!(state, ShelfState::Unshelved)
 }
 
-/// When the alarm of a tag last returned to normal.
+/// When the alarm with the tag last returned to normal, if ever.
 fn returned_at(part: &UnitPart, tag: &Tag) -> Option<Moment>
     ensures { result ≡ returned (facts_in part.now) tag.now }
 {
     part.rows.alarms.get(tag).and_then(|alarm| alarm.return_s)
 }
 
-/// When the alarm of a tag last returned to normal, the alarm being looked for first at the place that is next.
+/// When the alarm with the tag last returned to normal. The alarm is looked for at the place `next` first.
 pub fn returned_next(alarms: &Sorted<AlarmRow>, next: &mut usize, tag: &Tag) -> Option<Moment>
     ensures { result ≡ last_return_in alarms.now tag.now }
 {

@@ -12,7 +12,7 @@ use plant_types::limits::MAX_FLOOD_SECONDS;
 use plant_types::{Fault, List, Moment};
 use std::alloc::Global;
 
-/// Whether a range is of whole periods of ten minutes, from 1 to 1,008 of them: a week.
+/// Whether a range consists of 1 to 1,008 whole periods of ten minutes, that is, of up to a week.
 pub fn is_aligned(begin: Moment, until: Moment) -> bool
     ensures { result ≡ flood.is_aligned begin until }
 {
@@ -20,7 +20,7 @@ pub fn is_aligned(begin: Moment, until: Moment) -> bool
     start % 600 == 0 && end % 600 == 0 && start < end && end - start <= MAX_FLOOD_SECONDS
 }
 
-/// The moment so many periods of ten minutes later; the same moment where there is none.
+/// The moment `periods` times ten minutes later. The same moment if that is after the year 2099.
 fn later(begin: Moment, periods: usize) -> Moment
     ensures { IsTrue (is_moment (begin + 600 * periods)) → result ≡ begin + 600 * periods }
 {
@@ -39,7 +39,7 @@ fn flood_line(begin: Moment, run: &Run) -> FloodLine
     }
 }
 
-/// The lines of runs, of which each ends before a moment.
+/// The lines of runs. `begin` is the start of period 0.
 fn lines_of(alloc: Global, begin: Moment, runs: &[Run]) -> Result<List<FloodLine>, Fault>
     ensures value { (until : ℕ) → IsTrue (is_moment until) → All (EndsBy begin until) runs.now
         → Gives result (map (flood.flood_line begin) runs.now) }
@@ -52,7 +52,7 @@ fn lines_of(alloc: Global, begin: Moment, runs: &[Run]) -> Result<List<FloodLine
     Ok(lines)
 }
 
-/// The floods of a range, in order of time, from the unit's events in rising number.
+/// The floods in a range, oldest first, from the unit's events, which are ordered by number.
 #[tactic(auto, using(crate::proofs::FloodLines::lines_whole))]
 pub fn flood_lines(
     alloc: Global,

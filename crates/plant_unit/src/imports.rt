@@ -1,4 +1,4 @@
-//! The judgement of an import whose caller may make it.
+//! Judges an import whose caller may make it: which rows are new, and what they change.
 
 ghost use Rattle.std.specs.Prelude.{◌≡◌, ◌≤◌, ◌+◌, IfOk, nat_lt};
 ghost use Rattle.plant_types.specs.Results.{OnlyMemory};
@@ -14,7 +14,7 @@ use plant_types::limits::MAX_EVENTS;
 use plant_types::{Fault, List, Moment};
 use std::alloc::Global;
 
-/// Whether so many events are too many for a unit.
+/// Whether this number of events is too many for a unit.
 fn is_full(kept: u32, new: usize) -> bool
     ensures { result ≡ nat_lt MAX_EVENTS (kept + new) }
 {
@@ -22,8 +22,8 @@ fn is_full(kept: u32, new: usize) -> bool
     kept > MAX_EVENTS || new as u64 > MAX_EVENTS - kept
 }
 
-/// Whether a file's new numbers are too many for a unit. They are no more than its rows, so they are counted only if there
-/// is not room for all of these.
+/// Whether a file's new events are too many for a unit. They are counted only if the unit does not have room for all
+/// rows of the file.
 fn has_too_many(alloc: Global, part: &UnitPart, rows: &[Event]) -> Result<bool, Fault>
     ensures value { TellsFull part.now rows.now result }
     ensures err { OnlyMemory result }
@@ -35,8 +35,8 @@ fn has_too_many(alloc: Global, part: &UnitPart, rows: &[Event]) -> Result<bool, 
     Ok(is_full(part.count, new))
 }
 
-/// The new rows of a file and the number of its repeated ones. Refused, in this order: a file whose new numbers are too
-/// many, and the first faulty row.
+/// The new rows of a file and the number of its repeated ones. Refused, in this order: a file with too many new events,
+/// and the first faulty row.
 fn merge_file(
     alloc: Global,
     part: &UnitPart,
@@ -56,7 +56,8 @@ fn merge_file(
     }
 }
 
-/// The reply to an import that added so many rows; 4,294,967,295 new ones where there are more.
+/// The reply to an import with the numbers of its new and repeated rows. More than 4,294,967,295 new rows are reported
+/// as that number.
 fn import_reply(fresh: usize, repeated: u64) -> Reply
     ensures { fresh ≤ 4294967295 → result ≡ Imported fresh repeated }
 {
@@ -66,8 +67,8 @@ fn import_reply(fresh: usize, repeated: u64) -> Reply
     }
 }
 
-/// The changes of an import of a file that adds these of its rows. Its events are put in rising number, whatever their
-/// order in the file: a table that gets its rows at the end moves none.
+/// The changes of an import that adds these rows of its file. The events are put ordered by number, whatever their
+/// order in the file: a table whose new rows come last moves no row.
 fn import_changes(
     alloc: Global,
     unit: &UnitRow,
@@ -91,7 +92,7 @@ fn import_changes(
     Ok(changes)
 }
 
-/// What the unit answers to an import whose caller may make it.
+/// The verdict on an import whose caller may make it.
 pub fn judge_import(
     alloc: Global,
     unit: &UnitRow,

@@ -23,7 +23,7 @@ use plant_types::{Fault, Person, Sorted, UnitCode};
 use std::alloc::Global;
 use std::mem;
 
-/// Judges a call other than an import that changes something, and whose caller is allowed to make it.
+/// Judges a call that changes something and is not an import. The caller is allowed to make it.
 fn judge_change(
     alloc: Global,
     unit: &UnitRow,
@@ -90,7 +90,7 @@ fn judge_change(
         Request::Reject { number, .. } => {
             done(alloc, unit, now, reject(alloc, part, call, *number))
         }
-        // Judged elsewhere: openings, imports, and what only asks.
+        // Judged elsewhere: openings, imports, and reads.
         Request::OpenUnit { .. }
         | Request::Import { .. }
         | Request::Status { .. }
@@ -105,7 +105,7 @@ fn judge_change(
     }
 }
 
-/// What is answered to a call that only asks, by one who is allowed to ask.
+/// The answer to a read. The caller is allowed to make it.
 fn answer_to(alloc: Global, part: &UnitPart, call: &Call) -> Result<Result<Reply, Refused>, Fault>
     requires reads { is_read call.now.request ≡ true }
     ensures value { AreKept part.now → Answers part.now call.now.person call.now.moment call.now.request result }
@@ -120,7 +120,7 @@ fn answer_to(alloc: Global, part: &UnitPart, call: &Call) -> Result<Result<Reply
         Request::Alarms { unit } => alarms(alloc, part, now, unit),
         Request::Standing { unit } => standing(alloc, part, now, unit),
         Request::Floods { unit, begin, until } => floods(alloc, part, unit, *begin, *until),
-        // Judged elsewhere: what changes something, and what names no unit.
+        // Judged elsewhere: calls that change something, and calls that name no unit.
         Request::OpenUnit { .. }
         | Request::Grant { .. }
         | Request::Withdraw { .. }
@@ -140,7 +140,7 @@ fn answer_to(alloc: Global, part: &UnitPart, call: &Call) -> Result<Result<Reply
     }
 }
 
-/// Judges a call other than an import, whose caller is allowed to make it.
+/// Judges a call that is not an import. The caller is allowed to make it.
 fn judge_own(alloc: Global, unit: &UnitRow, part: &UnitPart, call: &Call) -> Result<Verdict, Fault>
     requires row { unit_read part.now.rows ≡ unit.now }
     requires plain { is_opening call.now.request ≡ false }
@@ -171,11 +171,11 @@ fn judge_part(alloc: Global, unit: &UnitRow, part: &UnitPart, call: &Call) -> Re
     }
 }
 
-/// What a unit answers to a call, from the part of its rows that the call looks at: `None` for a unit that was never
-/// opened. `judge_open` judges the call that opens it.
+/// The verdict on a call, from the part of the unit's rows that the call looks at. The part is `None` for a unit that
+/// was never opened. `judge_open` judges the call that opens it.
 ///
-/// For every legal history of whose rows the part is: the verdict of that history, and changes that turn its rows into
-/// those of the history followed by the call (none for a refusal or a read).
+/// For every legal history to whose rows the part belongs: the verdict is that of the history, and its changes turn the
+/// rows of the history into those of the history followed by the call (no changes for a refusal or a read).
 pub fn judge(alloc: Global, part: Option<&UnitPart>, call: &Call) -> Result<Verdict, Fault>
     requires { is_opening call.now.request ≡ false }
     ensures value { (h : List Call) → IsPartOf (option_copied part.entry) h call.now
@@ -191,8 +191,8 @@ pub fn judge(alloc: Global, part: Option<&UnitPart>, call: &Call) -> Result<Verd
     judge_part(alloc, unit, part, call)
 }
 
-/// What `judge` answers to a call for the shelves of a unit. It takes the shelves out of the part, so that their words are
-/// not copied once more.
+/// As `judge`, for a call for the shelves of a unit. It takes the shelves out of the part, so that their words need not
+/// be copied again.
 pub fn judge_shelves(
     alloc: Global,
     given: &mut Option<UnitPart>,
@@ -218,7 +218,7 @@ pub fn judge_shelves(
     answer(alloc, said)
 }
 
-/// What is answered to an opening, whether its code is taken or not.
+/// The verdict on an opening. `taken` is whether a unit with this code exists already.
 #[tactic(auto, using(crate::proofs::JudgedLaws::opened_verdict))]
 pub fn judge_open(
     alloc: Global,

@@ -1,4 +1,5 @@
-//! What a unit answers to a call, from the part of its rows that the call looks at, and what that changes.
+//! The rules of a unit: the verdict on a call and the changes that it makes, from the part of the unit's rows that the
+//! call looks at.
 #![tactic(auto)]
 
 mod alarms;

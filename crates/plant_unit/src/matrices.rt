@@ -1,4 +1,4 @@
-//! The matrices of a unit, read from their rows and put into them.
+//! The matrices of a unit: read from their rows, and written as rows.
 
 ghost use Rattle.std.specs.Prelude.{◌≡◌, ◌≤◌, ◌++◌, All, IfOk, OnOk, length};
 ghost use Rattle.plant_types.specs.Results.{OnlyMemory};
@@ -10,7 +10,7 @@ use plant_ration::{Cell, Matrix};
 use plant_types::{Fault, List};
 use std::alloc::Global;
 
-/// The limits of the matrix of a number.
+/// The limits of the matrix with a number.
 fn limits_of(alloc: Global, bands: &[BandRow], number: u32) -> Result<Vec<u64>, Fault>
     ensures value { IfOk result (λ limits. limits.items ≡ limits_at bands.now number) }
     ensures err { OnlyMemory result }
@@ -19,7 +19,7 @@ fn limits_of(alloc: Global, bands: &[BandRow], number: u32) -> Result<Vec<u64>, 
     Ok(own.map(|band| band.limit_s).collect(alloc)?)
 }
 
-/// The cells of a severity in the matrix of a number.
+/// The cells of a severity in the matrix with a number.
 fn row_of(alloc: Global, cells: &[CellRow], number: u32, severity: u8) -> Result<Vec<Cell>, Fault>
     ensures value { IfOk result (λ row. row.items ≡ cells_at cells.now number severity) }
     ensures err { OnlyMemory result }
@@ -28,7 +28,7 @@ fn row_of(alloc: Global, cells: &[CellRow], number: u32, severity: u8) -> Result
     Ok(own.map(|cell| cell.cell_no).collect(alloc)?)
 }
 
-/// The rows of the matrix of a number, as far as there are cells.
+/// The cells of the matrix with a number, by severity, without the severities that have none.
 fn cells_of(alloc: Global, cells: &[CellRow], number: u32) -> Result<Vec<Vec<Cell>>, Fault>
     ensures value { IfOk result (λ rows. items_of rows.items ≡ cell_lists cells.now number) }
     ensures err { OnlyMemory result }
@@ -43,7 +43,7 @@ fn cells_of(alloc: Global, cells: &[CellRow], number: u32) -> Result<Vec<Vec<Cel
     Ok(rows)
 }
 
-/// The matrix of a number, where its rows are those of one.
+/// The matrix with a number, if its rows form one.
 pub fn matrix_of(alloc: Global, rows: &UnitRows, number: u32) -> Result<Option<Matrix>, Fault>
     ensures value { IfOk result (λ matrix. matrix ≡ matrix_found rows.now number) }
     ensures err { OnlyMemory result }
@@ -101,7 +101,7 @@ fn push_cells(changes: &mut List<RowEdit>, number: u32, cells: &[Vec<Cell>]) -> 
     Ok(())
 }
 
-/// Adds the changes that put the rows of a matrix.
+/// Appends the changes that put the rows of a matrix.
 pub fn push_matrix(changes: &mut List<RowEdit>, number: u32, matrix: &Matrix) -> Result<(), Fault>
     ensures value { OnOk result (changes.new ≡ changes.old ++ matrix_changes number matrix.now) }
     ensures err { OnlyMemory result }

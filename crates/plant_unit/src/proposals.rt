@@ -19,15 +19,15 @@ use plant_types::limits::MAX_CHANGES;
 use plant_types::{Fault, Person, Seconds, Tag};
 use std::alloc::Global;
 
-/// Whether the severity is a row of the matrix.
+/// Whether the matrix has a row for the severity.
 fn has_row(matrix: &Matrix, severity: u8) -> bool
     ensures { result ≡ refusals.has_row matrix.now severity }
 {
     severity != 0 && severity as usize <= matrix.cells().len()
 }
 
-/// The priority of a sheet by a matrix. Refused if the matrix has no row of its severity, or says that
-/// no alarm is needed.
+/// The priority of a sheet by a matrix. Refused if the matrix has no row for its severity, or if no alarm
+/// is needed by it.
 fn sheet_priority(matrix: &Matrix, severity: u8, response: Seconds) -> Result<Cell, Refused>
     ensures { result ≡ sheet_decision matrix.now severity response }
 {
@@ -38,7 +38,7 @@ fn sheet_priority(matrix: &Matrix, severity: u8, response: Seconds) -> Result<Ce
     }
 }
 
-/// The priority of a record by the matrix in force, or the first refusal of its base and its sheet.
+/// The priority of a record by the matrix in force, or the first refusal for its base and its sheet.
 pub fn record_priority(
     alloc: Global,
     unit: &UnitRow,
@@ -61,7 +61,7 @@ pub fn record_priority(
     }
 }
 
-/// Whether the record has a severity that is no row of the matrix.
+/// Whether the matrix has no row for the severity of the record.
 #[tactic(auto, unfolding(crate::specs::Readings::is_outside))]
 fn is_outside(part: &UnitPart, matrix: &Matrix, row: &RecordEntry) -> bool
     ensures { AreKept part.now → result ≡ readings.is_outside matrix.now part.now.rows row.now }
@@ -72,7 +72,7 @@ fn is_outside(part: &UnitPart, matrix: &Matrix, row: &RecordEntry) -> bool
     }
 }
 
-/// Whether some record has a severity that is no row of the matrix.
+/// Whether the matrix lacks a row for the severity of some record.
 fn has_outside(part: &UnitPart, matrix: &Matrix) -> bool
     ensures { AreKept part.now → result ≡ readings.has_outside matrix.now (facts_in part.now) }
 {
@@ -140,7 +140,7 @@ fn kind_refusal(
     }
 }
 
-/// The refusal of a change of an alarm that is not there.
+/// The refusal of a change of an alarm that does not exist, if any.
 fn unknown_refusal(part: &UnitPart, kind: &ChangeKind) -> Option<Refused>
     ensures { result ≡ first_refusal (kind_unknown (facts_in part.now) kind.now) }
 {
@@ -176,7 +176,7 @@ pub fn proposal_refusal(
     kind_refusal(alloc, unit, part, proposal.base, &proposal.kind)
 }
 
-/// The refusal of taking a change back, if any.
+/// The refusal of withdrawing a change, if any.
 pub fn withdrawal_refusal(entry: &ChangeEntry, person: &Person) -> Option<Refused>
     ensures { IsRefusalOf entry.now (if_not_proposer person.now) result }
 {
@@ -187,7 +187,7 @@ pub fn withdrawal_refusal(entry: &ChangeEntry, person: &Person) -> Option<Refuse
     }
 }
 
-/// The refusal of approving or rejecting a change, if any: it is decided already, or the caller proposed it.
+/// The refusal of approving or rejecting a change, if any: it has been decided already, or the caller proposed it.
 pub fn decision_refusal(entry: &ChangeEntry, person: &Person) -> Option<Refused>
     ensures { IsRefusalOf entry.now (if_proposer person.now) result }
 {

@@ -1,4 +1,4 @@
-//! Records and changes, read from the rows of a part.
+//! Reads records and changes from the rows of a part.
 
 ghost use Rattle.std.specs.Prelude.{◌≡◌, IfOk, option_copied, option_map};
 ghost use Rattle.plant_types.specs.{KeyedRows.{row_at}, Names.{name_cmp}, Results.{Gives, OnlyMemory}};
@@ -15,14 +15,14 @@ use plant_ration::{Cell, ChangeKind, Sheet};
 use plant_types::{Fault, Tag, TryCopy};
 use std::alloc::Global;
 
-/// The row of an alarm's record. It looks at all of them, whatever their order.
+/// The row of an alarm's record, if any. It searches all rows, in whatever order they are.
 pub fn record_of<'a>(records: &'a [RecordEntry], tag: &Tag) -> Option<&'a RecordEntry>
     ensures { option_copied result ≡ row_at name_cmp record_tag tag.now records.now }
 {
     records.iter().find(|row| *tag == row.tag)
 }
 
-/// The row of the change of a number. It looks at all of them, whatever their order.
+/// The row of the change with a number, if any. It searches all rows, in whatever order they are.
 pub fn entry_of<'a>(part: &'a UnitPart, number: u32) -> Option<&'a ChangeEntry>
     ensures { option_copied result ≡ change_found part.now.rows number }
 {
@@ -44,14 +44,14 @@ pub fn revision_of(part: &UnitPart, tag: &Tag) -> u32
     record_of(part.rows.records.as_slice(), tag).map_or(0, |row| row.rev)
 }
 
-/// The priority of an alarm, where it has a record, which is looked for first at the place that is next.
+/// The priority of an alarm, if it has a record. The record is looked for at the place `next` first.
 pub fn priority_next(part: &UnitPart, next: &mut usize, tag: &Tag) -> Option<Cell>
     ensures { result ≡ (facts_in part.now).priority tag.now }
 {
     part.rows.records.get_next(next, tag).map(|row| row.cell_no)
 }
 
-/// The sheet of a change, where all its columns are there.
+/// The sheet of a change, if none of its columns is missing.
 fn sheet_of(alloc: Global, entry: &ChangeEntry) -> Result<Option<Sheet>, Fault>
     ensures value { IfOk result (λ sheet. sheet ≡ sheet_found entry.now) }
     ensures err { OnlyMemory result }
@@ -74,7 +74,7 @@ fn sheet_of(alloc: Global, entry: &ChangeEntry) -> Result<Option<Sheet>, Fault>
     }))
 }
 
-/// The record of a row and the change that it came from, where that is one of a record.
+/// The record from its row and the change that it came from, if that is a change of a record.
 pub fn rationale_from(
     alloc: Global,
     row: &RecordEntry,
@@ -147,7 +147,7 @@ fn limit_kind(alloc: Global, entry: &ChangeEntry) -> Result<Option<ChangeKind>, 
     Ok(Some(ChangeKind::Limit(tag.copy(alloc)?, max)))
 }
 
-/// What a change is of and to what, where all of it is there.
+/// What a change changes, and to what, if nothing of it is missing.
 fn kind_of(alloc: Global, rows: &UnitRows, entry: &ChangeEntry) -> Result<Option<ChangeKind>, Fault>
     ensures value { Gives result (kind_found rows.now entry.now entry.now.kind_no) }
     ensures err { OnlyMemory result }
@@ -159,7 +159,7 @@ fn kind_of(alloc: Global, rows: &UnitRows, entry: &ChangeEntry) -> Result<Option
     }
 }
 
-/// The change of a row, where all of it is there.
+/// The change from its row, if nothing of it is missing.
 pub fn change_from(
     alloc: Global,
     rows: &UnitRows,
@@ -183,7 +183,7 @@ pub fn change_from(
     }))
 }
 
-/// The change of a number.
+/// The change with a number.
 pub fn change_of(alloc: Global, part: &UnitPart, number: u32) -> Result<Option<ChangeRow>, Fault>
     ensures value { GivesFrom part.now result (λ f. f.change number) }
     ensures err { OnlyMemory result }

@@ -8,7 +8,7 @@ ghost use Rattle.plant_unit.specs.Judged.{SaysHeld, holder_refusals};
 use crate::facts::is_held;
 use plant_model::{Call, Refused, UnitPart, UnitRow};
 
-/// The refusal of a caller who may not make the call, or not any more at its moment, if any.
+/// The refusal of a caller who may not make the call at its moment, if any.
 pub fn holder_refusal(unit: &UnitRow, part: &UnitPart, call: &Call) -> Option<Refused>
     requires { unit_read part.now.rows ≡ unit.now }
     ensures { SaysHeld part.now call.now

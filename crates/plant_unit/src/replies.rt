@@ -1,4 +1,4 @@
-//! The answers to calls that only ask.
+//! The answers to reads.
 
 ghost use Rattle.std.specs.Prelude.{◌≡◌, IfOk, Ok, ℕ};
 ghost use Rattle.plant_types.specs.{Names.{Name}, Results.{Gives, OnlyMemory}};
@@ -48,7 +48,7 @@ pub fn status(
     })))
 }
 
-/// The line of a shelf whose alarm last returned to normal at this moment; none where the shelf has ended.
+/// The line of a shelf whose alarm last returned to normal at this moment. `None` if the shelf has ended.
 pub fn shelf_line(row: ShelfRow, returned: Option<Moment>, now: Moment) -> Option<ShelfLine>
     ensures { result ≡ line_at row returned now }
 {
@@ -75,7 +75,7 @@ pub fn shelf_line(row: ShelfRow, returned: Option<Moment>, now: Moment) -> Optio
     })
 }
 
-/// The lines of the shelves that hold, by the alarms of the unit: mostly one for each shelf.
+/// The lines of those shelves that hold, which are most of them. The alarms give the returns to normal.
 fn lines(
     alloc: Global,
     alarms: &Sorted<AlarmRow>,
@@ -96,7 +96,7 @@ fn lines(
     Ok(lines)
 }
 
-/// The shelves that hold at the moment, of these and by the alarms of the unit. Their words become the reply's.
+/// The reply with those of these shelves that hold at the moment. It takes over their words without a copy.
 pub fn shelves_among(
     alloc: Global,
     alarms: &Sorted<AlarmRow>,
@@ -129,7 +129,7 @@ pub fn shelves(
     shelves_among(alloc, &part.rows.alarms, shelves, now, unit)
 }
 
-/// Where the rows of the alarm that comes next are looked for first.
+/// The places at which the shelf and the record of the next alarm are looked for first.
 #[derive(Drop)]
 struct Next {
     shelf: usize,
@@ -137,7 +137,7 @@ struct Next {
 }
 
 impl Next {
-    /// Where those of the first alarm are.
+    /// The places for the first alarm.
     fn first() -> Next {
         Next {
             shelf: 0,
@@ -174,7 +174,7 @@ fn alarm_line(
     })
 }
 
-/// The line of an alarm that is active; none for another.
+/// The line of an alarm, if it is active.
 fn standing_line(
     alloc: Global,
     part: &UnitPart,
@@ -262,7 +262,7 @@ pub fn standing(
     }))
 }
 
-/// The floods of a range.
+/// The floods in a range.
 pub fn floods(
     alloc: Global,
     part: &UnitPart,
@@ -300,7 +300,7 @@ pub fn record(alloc: Global, part: &UnitPart, tag: &Tag) -> Result<Result<Reply,
     }
 }
 
-/// The change of a number.
+/// The change with a number.
 pub fn change(alloc: Global, part: &UnitPart, number: u32) -> Result<Result<Reply, Refused>, Fault>
     ensures value { AreKept part.now → AnswersAlways part.now (λ u. ChangeCall u number) result }
     ensures err { OnlyMemory result }

@@ -1,4 +1,4 @@
-//! Shelving and unshelving an alarm: `plant_alarm` decides, and after it the unit's quota.
+//! Shelving and unshelving an alarm. The rules of `plant_alarm` decide first, and then the unit's quota.
 
 ghost use Rattle.std.specs.Prelude.{◌≡◌};
 ghost use Rattle.plant_types.specs.{Names.{Name}, Results.{Gives, OnlyMemory}};
@@ -23,7 +23,7 @@ fn refusal_of(refused: ShelfRefused) -> Refused
     }
 }
 
-/// The change that puts a shelf, or leaves none.
+/// The change that puts a shelf's row, or removes it if there is no shelf.
 fn shelf_change(
     alloc: Global,
     tag: &Tag,
@@ -50,7 +50,7 @@ fn shelf_change(
     })))
 }
 
-/// Shelves an alarm so, if the unit's quota has room for one more.
+/// Puts this shelf of an alarm, if the unit's quota has room for one more.
 fn shelve(
     alloc: Global,
     unit: &UnitRow,

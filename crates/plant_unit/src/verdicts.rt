@@ -1,4 +1,4 @@
-//! Verdicts, from what was decided about a call.
+//! Makes verdicts from the decision on a call.
 
 ghost use Rattle.std.specs.Prelude.{◌≡◌, ◌∷◌, [], IfErr, IfOk, IsOkAnd};
 ghost use Rattle.plant_types.specs.{Results.{OnlyMemory}, declared.fault.Fault.TheVariants.{Memory}};
@@ -22,7 +22,7 @@ pub fn unit_change(alloc: Global, unit: &UnitRow, now: Moment) -> Result<List<Ro
     Ok(changes)
 }
 
-/// The change of the unit's own row, and this one.
+/// The change of the unit's own row, followed by this one.
 fn unit_change_and(
     alloc: Global,
     unit: &UnitRow,
@@ -38,7 +38,7 @@ fn unit_change_and(
     Ok(changes)
 }
 
-/// Makes the change that was decided, beside that of the unit's own row.
+/// The verdict of a decision that makes one change, besides that of the unit's own row.
 pub fn done(
     alloc: Global,
     unit: &UnitRow,
@@ -57,7 +57,7 @@ pub fn done(
     }
 }
 
-/// Answers, and changes nothing.
+/// The verdict of an answer that changes nothing.
 pub fn answer(alloc: Global, said: Result<Result<Reply, Refused>, Fault>) -> Result<Verdict, Fault>
     ensures value { IfOk result (λ v. IsOkAnd said (λ a. v ≡ answered_as a)) }
     ensures err { IfErr said (λ e. e ≡ Memory) → OnlyMemory result }
