@@ -1,12 +1,12 @@
--- What a question leaves of the books, and of the copies beside them.
+-- What reading leaves of the books and of the cached copies.
 use Rattle.std.specs.Prelude.{IfOk, Result}
 use Rattle.plant_books.specs.Crashes.{LosesNothing}
 use Rattle.plant_books.specs.{Contents.{Content}, Counting.{Counts}, declared.books.Books.{Ghosts}}
 use Rattle.plant_mirror.specs.{Copies.{IsMirrored}, declared.mirror.Mirror.{Mirror}}
 use Rattle.plant_types.specs.declared.fault.Fault.{Fault}
 
--- a question changes nothing: books and copies hold the same content, the keeper's premise held before, and answers
--- Store are counted
+-- reading changes nothing: books and copies hold the same content, the keeper's premise held before, and the fault
+-- Store is counted
 pub record Leaves {B A : Type 0} (books : Ghosts B) (said : Result A Fault) (before after : Mirror B) : Type 0 where
   pub same : (m : Content)
       → IsMirrored (books.represents before.books) (books.is_honest before.books) before.copies.units.entries m
@@ -16,11 +16,11 @@ pub record Leaves {B A : Type 0} (books : Ghosts B) (said : Result A Fault) (bef
   pub crash : LosesNothing books.represents books.is_honest books.is_clean books.leaves_books books.may_leave
       before.books after.books
 
--- the books hold the content, and the copies beside them are true of it
+-- the books hold the content, and the cached copies are true copies of it
 abbrev pub Mirrors : {B : Type 0} → Ghosts B → Mirror B → Content → Type 0
 Mirrors books m content = IsMirrored (books.represents m.books) (books.is_honest m.books) m.copies.units.entries content
 
--- what is answered is so of every content that the books held
+-- the result is right for every content that the books held
 abbrev pub AnswersOf : {B A : Type 0} → Ghosts B → Mirror B → Mirror B → Result A Fault → (Content → A → Type 0)
     → Type 0
 AnswersOf books before after said what = (m : Content) → books.represents before.books m → books.is_honest after.books

@@ -14,14 +14,14 @@ use plant_model::{Call, RowEdit, UnitRows, holds_some_by, looks_at_events, looks
 use plant_types::{List, Sorted};
 use std::alloc::Global;
 
-/// A unit's rows at hand: all but its matrices and changes, with its events or without.
+/// A unit's cached rows: all except its matrices and changes, with its events or without them.
 #[derive(Drop)]
 pub struct AtHand {
     pub rows: UnitRows,
     pub has_events: bool,
 }
 
-/// The rows without what was reviewed.
+/// The rows without the matrices and the changes.
 fn without_reviews(alloc: Global, rows: UnitRows) -> UnitRows
     ensures { result ≡ unreviewed rows }
 {
@@ -34,7 +34,7 @@ fn without_reviews(alloc: Global, rows: UnitRows) -> UnitRows
 }
 
 impl AtHand {
-    /// How many rows there are.
+    /// How many rows are cached.
     pub fn row_count(&self) -> u128
         ensures { result ≡ copies.row_count self.now.rows }
     {
@@ -50,7 +50,7 @@ impl AtHand {
             + rows.changes.len() as u128
     }
 
-    /// Whether the call looks at nothing that is missing here. A caller who holds no role looks at no event.
+    /// Whether everything that the call looks at is cached. For a caller who holds no role, no events are needed.
     #[tactic(auto, using(crate::proofs::CopyLaws::part_seen, crate::proofs::CopyLaws::part_with_events, crate::proofs::CopyLaws::part_of_none))]
     pub fn serves(&self, call: &Call) -> bool
         ensures { IsTrue result → (rows : TheRows) → seen self.now.has_events rows ≡ self.now.rows
@@ -68,15 +68,15 @@ impl AtHand {
         !holds_some_by(&self.rows.grants, &call.person, call.moment)
     }
 
-    /// Whether an event is put among events that are not at hand.
+    /// Whether the changes put an event while the unit's events are not cached.
     fn misses(&self, changes: &List<RowEdit>) -> bool
         ensures { result ≡ (not self.now.has_events && puts_event changes.now) }
     {
         !self.has_events && puts_event(changes)
     }
 
-    /// What is at hand after the changes. None where an event is put among events that are not at hand, or where memory
-    /// runs out.
+    /// The cached rows after the changes. `None` if an event is put while the unit's events are not cached, or if
+    /// memory runs out.
     pub fn after(self, alloc: Global, changes: List<RowEdit>) -> Option<AtHand>
         ensures { (m : Content) (u : Name) → IsCopy (fin.get m.units) (u, self)
             → IfSome result (λ after.

@@ -18,7 +18,7 @@ use plant_types::limits::MAX_ROWS_AT_HAND;
 use plant_types::{Fault, List, Sorted, UnitCode};
 use std::alloc::Global;
 
-/// Copies of the rows of some units, never of more rows than the limit, which is never above `MAX_ROWS_AT_HAND`.
+/// Cached rows of some units: never more rows than the limit, which is never above `MAX_ROWS_AT_HAND`.
 #[derive(Drop)]
 pub struct Copies {
     pub units: LruCache<UnitCode, AtHand>,
@@ -42,7 +42,7 @@ fn limit_within(limit: u128) -> u128
 }
 
 impl Copies {
-    /// No copy, and room for so many rows, but for no more than `MAX_ROWS_AT_HAND`.
+    /// An empty cache with room for `limit` rows, but for no more than `MAX_ROWS_AT_HAND`.
     pub fn new(alloc: Global, limit: u128) -> Result<Copies, Fault>
         ensures none { IfOk result (λ c. c.units.entries ≡ []) }
         ensures limit { limit ≤ MAX_ROWS_AT_HAND → IfOk result (λ c. c.limit ≡ limit) }
@@ -56,7 +56,7 @@ impl Copies {
         })
     }
 
-    /// A number that the rows of all copies do not exceed.
+    /// The limit, which the number of all cached rows does not exceed.
     pub fn row_limit(&self) -> u128
         ensures rows { copies.rows_of_all self.now.units.entries ≤ result }
         ensures limit { result ≤ MAX_ROWS_AT_HAND }
@@ -64,7 +64,7 @@ impl Copies {
         self.limit
     }
 
-    /// Makes the unit the one last used, if its rows are at hand.
+    /// Makes the unit the one used last, if its rows are cached.
     #[tactic(auto, using(crate::proofs::CopyLaws::count_promoted, crate::proofs::CopyLaws::true_promoted))]
     pub fn touch(&mut self, unit: &UnitCode)
         ensures kept { StayCopies self.old.units.entries self.new.units.entries }
@@ -73,14 +73,14 @@ impl Copies {
         self.units.promote(unit);
     }
 
-    /// What is at hand of the unit's rows, if they are.
+    /// The unit's cached rows, if any.
     pub fn copy_of(&self, unit: &UnitCode) -> Option<&AtHand>
         ensures { option_copied result ≡ lookup (same_name unit.now) self.now.units.entries }
     {
         self.units.peek(unit)
     }
 
-    /// The unit's events, where they are at hand.
+    /// The unit's events, if they are cached.
     pub fn events_of(&self, unit: &UnitCode) -> Option<&Sorted<Event>>
         ensures { (there : There) → AreCopies there self.now.units.entries
             → IfSome result (λ events. events.now ≡ (unwrap_or (there unit.now) no_rows).events) }
@@ -91,7 +91,7 @@ impl Copies {
         }
     }
 
-    /// The shelves of these units, one unit after another, if the rows of each are at hand.
+    /// The shelves of these units, one unit after another. `None` unless the rows of each are cached.
     pub fn shelves_of(
         &self,
         alloc: Global,
@@ -112,7 +112,7 @@ impl Copies {
         Ok(Some(mine))
     }
 
-    /// Takes the unit's rows out, with the code that they were kept under.
+    /// Removes and returns the unit's rows, with the code under which they were cached.
     #[tactic(auto, using(crate::proofs::CopyLaws::count_removed, crate::proofs::CopyLaws::count_rest, crate::proofs::CopyLaws::true_without))]
     pub fn take(&mut self, unit: &UnitCode) -> Option<(UnitCode, AtHand)>
         ensures taken { result ≡ lookup_entry (same_name unit.now) self.old.units.entries }
@@ -126,7 +126,7 @@ impl Copies {
         Some((unit, copy))
     }
 
-    /// Lets all units go.
+    /// Drops the rows of all units.
     pub fn clear(&mut self)
         ensures none { self.new.units.entries ≡ [] }
         ensures limit { self.new.limit ≡ self.old.limit }
@@ -135,7 +135,7 @@ impl Copies {
         self.rows = 0;
     }
 
-    /// Lets the unit go that was longest not used.
+    /// Drops the unit that was used least recently.
     #[tactic(auto, using(crate::proofs::CopyLaws::count_last, crate::proofs::CopyLaws::count_taken, crate::proofs::CopyLaws::true_taken))]
     fn drop_last(&mut self)
         ensures kept { StayCopies self.old.units.entries self.new.units.entries }
@@ -146,7 +146,7 @@ impl Copies {
         }
     }
 
-    /// Lets units go, those longest not used first, until there is room for so many rows.
+    /// Drops units, those used least recently first, until there is room for `more` rows.
     fn make_room(&mut self, more: u128)
         ensures kept { StayCopies self.old.units.entries self.new.units.entries }
         ensures limit { self.new.limit ≡ self.old.limit }
@@ -159,7 +159,7 @@ impl Copies {
         }
     }
 
-    /// Makes room for so many rows, unless they are more than may be at hand. Whether there is room then.
+    /// Makes room for `more` rows, unless they are more than may be cached. Returns whether there is room now.
     fn has_room_for(&mut self, more: u128) -> bool
         ensures kept { StayCopies self.old.units.entries self.new.units.entries }
         ensures limit { self.new.limit ≡ self.old.limit }
@@ -172,8 +172,8 @@ impl Copies {
         more <= self.limit - self.rows
     }
 
-    /// Keeps a copy of a unit's rows, in the place of those that were longest not used. Nothing is kept of a unit that
-    /// has more rows than may be at hand, nor if memory runs out.
+    /// Caches a unit's rows, in place of those used least recently. Nothing is cached for a unit that has more rows
+    /// than may be cached, or if memory runs out.
     pub fn keep(&mut self, unit: UnitCode, copy: AtHand)
         ensures kept { StayCopiesWith (unit, copy) self.old.units.entries self.new.units.entries }
         ensures limit { self.new.limit ≡ self.old.limit }
@@ -184,7 +184,8 @@ impl Copies {
         }
     }
 
-    /// Makes changes that were made below to what is at hand of the unit, whose rows they become.
+    /// Makes the changes, which were made in the books below, to the unit's cached rows too. It takes over the changed
+    /// rows.
     pub fn follow(&mut self, alloc: Global, unit: &UnitCode, changes: Changes)
         ensures copied { (m : Content) → AreCopies (get m.units) self.old.units.entries
             → AreCopies (get (after_changes m unit.now changes).units) self.new.units.entries }
@@ -197,7 +198,7 @@ impl Copies {
         }
     }
 
-    /// Puts a copy, for which there is room.
+    /// Caches a unit's rows, for which there is room.
     #[tactic(auto, using(crate::proofs::CopyLaws::count_put, crate::proofs::CopyLaws::true_put))]
     fn put(&mut self, unit: UnitCode, copy: AtHand, more: u128)
         requires room { self.old.rows + more ≤ self.old.limit }

@@ -1,4 +1,4 @@
-//! A keeper over any keeper of books, which has the rows of units at hand in memory.
+//! A keeper of books that puts a cache of units' rows in front of any other keeper.
 #![tactic(auto)]
 
 mod at_hand;

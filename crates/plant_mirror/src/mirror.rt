@@ -18,9 +18,9 @@ use plant_types::limits::MAX_ROWS_AT_HAND;
 use plant_types::{Fault, List, Moment, Person, Sorted, TryCopy, UnitCode};
 use std::alloc::Global;
 
-/// A keeper over another, with the rows of the units that were last used at hand. The events of a unit are brought to
-/// hand at the first call that looks at them. Its matrices and changes never are: a call that looks at them asks the
-/// books below, which read what it looks at by its key.
+/// A keeper over another one, with cached rows of the units that were used last. The events of a unit are cached at the
+/// first call that looks at them. Its matrices and changes are never cached: a call that looks at them is answered from
+/// the books below, which read what it looks at by key.
 #[derive(Drop)]
 pub struct Mirror<B: Books> {
     books: B,
@@ -35,8 +35,8 @@ fn is_among(unit: &UnitCode, units: &[UnitCode]) -> bool
     units.iter().any(|other| *unit == *other)
 }
 
-/// The part that was made of rows at hand. None where they are more than a part can count: the books below are to say
-/// so.
+/// The part that was made from cached rows. `None` if they are more than a part can count: the books below then report
+/// that fault.
 fn made(said: Result<UnitPart, Fault>) -> Result<Option<UnitPart>, Fault>
     ensures same { IfOk result (λ made. IfSome made (λ part. said ≡ Ok part)) }
     ensures memory { OnlyMemory result }
@@ -49,7 +49,7 @@ fn made(said: Result<UnitPart, Fault>) -> Result<Option<UnitPart>, Fault>
 }
 
 impl<B: Books> Mirror<B> {
-    /// The keeper over these books, with no rows at hand yet. It takes no memory.
+    /// The keeper over these books, with an empty cache. It takes no memory.
     pub fn new(alloc: Global, copies: Copies, books: B) -> Mirror<B>
         requires { copies.units.entries ≡ [] }
         ensures represents { (m : Content) → B.represents books m
@@ -68,7 +68,7 @@ impl<B: Books> Mirror<B> {
         }
     }
 
-    /// A number that the rows at hand do not exceed: in every state of the keeper it is at most `MAX_ROWS_AT_HAND`.
+    /// The limit, which the number of cached rows does not exceed. It is always at most `MAX_ROWS_AT_HAND`.
     pub fn row_limit(&self) -> u128
         ensures rows { rows_of_all self.now.copies.units.entries ≤ result }
         ensures limit { result ≤ MAX_ROWS_AT_HAND }
@@ -76,7 +76,7 @@ impl<B: Books> Mirror<B> {
         self.copies.row_limit()
     }
 
-    /// The books that lie below, as they were left.
+    /// The books below, as they were left.
     pub fn into_books(self) -> B
         ensures represents { (m : Content) → ⟦<Mirror<B> as Books>⟧.represents self m
             → B.represents result m }
@@ -95,7 +95,7 @@ impl<B: Books> Mirror<B> {
         books
     }
 
-    /// Keeps what is at hand of the unit's rows, if there is memory.
+    /// Caches the unit's rows, if memory suffices.
     fn keep(&mut self, unit: &UnitCode, copy: AtHand)
         ensures kept { (m : Content) → Mirrors B.Books self.old m
             → (B.is_honest self.old.books
@@ -108,7 +108,7 @@ impl<B: Books> Mirror<B> {
         }
     }
 
-    /// Reads the unit's rows but its history, and keeps them at hand if memory suffices.
+    /// Reads the unit's rows except its history, and caches them if memory suffices.
     fn bring(&mut self, unit: &UnitCode) -> Result<(), Fault>
         ensures leaves { Leaves B.Books result self.old self.new }
     {
@@ -124,7 +124,7 @@ impl<B: Books> Mirror<B> {
         Ok(())
     }
 
-    /// Reads the events of a unit whose other rows are at hand, and keeps them there.
+    /// Reads the events of a unit whose other rows are cached, and caches them too.
     fn bring_events(&mut self, unit: &UnitCode) -> Result<(), Fault>
         ensures leaves { Leaves B.Books result self.old self.new }
     {
@@ -155,8 +155,8 @@ impl<B: Books> Mirror<B> {
         Ok(is_among(unit, units.as_slice()))
     }
 
-    /// Brings the rows of a unit to hand, with the events if the call looks at them. For a caller who holds no role in
-    /// the unit nothing is read.
+    /// Reads and caches the rows of a unit, with the events if the call looks at them. For a caller who holds no role
+    /// in the unit, nothing is cached.
     fn bring_for(&mut self, unit: &UnitCode, call: &Call) -> Result<(), Fault>
         ensures leaves { Leaves B.Books result self.old self.new }
     {
@@ -170,7 +170,7 @@ impl<B: Books> Mirror<B> {
         Ok(())
     }
 
-    /// Brings to hand what the call looks at, where it is not there yet.
+    /// Reads and caches what the call looks at, unless it is cached already or is never cached.
     fn prepare(&mut self, unit: &UnitCode, call: &Call) -> Result<(), Fault>
         ensures leaves { Leaves B.Books result self.old self.new }
     {
@@ -184,8 +184,8 @@ impl<B: Books> Mirror<B> {
         }
     }
 
-    /// Makes the changes below. Where that fails, nothing stays at hand: books that have shut are to be asked, and to
-    /// say so.
+    /// Makes the changes in the books below. If that fails, the cache is emptied, so that books that have shut are
+    /// asked and report it.
     fn change_below(
         &mut self,
         unit: &UnitCode,
@@ -209,8 +209,8 @@ impl<B: Books> Mirror<B> {
         changed
     }
 
-    /// The part of a call on this unit from what is at hand; none where that does not serve the call, or has more rows
-    /// than a part can count.
+    /// The part for a call on this unit from cached rows. `None` if these do not serve the call, or are more than a
+    /// part can count.
     fn ready_part(&self, unit: &UnitCode, call: &Call) -> Result<Option<UnitPart>, Fault>
         ensures found { (m : Content) → Mirrors B.Books self.now m → B.is_honest self.now.books
             → unit_named call.now.request ≡ Some unit.now
@@ -223,7 +223,7 @@ impl<B: Books> Mirror<B> {
         }
     }
 
-    /// The part of a call on this unit: from what is at hand, if that serves the call.
+    /// The part for a call on this unit: from cached rows if these serve the call, otherwise from the books below.
     fn part_of(&mut self, unit: &UnitCode, call: &Call) -> Result<Option<UnitPart>, Fault>
         ensures found { (m : Content) → Mirrors B.Books self.old m → B.is_honest self.new.books
             → unit_named call.now.request ≡ Some unit.now
@@ -236,7 +236,7 @@ impl<B: Books> Mirror<B> {
         }
     }
 
-    /// Makes the unit the one last used, where its rows are at hand and the caller holds a role in it.
+    /// Makes the unit the one used last, if its rows are cached and the caller holds a role in it.
     fn touch_for(&mut self, unit: &UnitCode, part: &UnitPart)
         ensures kept { (m : Content) → Mirrors B.Books self.old m → Mirrors B.Books self.new m }
         ensures below { self.new.books ≡ self.old.books }
@@ -246,7 +246,7 @@ impl<B: Books> Mirror<B> {
         }
     }
 
-    /// The part of a call on this unit from what is at hand, where its rows are brought if they are not there.
+    /// The part for a call on this unit. The unit's rows are read and cached first, if they are not cached yet.
     fn part_at_hand(&mut self, unit: &UnitCode, call: &Call) -> Result<Option<UnitPart>, Fault>
         ensures found { (m : Content) → Mirrors B.Books self.old m → B.is_honest self.new.books
             → unit_named call.now.request ≡ Some unit.now
@@ -317,7 +317,7 @@ impl<B: Books> Books for Mirror<B> {
             return Ok(None);
         };
         match self.part_at_hand(unit, call) {
-            // the rows of other units may hold the memory that this one lacks
+            // The cached rows of other units may occupy the memory that is missing here.
             Err(Fault::Memory) => {
                 self.copies.clear();
                 self.books.part(call)
