@@ -13,14 +13,14 @@ pub record BooksState : Type 1 where
   pub held : Content → Type 0
   -- the keeper's premise: the disk has returned what was written, and no failure has shut the store
   pub honest : Type 0
-  -- the former alone
+  -- the disk has returned what was written
   pub clean : Type 0
   -- the next start after a crash at this moment may find this content
   pub leaves : Content → Type 0
-  -- whatever that crash leaves is books
+  -- whatever that crash leaves can be opened as books
   pub sound : Type 0
 
--- that of a keeper's books
+-- the state of a keeper's books
 abbrev pub books_state : {B : Type 0} → Ghosts B → B → BooksState
 books_state g b =
     record {
@@ -31,7 +31,7 @@ books_state g b =
       sound = g.leaves_books b;
     }
 
--- by this answer the caller knows that the call changed nothing: a reply to a read, or a refusal
+-- from this answer the caller knows that the call changed nothing: it is a reply to a read, or a refusal
 abbrev pub IsUnmade : Call → Answer → Type 0
 IsUnmade c (Replied r) = is_read c.request ≡ true
 IsUnmade c (WasRefused r) = Unit {0}
@@ -54,7 +54,7 @@ pub record Endures (c : Call) (a : Answer) (before after : BooksState) : Type 0 
   -- a crash leaves what it left before, or the books with the call
   pub each : after.clean → (w : World) → HoldsWorld w before → (x : Content) → after.leaves x
       → before.leaves x ⊎ (Holds x (next w c) × IsLegalWorld (next w c))
-  -- only the former, where the caller knows that nothing changed
+  -- a crash leaves what it left before, if the caller knows that nothing changed
   pub quiet : after.clean → IsUnmade c a → (x : Content) → after.leaves x → before.leaves x
   pub sound : after.clean → (w : World) → HoldsWorld w before → before.sound → after.sound
 

@@ -1,4 +1,4 @@
--- What stands of calls where a failure of the store may have come while they were made.
+-- What is known about calls if the store may have failed while they were made.
 use Rattle.std.specs.Prelude.{List, [], length, ◌++◌, ◌≡◌}
 use Rattle.plant_model.specs.{Worlds.{World}, declared.{call.Call.{Call}, reply.Answer.{Answer}}}
 use Rattle.plant_office.specs.{Enduring.{BooksState, HoldsWorld}, Outcomes.{confirmed}, Runs.{AreAnswers, AreIsolated}}

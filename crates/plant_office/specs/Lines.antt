@@ -7,6 +7,6 @@ use Rattle.plant_model.specs.{Replies.{line_of}, Shelves.{state_of_shelf}, World
 abbrev pub line_of_mine : MineUnit → UnitLine
 line_of_mine u = record { unit = u.unit; roles = u.roles }
 
--- the line of a shelf that is not over at the moment
+-- the line of a shelf that has not ended at the moment
 abbrev pub line_of_shelf : ℕ → MineRow → Option MineLine
 line_of_shelf t s = option_map (mine_line s.unit) (line_of s.shelf (state_of_shelf (Some s.shelf) s.last_return t))

@@ -44,11 +44,11 @@ pub record IsRun (w : World) (calls : List Call) (answers : List Answer) (left :
   pub holds : Holds after (world_after w calls answers)
   pub legal : IsLegalWorld (world_after w calls answers)
 
--- the answer leaves the rows as they were: it is a fault or a refusal, or a reply to a call that only asks
+-- the answer leaves the rows as they were: it is a fault, a refusal, or a reply to a read
 abbrev pub ChangesNothing : Call → Answer → Type 0
 ChangesNothing c a = IfSaid a (λ x. changes_history x c ≡ false)
 
--- each of the answers does
+-- each of the answers leaves the rows as they were
 abbrev pub AllChangeNothing : List Call → List Answer → Type 0
 AllChangeNothing [] [] = Unit {0}
 AllChangeNothing (c ∷ calls) (a ∷ answers) = ChangesNothing c a × AllChangeNothing calls answers
@@ -75,6 +75,6 @@ is_store (WasRefused r) = false
 is_store (Faulted Memory) = false
 is_store (Faulted Store) = true
 
--- how many of the answers are that
+-- how many of the answers are a fault of the store
 abbrev pub stores_in : List Answer → ℕ
 stores_in answers = count_by is_store answers

@@ -1,4 +1,4 @@
--- What serving a call says, and leaves of the books.
+-- What serving a call returns, and what it leaves of the books.
 use Rattle.std.specs.Prelude.{IfOk, OnErr, Option, Result, Some, false, ◌≡◌}
 use Rattle.plant_books.specs.{Books.{Keeps, WasHonest}, Contents.{Content, part_in}, Counting.{Counts}, Crashes.{LosesNothing}, declared.books.Books.{Ghosts}}
 use Rattle.plant_model.specs.{Verdicts.{changes_history}, Worlds.{IsLegalWorld, World, unit_named}, declared.{call.Call.{Call}, reply.Refused.{Refused}}}
@@ -18,7 +18,7 @@ pub record Serves {B : Type 0} (books : Ghosts B) (c : Call) (said : Result (Res
       → IfOk said (λ a. changes_history a c ≡ false → books.represents after m)
   pub fault : (m : Content) → books.represents before m → OnErr said (books.represents after m)
   pub count : Counts (books.stores before) (books.stores after) said
-  -- and so does a crash
+  -- a crash leaves what it may leave after such a call
   pub endures : Endures c (answer_as said) (books_state books before) (books_state books after)
 
 -- the books gave this part of a unit's rows for a call, and hold what they held

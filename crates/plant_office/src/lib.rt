@@ -1,4 +1,4 @@
-//! The office: it serves calls over any books, and answers each as the units' histories do.
+//! The office: it serves calls over any books, and answers each of them as the units' histories determine.
 #![tactic(auto)]
 
 mod office;

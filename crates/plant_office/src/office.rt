@@ -33,7 +33,7 @@ fn rows_in(part: &Option<UnitPart>) -> Option<&UnitRows>
     }
 }
 
-/// Whether a change puts the unit's own row as it stands among these, which are all its rows of that kind.
+/// Whether a change puts the unit's own row unchanged. `units` are all rows of that table.
 fn puts_the_same(units: &[UnitRow], change: &RowEdit) -> bool
     ensures { (rows : UnitRows) → rows.units ≡ units.now → IsTrue result
         → changed change.now rows ≡ rows }
@@ -44,7 +44,7 @@ fn puts_the_same(units: &[UnitRow], change: &RowEdit) -> bool
     }
 }
 
-/// Leaves the unit's own row out of the changes where it stays as it was seen: at the moment of the call before, say.
+/// Leaves the unit's own row out of the changes if it stays the same, for instance at the moment of the call before.
 fn leave_out_same(part: &Option<UnitPart>, changes: &mut List<RowEdit>)
     ensures { (rows : UnitRows) → IfSome part.now (λ part. rows.units ≡ part.rows.units)
         → changed_by changes.new rows ≡ changed_by changes.old rows }
@@ -57,8 +57,7 @@ fn leave_out_same(part: &Option<UnitPart>, changes: &mut List<RowEdit>)
     }
 }
 
-/// Gives the proof what holds of each value of the type `Matrix`: the matrix of a request is an ordered one. It checks
-/// nothing when it runs.
+/// Gives the proof the invariant of `Matrix`: the matrix of a request is an ordered one. Checks nothing at run time.
 fn note_matrix(request: &Request)
     ensures { has_matrix request.now ≡ true }
 {
@@ -71,7 +70,7 @@ fn note_matrix(request: &Request)
     }
 }
 
-/// The same of a proposal's matrix.
+/// The same for a proposal's matrix.
 fn note_proposed(kind: &ChangeKind)
     ensures { is_matrix_kind kind.now ≡ true }
 {
@@ -80,7 +79,7 @@ fn note_proposed(kind: &ChangeKind)
     }
 }
 
-/// Which faults were answered.
+/// Which faults were returned as answers.
 #[derive(Clone, Copy, Debug, PartialEq, Eq)]
 pub struct Faults {
     pub memory: bool,
@@ -93,7 +92,7 @@ const NO_FAULTS: Faults = Faults {
     store: false,
 };
 
-/// Notes the fault that was said, if one was.
+/// Notes the fault of a result, if any.
 fn note_fault(faults: &mut Faults, said: &Result<Result<Reply, Refused>, Fault>) {
     match said {
         Ok(_) => {}
@@ -133,7 +132,7 @@ impl<B: Books> Office<B> {
         books
     }
 
-    /// Which faults were answered since they were last taken.
+    /// Which faults were returned as answers since this was last called.
     pub fn take_faults(&mut self) -> Faults
         ensures { self.new.books ≡ self.old.books }
     {
@@ -142,8 +141,8 @@ impl<B: Books> Office<B> {
         faults
     }
 
-    /// Whether a failure has shut the store behind the books, which are never honest again then. It asks no store and
-    /// takes no memory.
+    /// Whether a failure has shut the store behind the books. The books are then never honest again. Does not access
+    /// the store, and takes no memory.
     pub fn is_shut(&self) -> bool
         ensures { IsTrue result → ¬ B.is_honest self.now.books }
     {
@@ -202,7 +201,7 @@ impl<B: Books> Office<B> {
         }))
     }
 
-    /// Serves a call on a unit from the part of its rows that the books gave.
+    /// Serves a call on a unit from the part of its rows that the books returned.
     fn serve_part(
         &mut self,
         unit: &UnitCode,
@@ -227,7 +226,7 @@ impl<B: Books> Office<B> {
         }
     }
 
-    /// Serves a call for the shelves of a unit from that part, out of which it takes them.
+    /// Serves a call for the shelves of a unit from that part. It takes the shelves out of the part.
     fn serve_shelves(
         &self,
         unit: &UnitCode,
@@ -263,7 +262,8 @@ impl<B: Books> Office<B> {
         }
     }
 
-    /// Serves a call on a unit. It owns the part of its rows, and has few ends: at each of them the proof lets go of them all.
+    /// Serves a call on a unit. It owns the part of the unit's rows, and returns at few places: the prover treats the
+    /// whole part at each of them.
     fn serve_unit(&mut self, unit: &UnitCode, call: &Call) -> Result<Result<Reply, Refused>, Fault>
         requires named { unit_named call.now.request ≡ Some unit.now }
         requires plain { is_opening call.now.request ≡ false }
@@ -304,12 +304,12 @@ impl<B: Books> Office<B> {
         }
     }
 
-    /// Answers a call, as the world of the units' histories answers it.
+    /// Answers a call as the world of the units' histories answers it.
     ///
     /// The headline is the clause `isolated`. Take any other office of the same administrator that looks the same to
     /// the caller at the call's moment. It would give the same answer, if this one is not a fault, and the units in
     /// which the caller holds a role before or after the call would have the same rows there. A fault leaves the books
-    /// as they were, and so do a refusal and a reply to a call that only asks, whatever the books hold.
+    /// as they were, and so do a refusal and a reply to a read, whatever the books hold.
     ///
     /// The clause `endures` is about a crash, at this moment or at any before it: the next start finds the books before
     /// the call, or those with the call; after a reply to a call that changes something only the latter, and after any
@@ -334,17 +334,17 @@ impl<B: Books> Office<B> {
             (books_state B.Books self.old.books) (books_state B.Books self.new.books) }
     {
         let said = self.serve_call(call);
-        // Tells the proof what a crash leaves now; it does nothing.
+        // Gives the proof what a crash leaves now. Does nothing at run time.
         self.books.settle();
         note_fault(&mut self.faults, &said);
         answer_of(said)
     }
 
-    /// Answers the calls in their order, each as `serve` does. Room for all answers is made first: a fault of its own
-    /// is Memory, and then no call was made. A fault, a refusal and a reply to a call that only asks leave the books as
-    /// they were, call by call and whatever the books hold. A crash leaves the books with all calls that were
-    /// confirmed, or with these and one that was answered by a fault after which none was confirmed. Where a failure shuts
-    /// the store meanwhile, the calls up to the last confirmed one were answered as the world answers them all the same.
+    /// Answers the calls in their order, each as `serve` does. Room for all answers is made first: the only error is
+    /// out of memory, and then no call was made. A fault, a refusal and a reply to a read leave the books as they were,
+    /// call by call and whatever the books hold. A crash leaves the books with all calls that were confirmed, or with
+    /// these and one that was answered by a fault after which none was confirmed. If a failure shuts the store
+    /// meanwhile, the calls up to the last confirmed one were nevertheless answered as the world answers them.
     pub fn run(&mut self, calls: &[Call]) -> Result<Vec<Answer>, Fault>
         ensures ran { (m : Content) → B.represents self.old.books m → (w : World)
             → IsLegalWorld w → Holds m w
@@ -378,7 +378,7 @@ impl<B: Books> Office<B> {
     }
 }
 
-/// The answers so far with one more, for which room was made.
+/// Appends an answer, for which room was made.
 fn push_answer(answers: &mut Vec<Answer>, answer: Answer)
     requires { vec_len answers.old < vec_capacity answers.old }
     ensures items { answers.new.items ≡ answers.old.items ++ answer ∷ [] }
@@ -387,7 +387,7 @@ fn push_answer(answers: &mut Vec<Answer>, answer: Answer)
     answers.push(answer).unwrap();
 }
 
-/// The reply, if the changes were made, else the fault.
+/// The reply if the changes were made, else the fault.
 fn reply_if_made(made: Result<(), Fault>, reply: Reply) -> Result<Result<Reply, Refused>, Fault>
     ensures { result ≡ reply_or_fault made reply }
 {
@@ -400,7 +400,7 @@ fn reply_if_made(made: Result<(), Fault>, reply: Reply) -> Result<Result<Reply, 
     }
 }
 
-/// What was said, or the fault, as an answer.
+/// The reply, the refusal or the fault as an answer.
 fn answer_of(said: Result<Result<Reply, Refused>, Fault>) -> Answer
     ensures { result ≡ answer_as said }
 {
@@ -424,8 +424,8 @@ fn latest(now: Moment, units: &[MineUnit]) -> Moment
     latest
 }
 
-/// The line of a shelf with its unit; none where the shelf has ended: its time has passed, or it was a one-shot and its
-/// alarm returned.
+/// The line of a shelf with its unit. `None` if the shelf has ended: its time has passed, or it was a one-shot shelf
+/// and its alarm has returned to normal.
 fn mine_line(mine: MineRow, now: Moment) -> Option<MineLine>
     ensures { result ≡ line_of_shelf now mine }
 {

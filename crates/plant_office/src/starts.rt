@@ -1,4 +1,4 @@
-//! An office over several starts: contracts that stand on empty bodies.
+//! A law about an office over several starts, stated as the contract of a function with an empty body.
 
 ghost use Rattle.plant_office.specs.Lives.{CrashesLeaveAWorld};
 
