@@ -1,5 +1,5 @@
--- A person's grants in all units: by themselves, beside the last moment of their unit, and beside the shelves of their
--- unit with the last return of the shelves' alarms.
+-- A person's grants in all units: alone, with the last moment of their unit, and with the shelves of their unit and the
+-- last return of the shelves' alarms.
 use Rattle.std.specs.{BTreeSet.{IsFromIterResult}, FinMap.{keys}, Ordering.{nat_cmp, ordering_then}, declared.cmp.Ordering.{Ordering}}
 use Rattle.std.specs.Prelude.{flat_map, Bool, List, None, Option, Some, [], filter, if◌then◌else◌, map, not, ℕ, ◌&&◌, ◌++◌, ◌∷◌, ◌≡◌}
 use Rattle.sqlite_value.specs.{Order.{Row}, declared.value.Value.TheVariants.{Text}}
@@ -19,13 +19,13 @@ abbrev pub AreCodes : ℕ → List Holding → List Name → Type 0
 AreCodes t holdings codes =
     IsFromIterResult name_cmp (map (λ h. h.unit) (filter (λ h. is_before t h.end_s) holdings)) (record { keys = codes })
 
--- each of these rows of a unit, beside each grant of the person there: unit by unit, and grant by grant
+-- each of these rows of a unit, with each grant of the person there: unit by unit, and grant by grant
 abbrev pub lines_of : {X L : Type 0} → (Name → GrantRow → X → L) → (UnitRows → List X) → Content → Name → List L
 lines_of line these m p =
     flat_map (λ u. flat_map (λ g. map (line u g) (these (rows_in m u)))
     (filter (λ g. same_name p g.person) (rows_in m u).grants)) (keys m.units)
 
--- ---- beside the last moment of their unit
+-- ---- with the last moment of their unit
 
 -- as the query shows a line
 abbrev pub unit_line_cells : UnitLine → Row
@@ -37,7 +37,7 @@ unit_line u g r = record { unit = u; role_no = g.role_no; end_s = g.end_s; last_
 abbrev pub own_unit_lines : Content → Name → List UnitLine
 own_unit_lines m p = lines_of unit_line (λ rows. rows.units) m p
 
--- those of grants that have not ended
+-- the lines of grants that have not ended
 abbrev pub standing_units : ℕ → List UnitLine → List UnitLine
 standing_units t lines = filter (λ l. is_before t l.end_s) lines
 
@@ -45,28 +45,28 @@ standing_units t lines = filter (λ l. is_before t l.end_s) lines
 abbrev pub started : UnitLine → MineUnit
 started l = record { unit = l.unit; roles = l.role_no ∷ []; last = l.last_s }
 
--- a unit before others: one with the first of them, if that is the same
+-- a unit put before others; if the first of these is the same unit, the two are merged
 abbrev pub put_run : MineUnit → List MineUnit → List MineUnit
 put_run u [] = u ∷ []
 put_run u (v ∷ vs) = if same_name u.unit v.unit then
     (record { unit = u.unit; roles = u.roles ++ v.roles; last = u.last }) ∷ vs else u ∷ v ∷ vs
 
--- each run of lines of one unit as one, with its roles
+-- the units of the lines: each run of lines of the same unit becomes one unit with its roles
 abbrev pub runs_of : List UnitLine → List MineUnit
 runs_of [] = []
 runs_of (l ∷ ls) = put_run (started l) (runs_of ls)
 
--- the same behind the unit that is still open
+-- the same, after the unit that is still open
 abbrev pub runs_after : Option MineUnit → List UnitLine → List MineUnit
 runs_after None ls = runs_of ls
 runs_after (Some u) ls = put_run u (runs_of ls)
 
--- a line is taken to the unit that is open, or to a new one: whatever lines are left, the units come out the same
+-- a line is added to the open unit or begins a new one: whatever lines are left, the units become the same
 abbrev pub JoinsLine : List MineUnit → Option MineUnit → UnitLine → List MineUnit → MineUnit → Type 0
 JoinsLine units current line after next = (rest : List UnitLine)
     → after ++ runs_after (Some next) rest ≡ units ++ runs_after current (line ∷ rest)
 
--- ---- beside the shelves of their unit
+-- ---- with the shelves of their unit
 
 -- as the query shows a line
 abbrev pub shelf_line_cells : ShelfLine → Row
@@ -92,11 +92,11 @@ line_cmp a b =
     ordering_then (ordering_then (name_cmp a.unit b.unit) (nat_cmp (role_no a.role_no) (role_no b.role_no)))
     (name_cmp a.shelf.tag b.shelf.tag)
 
--- those of grants that have not ended
+-- the lines of grants that have not ended
 abbrev pub standing_shelves : ℕ → List ShelfLine → List ShelfLine
 standing_shelves t lines = filter (λ l. is_before t l.end_s) lines
 
--- the line is of another grant than the last one's, in the same unit
+-- the line belongs to another grant than the last one, in the same unit
 abbrev pub repeats : ShelfLine → ShelfLine → Bool
 repeats l last = same_name last.unit l.unit && not (same_role last.role_no l.role_no)
 

@@ -1,4 +1,4 @@
--- What a connection was that is taken or refused as an office's books, and what it keeps.
+-- What a connection that is accepted or refused as an office's books was before, and what it keeps.
 use Rattle.std.specs.Prelude.{Bool, IfErr, IfOk, IsTrue, Result, false, ℕ, ◌↔◌, ◌≡◌}
 use Rattle.sqlite.specs.Held.{Held, state}
 use Rattle.sqlite_trees.specs.declared.store.Store.{Ghosts}

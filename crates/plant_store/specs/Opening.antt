@@ -20,7 +20,7 @@ is_office t = has_column (codes "id") t && (has_column (codes "schema_no") t && 
 abbrev pub has_office : Schema → Bool
 has_office schema = unwrap_or (option_map is_office (office_in schema)) false
 
--- where a row has the value of the column of this name
+-- the place in a row of the column of this name
 abbrev pub place_named : Table → List ℕ → ℕ
 place_named t name = place_of t (unwrap_or (column_named t name) 0)
 
@@ -33,13 +33,13 @@ office_shown t r =
 abbrev pub office_cells : ℕ → Name → Row
 office_cells schema admin = number 1 ∷ number schema ∷ Text admin ∷ []
 
--- there is the office's table with its columns, and it has one row, of a schema's number and a person's name
+-- the office's table exists with its columns, and it has one row, with a schema's number and a person's name
 pub record IsOffice (schema : ℕ) (admin : Name) (db : Database) : Type 0 where
   pub table : Table
   pub is_there : office_in db.schema ≡ Some table
   pub has_columns : is_office table ≡ true
   pub row : map (office_shown table) (db.trees table.tree) ≡ office_cells schema admin ∷ []
 
--- the same of this schema
+-- the same for this schema
 abbrev pub IsThisOffice : Name → Database → Type 0
 IsThisOffice admin db = IsOffice schema_no admin db

@@ -1,4 +1,4 @@
-//! A plant's rows taken over from a store of schema 1 into new tables of this schema.
+//! Copies a plant's store of schema 1 into new tables of this schema.
 
 ghost use Rattle.std.specs.Prelude.{◌≡◌, ◌≢◌, ◌⊎◌, false, IfErr, IfOk, IsErrAnd, OnOk, Err};
 ghost use Rattle.sqlite.specs.{Held.{state}, State.{Survives}};
@@ -21,7 +21,7 @@ use std::alloc::Global;
 /// The schema from which a plant is taken over.
 const OLD_SCHEMA: u32 = 1;
 
-/// Connections of which the one was not taken over into the other, handed back with the administrator's name.
+/// The two connections of a copy that failed, handed back with the administrator's name.
 #[derive(Drop)]
 pub struct MigrateRefused<O: Alter, N: Alter> {
     pub old: Connection<O>,
@@ -30,7 +30,7 @@ pub struct MigrateRefused<O: Alter, N: Alter> {
     pub fault: StoreFault,
 }
 
-/// Takes all rows over into a database that has no table; a fault of the store where it has one.
+/// Copies all rows into a database that has no table. It is a fault of the store if it has one.
 fn take_into_blank<O: Alter, N: Alter>(
     alloc: Global,
     from: &mut Connection<O>,
@@ -64,9 +64,9 @@ fn take_into_blank<O: Alter, N: Alter>(
 /// unit and no end for any grant. The old database is only read, whatever it holds. The new one is written in one
 /// transaction, so that a crash leaves what it had before or the whole copy.
 ///
-/// Refused as `NotThisStore` where the old database is no store of schema 1 with this administrator; the new one is not
-/// looked at then. A fault of the store where the new database has a table, where a row of the old store cannot be read
-/// as a row of its table, or where one of the two connections fails.
+/// Refused as `NotThisStore` if the old database is not a store of schema 1 with this administrator; the new one is
+/// then not looked at. It is a fault of the store if the new database has a table, if a row of the old store cannot be
+/// read as a row of its table, or if one of the two connections fails.
 #[tactic(auto, using(plant_statements::proofs::public::ReadsOnly::reads_then))]
 pub fn migrate<O: Alter, N: Alter>(
     alloc: Global,

@@ -1,4 +1,4 @@
-//! The units in which a person holds roles.
+//! Reads the units in which a person holds roles, with these roles, by queries over all units.
 
 ghost use Rattle.std.specs.Prelude.{◌≡◌, ◌∷◌, [], IfOk};
 ghost use Rattle.plant_books.specs.Contents.{codes_held, mine_units as units_held};
@@ -19,7 +19,7 @@ use sqlite::{Alter, Connection, Error, Row};
 use std::alloc::Global;
 use std::collections::BTreeSet;
 
-/// A grant: in which unit, and until when.
+/// A person's grant: its unit, and its end if any.
 #[derive(Drop)]
 pub struct Holding {
     pub unit: UnitCode,
@@ -39,7 +39,7 @@ impl Shown for Holding {
     }
 }
 
-/// The units of the grants that have not ended, each once, rising.
+/// The units of the grants that have not ended, in order, each once.
 fn standing_codes(
     alloc: Global,
     holdings: List<Holding>,
@@ -74,7 +74,7 @@ pub fn held<S: Alter>(
     standing_codes(alloc, holdings, now)
 }
 
-/// A grant of the person, beside its unit's last moment.
+/// A grant of the person, with its unit's last moment.
 #[derive(Drop)]
 pub struct UnitLine {
     pub unit: UnitCode,
@@ -98,7 +98,7 @@ impl Shown for UnitLine {
     }
 }
 
-/// The person's grants in all units, each beside its unit's last moment.
+/// The person's grants in all units, each with its unit's last moment.
 #[tactic(auto, using(crate::proofs::JoinMeanings::unit_lines, plant_statements::proofs::public::ReadsOnly::reads_plain))]
 fn unit_lines<S: Alter>(
     alloc: Global,
@@ -134,7 +134,7 @@ fn start(alloc: Global, line: &UnitLine) -> Result<MineUnit, Error>
     })
 }
 
-/// Takes a line to the unit that is still open, or to a new one.
+/// Adds a line's role to the unit that is still open, or begins a new unit with it.
 #[tactic(auto, using(crate::proofs::MineLines::joins_run))]
 fn join(
     alloc: Global,
@@ -156,7 +156,7 @@ fn join(
     Ok(next)
 }
 
-/// The lines unit by unit, without those of grants that have ended.
+/// The lines grouped by unit, without those of grants that have ended.
 fn group(alloc: Global, lines: &[UnitLine], now: Moment) -> Result<List<MineUnit>, Error>
     ensures { IfOk result (λ units. units ≡ runs_of (standing_units now lines.now)) }
 {

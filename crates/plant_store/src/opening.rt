@@ -1,4 +1,4 @@
-//! Whether a database is an office's books.
+//! Checks whether a database holds the books of an office with this schema and administrator.
 
 ghost use Rattle.std.specs.Prelude.{◌≡◌, ◌↔◌, [], ◌∷◌, false, map, true, IsTrue, IfOk, Ok};
 ghost use Rattle.sqlite.specs.{Held.{state}, Tree.{Trees}};
@@ -29,7 +29,7 @@ fn is_office(table: &Table) -> bool
     has_column(table, b"id") && has_column(table, b"schema_no") && has_column(table, b"admin")
 }
 
-/// Whether there is a table of the office, with its columns.
+/// Whether the database has the office's table, with its columns.
 fn has_office(schema: &Schema) -> bool
     ensures { result ≡ opening.has_office schema.now }
 {
@@ -54,14 +54,14 @@ fn is_text(row: &Row, at: usize, text: &[u8]) -> bool
     matches!(row.get_ref(at), Ok(ValueRef::Text(found)) if found == text)
 }
 
-/// Whether the row is of this schema's number and this person's name.
+/// Whether the row has this schema's number and this person's name.
 fn is_row_of(row: &Row, schema: u32, admin: &Person) -> bool
     ensures { IsTrue result ↔ (columns 3 row.now ≡ office_cells schema admin.now) }
 {
     is_number(row, 0, 1) && is_number(row, 1, schema) && is_text(row, 2, admin.as_bytes())
 }
 
-/// Whether these rows of the office's table are one row, of this schema's number and this person's name.
+/// Whether these rows of the office's table are one row, with this schema's number and this person's name.
 fn is_office_row(rows: &[Row], schema: u32, admin: &Person) -> bool
     ensures { IsTrue result ↔ (map (columns 3) rows.now ≡ office_cells schema admin.now ∷ []) }
 {
@@ -71,8 +71,8 @@ fn is_office_row(rows: &[Row], schema: u32, admin: &Person) -> bool
     }
 }
 
-/// Whether the office's table, where it is there with its columns, has one row, with this schema's number and this
-/// person's name.
+/// Whether the office's table has one row, with this schema's number and this person's name. The table exists, with its
+/// columns.
 #[tactic(auto, using(plant_statements::proofs::public::Meanings::office_row_plain, plant_statements::proofs::public::ReadsOnly::reads_plain))]
 fn has_its_row<S: Alter>(
     conn: &mut Connection<S>,
@@ -90,7 +90,7 @@ fn has_its_row<S: Alter>(
     Ok(is_office_row(rows.as_slice(), schema, admin))
 }
 
-/// Whether the database has the office's table with its columns, and there one row, of this schema's number and this
+/// Whether the database has the office's table with its columns, and in it one row, with this schema's number and this
 /// person's name.
 pub fn is_office_of<S: Alter>(
     conn: &mut Connection<S>,
@@ -109,7 +109,8 @@ pub fn is_office_of<S: Alter>(
     has_its_row(conn, schema, admin)
 }
 
-/// Tells the proof what a crash leaves of a connection while it is open: what it has committed. It does nothing.
+/// Gives the proof what a crash leaves of a connection while it is open: what it has committed. Does nothing at run
+/// time.
 pub fn note_settled<S: Alter>(conn: &Connection<S>)
     ensures { (db : Trees) → IsTrue (state S.Store conn.now).is_open → (state S.Store conn.now).may_leave db
         → db ≡ (state S.Store conn.now).committed.trees }

@@ -1,4 +1,4 @@
-//! The shelves of the units in which a person holds roles.
+//! Reads the shelves of the units in which a person holds roles, by one query over all units.
 
 ghost use Rattle.std.specs.List.{dedup};
 ghost use Rattle.std.specs.Prelude.{◌≡◌, IfOk, map};
@@ -20,7 +20,7 @@ use sqlite::{Alter, Connection, Error, Row};
 use std::alloc::Global;
 use std::cmp::Ordering;
 
-/// A shelf, beside a grant of the person in its unit, with the moment at which its alarm last returned to normal.
+/// A shelf with a grant of the person in its unit, and with the moment at which its alarm last returned to normal.
 #[derive(Drop)]
 pub struct ShelfLine {
     pub unit: UnitCode,
@@ -51,7 +51,7 @@ impl Shown for ShelfLine {
     ghost cells = { shelf_line_cells };
 
     fn from_row(alloc: Global, row: &Row) -> Result<ShelfLine, Error> {
-        // The texts come last: what is read before an error is given back then, and a number needs no care.
+        // The texts are read last: after an error the values read so far must be dropped, and numbers need no drop.
         let role_no = coded(row, 1)?;
         let end_s = open_moment(row, 2)?;
         let one_shot = flag(row, 4)?;
@@ -76,7 +76,7 @@ impl Shown for ShelfLine {
     }
 }
 
-/// How two lines compare: by unit, then by role, then by tag.
+/// Compares two lines by unit, then by role, then by tag.
 fn compare_lines(a: &ShelfLine, b: &ShelfLine) -> Ordering
     ensures { result ≡ line_cmp a.now b.now }
 {
@@ -86,8 +86,8 @@ fn compare_lines(a: &ShelfLine, b: &ShelfLine) -> Ordering
         .then(a.shelf.tag.cmp(&b.shelf.tag))
 }
 
-/// The shelves of the units in which the person has grants, beside each of these grants, by unit, role and tag. The
-/// query's index mostly gives them so, and the sort then only compares.
+/// The shelves of the units in which the person has grants, each shelf once for each of these grants, ordered by unit,
+/// role and tag. The query usually returns them in this order already, and the sort then only compares.
 #[tactic(auto, using(crate::proofs::JoinMeanings::shelf_lines, plant_statements::proofs::public::ReadsOnly::reads_plain))]
 fn shelf_lines<S: Alter>(
     alloc: Global,
@@ -106,14 +106,14 @@ fn shelf_lines<S: Alter>(
     Ok(List::from_vec(lines))
 }
 
-/// Whether the line is of another grant than the last one's, in the same unit.
+/// Whether the line belongs to another grant than the last one, in the same unit.
 fn is_repeated(line: &ShelfLine, last: &ShelfLine) -> bool
     ensures { result ≡ repeats line.now last.now }
 {
     last.unit == line.unit && !last.role_no.is(line.role_no)
 }
 
-/// The lines of one grant of each unit, the first that has not ended.
+/// The lines of one grant in each unit: the first that has not ended.
 fn merge(lines: List<ShelfLine>, now: Moment) -> List<ShelfLine>
     ensures { result ≡ dedup repeats (standing_shelves now lines) }
 {

@@ -48,7 +48,7 @@ pub fn is_blank(schema: &Schema) -> bool
         && schema.views.as_slice().is_empty()
 }
 
-/// Notes that a failure has shut the store, where one has.
+/// Notes it if a failure has shut the store.
 fn note_shut<S: Alter>(conn: &mut Connection<S>, shut: &mut bool)
     requires mode { HasNoTransaction conn.old }
     requires known { IsTrue shut.old → ¬ IsHonest (state S.Store conn.old) }
@@ -61,7 +61,7 @@ fn note_shut<S: Alter>(conn: &mut Connection<S>, shut: &mut bool)
     }
 }
 
-/// What a statement said. Where it failed that is a fault: one of the store is counted, and it is noted if the store is
+/// A statement's result, with its error as a fault. A fault of the store is counted, and it is noted if the store is
 /// shut now.
 fn heard<T: Drop, S: Alter>(
     conn: &mut Connection<S>,
@@ -89,10 +89,10 @@ fn heard<T: Drop, S: Alter>(
     }
 }
 
-/// Why a connection was not taken for books.
+/// Why a connection was not accepted as books.
 #[derive(Debug, Drop, Error)]
 pub enum StoreFault {
-    /// The office's table is missing, or a column of it, or its row is not this schema's and this person's.
+    /// The office's table or a column of it is missing, or its row is not that of this schema and this person.
     #[error("not this store")]
     NotThisStore,
     /// Memory ran out, or the store failed.
@@ -100,7 +100,7 @@ pub enum StoreFault {
     Fault(Fault),
 }
 
-/// A connection that was not taken, handed back with the administrator's name.
+/// A connection that was not accepted, handed back with the administrator's name.
 #[derive(Drop)]
 pub struct Unopened<S: Alter> {
     pub conn: Connection<S>,
@@ -108,7 +108,7 @@ pub struct Unopened<S: Alter> {
     pub fault: StoreFault,
 }
 
-/// The same tables for all units, in the database of one connection.
+/// The books of an office, in the database of one connection. All units share the same tables.
 #[derive(Drop)]
 pub struct Tables<S: Alter> {
     conn: Connection<S>,
@@ -133,8 +133,8 @@ impl<S: Alter> Model for Tables<S> {
 }
 
 impl<S: Alter> Tables<S> {
-    /// Makes all tables, with no unit, in a database that has none: in another it is a fault of the store. They are
-    /// made in one transaction, so that a crash leaves what was there before or all of them.
+    /// Makes all tables, without units, in a database that has no tables; otherwise it is a fault of the store. They
+    /// are made in one transaction, so a crash leaves either what was there before or all of them.
     pub fn create(
         alloc: Global,
         mut conn: Connection<S>,
@@ -172,9 +172,9 @@ impl<S: Alter> Tables<S> {
         }
     }
 
-    /// Opens a database that `create` made for this administrator. One is refused as `NotThisStore` where the office's
-    /// table or a column of it is missing, or where its one row is not this schema's and this administrator's. It is
-    /// only read, whatever it holds.
+    /// Opens a database that `create` made for this administrator. Refused as `NotThisStore` if the office's table or a
+    /// column of it is missing, or if it does not have one row, with this schema and this administrator. The database
+    /// is only read, whatever it holds.
     #[tactic(auto, using(plant_statements::proofs::public::ReadsOnly::keeps_read))]
     pub fn open(
         alloc: Global,
@@ -197,7 +197,7 @@ impl<S: Alter> Tables<S> {
         ensures unread { IfErr result (λ e. IsOnlyRead S.Store conn e.conn) }
         ensures back { IfErr result (λ e. (e.admin ≡ admin) × HasNoTransaction e.conn) }
     {
-        // Tell the proof that there is a database, and that all of it is committed; the values are not used.
+        // Give the proof that there is a database, and that all of it is committed; the values are not used.
         let _settled = conn.is_autocommit();
         let _live = conn.schema();
         let fault = match is_office_of(&mut conn, SCHEMA, &admin) {
@@ -208,7 +208,7 @@ impl<S: Alter> Tables<S> {
         Err(Unopened { conn, admin, fault })
     }
 
-    /// The books in these tables, where they were just made.
+    /// The books in these tables, which were just made.
     pub(crate) fn of(alloc: Global, conn: Connection<S>, admin: Person) -> Tables<S>
         requires { HasNoTransaction conn }
         ensures same { result.0.0 ≡ conn }
@@ -233,7 +233,7 @@ impl<S: Alter> Tables<S> {
         conn
     }
 
-    /// Sets how many steps a statement may take, or takes that limit away. A statement that would take more is a fault.
+    /// Sets how many steps a statement may take, or removes that limit. A statement that would take more is a fault.
     pub fn set_steps(&mut self, steps: Option<u64>)
         ensures limit { self.new.0.0 ≡ record self.old.0.0 { step_limit = steps } }
         ensures admin { self.new.0.1 ≡ self.old.0.1 }

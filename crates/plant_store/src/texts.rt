@@ -1,5 +1,5 @@
-//! The texts of the two joins: a person's grants in all units, beside the unit's last moment, and beside the unit's
-//! shelves with their alarms' last return. The proofs name them too.
+//! The texts of the two joins: a person's grants in all units with the unit's last moment, and with the unit's shelves
+//! and their alarms' last return. The proofs refer to these constants too.
 
 pub const UNIT_LINES: &str =
     "SELECT grants.unit, grants.role_no, grants.end_s, units.last_s FROM grants INNER JOIN units ON units.unit = grants.unit WHERE grants.person = ?1 ORDER BY grants.unit, grants.person, grants.role_no, units.unit";
