@@ -1,4 +1,4 @@
-//! Books that are kept in files: closed and opened again, they hold what they held.
+//! Closing and reopening books that are kept in files: they hold what they held before.
 #![tactic(auto)]
 
 ghost use Rattle.std.specs.Prelude.{◌≡◌, IfSome};
@@ -38,8 +38,7 @@ fn reopen_files<D: Disk + Drop>(
     }
 }
 
-/// Opens the books of a database again. In words of any store, since each call in those of two files takes the prover
-/// long.
+/// Opens the books of a database again. Generic over the store: the prover is slow on the concrete one.
 fn open_again<S: Alter + Drop>(
     alloc: Global,
     conn: Connection<S>,
@@ -56,8 +55,8 @@ fn open_again<S: Alter + Drop>(
     }
 }
 
-/// Closes books that are kept in files, and opens them again for the same administrator. What they held is found again;
-/// faults are counted anew.
+/// Closes books that are kept in files, and opens them again for the same administrator. They hold what they held
+/// before; the count of faults starts at 0 again. `None` if they cannot be opened.
 pub fn reopen<D: Disk + Drop>(
     alloc: Global,
     tables: Tables<FileStore<D>>,
