@@ -1,5 +1,5 @@
--- Typed values as the values of columns, and back. A column that holds a value outside its set is read as some value of
--- it here: the reading code answers a fault there.
+-- Typed values as the values of columns, and back. For a column with an invalid value these definitions give some valid
+-- value: the code that reads it returns an error.
 use Rattle.std.specs.Prelude.{Bool, IfOk, List, None, Option, Result, Some, [], find, if◌then◌else◌, negsuc, pos, unwrap_or, ℕ, ◌==◌, ◌∷◌, ◌≡◌}
 use Rattle.sqlite.specs.Values.{or_null}
 use Rattle.sqlite_value.specs.{Order.{Row, column}, declared.value.Value.{Value, TheVariants.{Blob, Int, Null, Real, Text}}}
@@ -11,7 +11,7 @@ use Rattle.plant_ration.specs.declared.{cell.Cell.{Cell, TheVariants.{N, P1, P2,
 use Rattle.plant_ration.specs.declared.change.ChangeState.TheVariants.{Approved, Proposed, Rejected, Withdrawn}
 use Rattle.plant_types.specs.{Roles.{all_roles, role_no}, declared.role.Role.{Role, TheVariants.{Viewer}}}
 
--- what a column is read as, if it is read, is what it has
+-- if a column is read without error, the result is what it holds
 abbrev pub ReadsColumn : {A E : Type 0} → (A → Value) → Row → ℕ → Result A E → Type 0
 ReadsColumn coded row at said = IfOk said (λ x. column row at ≡ coded x)
 
@@ -55,7 +55,7 @@ flag b = number (if b then 1 else 0)
 abbrev pub flag_in : Value → Bool
 flag_in v = number_in v == 1
 
--- of these values the one of a number, or else this one
+-- the one of these values with a number, or else this one
 abbrev pub numbered : {A : Type 0} → (A → ℕ) → List A → A → ℕ → A
 numbered code all other n = unwrap_or (find (λ x. code x == n) all) other
 
@@ -103,7 +103,7 @@ kind_numbered n = numbered kind_no all_kinds Act n
 abbrev pub kind_in : Value → EventKind
 kind_in v = kind_numbered (number_in v)
 
--- what a change is of, 1 to 3
+-- what a change changes, 1 to 3
 abbrev pub topic_no : ChangeTopic → ℕ
 topic_no RecordTopic = 1
 topic_no MatrixTopic = 2

@@ -1,4 +1,4 @@
--- Rows in the order of their keys. `cmp` compares keys, so rows that tie have one key.
+-- Rows in the order of their keys. `cmp` compares keys, so rows that compare as equal have the same key.
 use Rattle.std.specs.{Ordering.{is_eq, then_cmp, on}, Prelude.{ℕ, Bool, not, List, [], ◌∷◌, filter, None, false, pos, negsuc}}
 use Rattle.std.specs.declared.cmp.Ordering.{Ordering, TheVariants.{Equal}}
 use Rattle.sqlite_value.specs.{Order.{Row, column, value_cmp}, declared.{keys.Key.{Key}, value.Value.TheVariants.{Int, Text}}}

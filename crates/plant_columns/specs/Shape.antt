@@ -42,7 +42,7 @@ module _ {X K : Type 0} (s : Shape X K) where
 
 -- tables of these shapes, by their names
 module _ {I : Type 0} (X K : I → Type 0) (shape : (i : I) → Shape (X i) (K i)) where
-  -- what a database has of a unit in one table
+  -- the rows that a database has of a unit in one table
   abbrev pub seen : List ℕ → Trees → (i : I) → List (X i)
   seen unit trees i = rows_in (shape i) unit (trees (shape i).tree)
 

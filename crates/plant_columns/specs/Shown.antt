@@ -1,4 +1,4 @@
--- The rows that a query shows.
+-- The rows that a query returns.
 use Rattle.std.specs.{List.{range_with_len}, Prelude.{map, ℕ}}
 use Rattle.sqlite_value.specs.Order.{Row, column}
 

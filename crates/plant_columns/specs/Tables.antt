@@ -328,7 +328,7 @@ all_tables = Units ∷ Grants ∷ Alarms ∷ Shelves ∷ Bands ∷ Cells ∷ Eve
 abbrev pub no_schema : Schema
 no_schema = record { tables = []; indexes = []; views = [] }
 
--- how many they are
+-- how many tables there are
 abbrev pub table_count : ℕ
 table_count = length all_tables
 
@@ -341,7 +341,7 @@ schema_with n =
       views = [];
     }
 
--- once all are made, and the index by person
+-- once all tables and the index by person are made
 abbrev pub books_schema : Schema
 books_schema =
     record (schema_with table_count) { indexes = map (λ i. key_index (shape i)) all_tables ++ by_person ∷ [] }
@@ -354,6 +354,6 @@ AreBooks db = AreTables RowOf KeyOf shape books_schema db
 abbrev pub rows_seen : List ℕ → Trees → (i : TableKind) → List (RowOf i)
 rows_seen unit trees = seen RowOf KeyOf shape unit trees
 
--- they have these rows of it
+-- the tables have these rows of the unit
 abbrev pub AreSeen : List ℕ → Database → UnitRows → Type 0
 AreSeen unit db rows = (i : TableKind) → rows_seen unit db.trees i ≡ rows_of_table i rows

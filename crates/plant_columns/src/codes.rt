@@ -1,4 +1,5 @@
-//! The numbers of roles, states, kinds, topics and cells: one table each, by which columns are written and read.
+//! The numbers by which roles, states, kinds, topics and cells are stored: one table each, used for writing and
+//! reading.
 
 ghost use Rattle.std.specs.Prelude.{◌≡◌, List, ℕ};
 ghost use Rattle.plant_import.specs.Merging.{kind_no};
@@ -10,7 +11,7 @@ use plant_model::ChangeTopic;
 use plant_ration::{Cell, ChangeState};
 use plant_types::Role;
 
-/// A value that a column has by its number.
+/// A value that is stored in a column as a number.
 pub trait Coded: Clone + Copy + 'static {
     ghost no: { Self → ℕ };
 
@@ -111,7 +112,7 @@ impl Coded for EventKind {
     }
 }
 
-/// What changes are of.
+/// What changes change.
 const TOPICS: [ChangeTopic; 3] = [ChangeTopic::Record, ChangeTopic::Matrix, ChangeTopic::Limit];
 
 impl Coded for ChangeTopic {

@@ -1,5 +1,5 @@
-//! Typed rows from the rows that a query shows. A value outside its column's set is an error other than that memory ran
-//! out.
+//! Reads typed rows from the rows that a query returns. A value that is not valid in its column is an error other than
+//! out of memory.
 
 ghost use Rattle.std.specs.Prelude.{◌≡◌, ℕ, map, IfErr, IfOk, IsTrue};
 ghost use Rattle.sqlite_value.specs.{Order.{column, Row as SqlRow}, declared.value.Value.TheVariants.{Text as TextValue}};
@@ -145,7 +145,7 @@ pub fn flag(row: &Row, at: usize) -> Result<bool, Error>
     }
 }
 
-/// The value that the column has by its number.
+/// The value whose number is in the column.
 pub fn coded<T: Coded>(row: &Row, at: usize) -> Result<T, Error>
     ensures value { ReadsColumn (λ x. codes.number (T.no x)) row.now at result }
     ensures cause { IfErr result IsNoMemory }
@@ -164,14 +164,14 @@ fn event_number(row: &Row, at: usize) -> Result<Number, Error>
     Number::new(wide(row, at)?).ok_or(Error::IntegralValueOutOfRange(at))
 }
 
-/// A row that a query shows whole.
+/// A type that is read from a whole row of a query.
 pub trait Shown: Sized + Drop {
-    /// How many columns it has, and what they hold.
+    /// How many columns the row has, and what they hold.
     ghost width: { ℕ };
 
     ghost cells: { Self → SqlRow };
 
-    /// The row that is shown so.
+    /// The value read from the columns of a row.
     fn from_row(alloc: Global, row: &Row) -> Result<Self, Error>
         ensures { IfOk result (λ x. columns width row.now ≡ cells x) };
 }
@@ -303,7 +303,7 @@ impl Shown for RecordEntry {
     }
 }
 
-/// Who proposed a change, the alarm that it is of, and who decided it.
+/// Who proposed a change, the alarm that it concerns, and who decided it.
 fn names_of_change(alloc: Global, row: &Row) -> Result<(Person, Option<Tag>, Option<Person>), Error>
     ensures { IfOk result (λ names. (column row.now 1 ≡ TextValue names.0)
         × (column row.now 4 ≡ codes.open_text names.1)
@@ -338,7 +338,7 @@ impl Shown for ChangeEntry {
     ghost cells = { change_shape.cells };
 
     fn from_row(alloc: Global, row: &Row) -> Result<ChangeEntry, Error> {
-        // The texts come last: what is read before an error is given back then, and a number needs no care.
+        // The texts are read last: after an error the values read so far must be dropped, and numbers need no drop.
         let base = number(row, 5)?;
         let number = number(row, 0)?;
         let proposed_s = moment(row, 2)?;
@@ -370,7 +370,7 @@ impl Shown for ChangeEntry {
     }
 }
 
-/// All rows that a query showed.
+/// All rows that a query returned, decoded.
 pub fn read_all<T: Shown>(alloc: Global, rows: &[Row]) -> Result<List<T>, Error>
     ensures { IfOk result (λ t. map (columns T.width) rows.now ≡ map T.cells t) }
 {

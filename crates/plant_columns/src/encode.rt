@@ -1,4 +1,4 @@
-//! Typed rows as the values of columns.
+//! Writes typed rows as the values of columns.
 
 ghost use Rattle.std.specs.Prelude.{◌≡◌, ◌≤◌, ◌^◌, ◌∷◌, [], IfErr, IfOk};
 ghost use Rattle.sqlite.specs.Values.{bound, bound_value};
@@ -29,7 +29,7 @@ fn number(number: u32) -> ValueRef<'static>
     ValueRef::Int(i64::from(number))
 }
 
-/// A number, if a column can hold it: each below 2^63.
+/// A number, if a column can hold it: it must be below 2^63.
 pub fn wide(number: u64) -> Result<ValueRef<'static>, Error>
     ensures value { IfOk result (λ v. bound_value (owned v) ≡ codes.number number) }
     ensures refused { IfErr result (λ e. (2 ^ 63 ≤ number) × (e ≡ Error.InvalidQuery)) }

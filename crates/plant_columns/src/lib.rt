@@ -1,7 +1,7 @@
-//! The tables that all units share, and typed rows as their columns and back.
+//! The tables that all units share, and the conversion of typed rows to columns and back.
 //!
-//! What is particular to a table stands in `specs/Tables`: its shape. A further table is one more `TableKind`, one more
-//! shape, one more function in `encode` and one more `Shown` in `decode`.
+//! Everything that is particular to a table is its shape in `specs/Tables`. To add a table, add a `TableKind`, a shape,
+//! a function in `encode` and an implementation of `Shown` in `decode`.
 #![tactic(auto)]
 
 pub mod codes;

@@ -1,4 +1,4 @@
-//! The tables that all units share.
+//! The kinds of tables that all units share.
 
 /// The tables that have rows of units, in the order in which they are made.
 pub enum TableKind {
