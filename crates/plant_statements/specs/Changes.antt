@@ -1,4 +1,4 @@
--- What changes of a unit's rows do to the tables.
+-- The effect on the tables of changes of a unit's rows.
 use Rattle.std.specs.Prelude.{IsTrue, List, [], ◌∷◌, ◌≡◌, ◌≢◌}
 use Rattle.sqlite.specs.{Effect.{Database, IsDatabase}, State.{HasCleanDisk, State}}
 use Rattle.plant_model.specs.declared.rows.{Row.{Row}, RowEdit.{RowEdit}, UnitRows.{UnitRows}}
@@ -8,7 +8,7 @@ use Rattle.plant_columns.specs.{Tables.{AreBooks, AreSeen, RowOf, office_row, ro
 use Rattle.plant_columns.specs.declared.tables.TableKind.TheVariants.{Alarms, Bands, Cells, Changes, Events, Grants, Records, Shelves, Units}
 use Rattle.plant_types.specs.Names.{Name}
 
--- a row, as changes name it
+-- a row in the form in which changes have it
 abbrev pub as_row : (i : TableKind) → RowOf i → Row
 as_row Units x = UnitPut x
 as_row Grants x = GrantPut x
@@ -20,7 +20,7 @@ as_row Events x = EventPut x
 as_row Records x = RecordPut x
 as_row Changes x = ChangePut x
 
--- the unit's rows are changed, in the order of the list, and nothing else is
+-- the unit's rows are changed, in the order of the list, and nothing else is changed
 pub record Applies (unit : Name) (changes : List RowEdit) (old new : Database) : Type 0 where
   pub books : AreBooks new
   pub mine : (rows : UnitRows) → AreSeen unit old rows → AreSeen unit new (changed_by changes rows)

@@ -5,7 +5,7 @@ use Rattle.plant_statements.specs.Changes.{IsOfficeOf}
 use Rattle.plant_columns.specs.{Tables.{AreBooks, shape}, declared.tables.TableKind.{TableKind}}
 use Rattle.plant_types.specs.Names.{Name}
 
--- the tables of this schema are there, and have no row
+-- the tables of this schema exist, and have no rows
 pub record AreEmpty (schema : Schema) (db : Database) : Type 0 where
   pub same_schema : db.schema ≡ schema
   pub empty : AllByRecursion (λ t. db.trees t.tree ≡ []) schema.tables
@@ -18,6 +18,6 @@ pub record AreNew (admin : Name) (db : Database) : Type 0 where
   -- the engine can open it
   pub database : IsDatabase db
 
--- these trees are such books
+-- these trees are books of that kind
 abbrev pub AreNewTrees : Name → Trees → Type 0
 AreNewTrees admin db = (d : Database) × (d.trees ≡ db) × AreNew admin d

@@ -1,4 +1,4 @@
--- What a connection that was only read is afterwards.
+-- The state of a connection after it was only read.
 use Rattle.std.specs.Prelude.{◌≡◌}
 use Rattle.sqlite.specs.State.{State, Survives}
 use Rattle.plant_statements.specs.Changes.{IsHonest}

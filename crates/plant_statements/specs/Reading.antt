@@ -1,5 +1,5 @@
--- What a read returns, and what it leaves of the tables. Each word takes the connection before and after. A disk is
--- clean if it has returned what was written, and honest if besides no failure has shut the database.
+-- What a read returns, and what it leaves of the tables. Each definition takes the connection before and after. A disk
+-- is clean if it has returned what was written, and honest if besides no failure has shut the database.
 use Rattle.std.specs.Prelude.{IfOk, List, Result, false, filter, map, ℕ, ◌≡◌}
 use Rattle.sqlite.specs.{Held.{Held, state}, Listing.{understood}, Schema.{Schema}, State.{CommitsShowing, HasCleanDisk, Shown as IsShown, Survives}, Tree.{Trees}}
 use Rattle.sqlite.{specs.Values.{bound}, proofs.Callers.{IsPlain}}
@@ -19,7 +19,7 @@ IsOnlyRead g before after = OnlyReads (state g before) (state g after)
 abbrev pub HasNoTransaction : {S : Type 0} → Held S → Type 0
 HasNoTransaction conn = conn.in_transaction ≡ false
 
--- the disk is honest and the store open
+-- the disk is honest and the store is open
 abbrev pub IsHonestIn : {S : Type 0} → Ghosts S → Held S → Type 0
 IsHonestIn g conn = IsHonest (state g conn)
 
@@ -34,14 +34,14 @@ abbrev pub CrashesAsShown : {S : Type 0} → Ghosts S → Held S → Held S → 
 CrashesAsShown g before after sql cells =
     Survives (state g before) (state g after) (CommitsShowing sql (bound cells) (state g before))
 
--- on a clean disk the lines are those that the query shows
+-- on a clean disk the lines are those that the query returns
 abbrev pub Asks : {S A E : Type 0} → Ghosts S → Held S → Held S → List ℕ → List ValueRef → Result A E → (A → List Line)
     → Type 0
 Asks g before after sql cells said lines =
     HasCleanDisk (state g after)
     → IfOk said (λ rows. IsShown sql (bound cells) (state g before) (state g after) (lines rows))
 
--- on a clean disk the rows are those whose cells the query shows
+-- on a clean disk the rows are those whose cells the query returns
 abbrev pub Decodes : {S X E : Type 0} → Ghosts S → Held S → Held S → List ℕ → List ValueRef → ℕ → (X → Line)
     → Result (List X) E → Type 0
 Decodes g before after sql cells width shown said =
@@ -55,13 +55,13 @@ Loads g before after what said =
     HasCleanDisk (state g after) → AreBooks (state g before).now
     → IfOk said (λ found. found ≡ what (state g before).now.trees)
 
--- on a clean disk the rows are the unit's rows of this tag
+-- on a clean disk the rows are the unit's rows with this tag
 abbrev pub LoadsTag : {S X E : Type 0} → Ghosts S → Held S → Held S → (Name → Trees → List X) → Name → (X → Name) → Name
     → Result (List X) E → Type 0
 LoadsTag g before after seen unit tag_of tag said =
     Loads g before after (λ trees. filter (λ r. same_name tag (tag_of r)) (seen unit trees)) said
 
--- on a clean disk the rows are the unit's rows of this number
+-- on a clean disk the rows are the unit's rows with this number
 abbrev pub LoadsNumber : {S X E : Type 0} → Ghosts S → Held S → Held S → (Name → Trees → List X) → Name → (X → ℕ) → ℕ
     → Result (List X) E → Type 0
 LoadsNumber g before after seen unit number_of number said =

@@ -25,20 +25,20 @@ Reads width cells rows params text = ReadsIn books_schema AreBooks width cells r
 abbrev pub ReadsUnit : {X : Type 0} → ℕ → (X → Line) → (Name → Trees → List X) → List ℕ → Type 0
 ReadsUnit width cells seen text = (u : Name) → Reads width cells (seen u) (Text u ∷ []) text
 
--- the text reads the rows that a unit has of one tag in a table
+-- the text reads the rows with one tag that a unit has in a table
 abbrev pub ReadsTag : {X : Type 0} → ℕ → (X → Line) → (Name → Trees → List X) → (X → Name) → List ℕ → Type 0
 ReadsTag width cells seen tag_of text =
     (u tag : Name)
     → Reads width cells (λ trees. filter (λ r. same_name tag (tag_of r)) (seen u trees)) (Text u ∷ Text tag ∷ []) text
 
--- the text reads the rows that a unit has of one number in a table
+-- the text reads the rows with one number that a unit has in a table
 abbrev pub ReadsNumber : {X : Type 0} → ℕ → (X → Line) → (Name → Trees → List X) → (X → ℕ) → List ℕ → Type 0
 ReadsNumber width cells seen number_of text =
     (u : Name) (n : ℕ)
     → Reads width cells (λ trees. filter (λ r. same_number n (number_of r)) (seen u trees))
     (Text u ∷ codes.number n ∷ []) text
 
--- the changes made by a statement that wrote so many rows: none, or this one
+-- the changes made by a statement, by the number of rows that it wrote: none, or this one
 abbrev pub changes_written : ℕ → RowEdit → List RowEdit
 changes_written zero change = []
 changes_written (suc n) change = change ∷ []

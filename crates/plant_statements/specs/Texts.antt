@@ -6,7 +6,7 @@ use Rattle.plant_statements.specs.declared.texts.TheConstants.{UNITS_TABLE, GRAN
 use Rattle.plant_statements.specs.declared.texts.TheConstants.{PUT_UNIT, PUT_GRANT, PUT_ALARM, PUT_SHELF, PUT_BAND, PUT_CELL, PUT_EVENT, PUT_RECORD, PUT_CHANGE}
 use Rattle.plant_statements.specs.declared.texts.TheConstants.{UNITS_ROWS, GRANTS_ROWS, ALARMS_ROWS, SHELVES_ROWS, BANDS_ROWS, CELLS_ROWS, EVENTS_ROWS, RECORDS_ROWS, CHANGES_ROWS}
 
--- what makes the table
+-- the text that makes the table
 abbrev pub table_text : TableKind → List ℕ
 table_text Units = UNITS_TABLE.now
 table_text Grants = GRANTS_TABLE.now
@@ -18,7 +18,7 @@ table_text Events = EVENTS_TABLE.now
 table_text Records = RECORDS_TABLE.now
 table_text Changes = CHANGES_TABLE.now
 
--- a row put where none has its key
+-- the text that inserts a row whose key no row has
 abbrev pub put_text : TableKind → List ℕ
 put_text Units = PUT_UNIT.now
 put_text Grants = PUT_GRANT.now

@@ -1,4 +1,4 @@
--- What a statement or several write, within a transaction and as a transaction.
+-- What one or several statements write, within a transaction and as a transaction.
 use Rattle.std.specs.Prelude.{IfOk, IsTrue, List, Ok, OnErr, OnOk, Result, ℕ, ◌≡◌}
 use Rattle.sqlite.specs.{Effect.{Database, IsDatabase}, Held.{Held, state}, State.{Executes, HasCleanDisk, KeepsCommit, State, Survives}, Tree.{Trees}, Values.{bound}}
 use Rattle.sqlite.specs.declared.{error.Error.{Error}, transaction.Transaction.{Transaction}}
@@ -53,7 +53,7 @@ Updates g before after unit change said =
     → IfOk said
     (λ count. Applies unit (changes_written count change) (state g before.conn.now).now (state g after.conn.now).now)
 
--- after a success on a clean disk a database that was such before is such now
+-- after a success on a clean disk a database that had this property before has it now
 abbrev pub LeadsTo : {S V E : Type 0} → Ghosts S → Transaction S → Transaction S → (Database → Type 0)
     → (Database → Type 0) → Result V E → Type 0
 LeadsTo g before after Was Is said =

@@ -1,5 +1,5 @@
-//! The statements over the tables, typed: one set of tables for all units, each row under its unit's code. Each statement
-//! is a fixed text.
+//! The SQL statements over the tables, as typed functions. All units share one set of tables, in which each row has its
+//! unit's code. Each statement is a fixed text.
 #![tactic(auto)]
 
 pub mod make;

@@ -1,4 +1,4 @@
-//! The tables of new books.
+//! Makes the tables of new books, in one transaction.
 
 ghost use Rattle.std.specs.Prelude.{◌-◌, ◌≡◌, OnOk};
 ghost use Rattle.sqlite.specs.{Held.{state}, State.{Survives}};
@@ -25,7 +25,7 @@ fn make_office<S: Alter>(tx: &mut Transaction<'_, S>) -> Result<(), Error>
     run(tx, texts::OFFICE_TABLE, &[])
 }
 
-/// The text that makes the table.
+/// The text of the statement that makes the table.
 fn table_text(kind: &TableKind) -> &'static str
     ensures { result.now ≡ texts.table_text kind.now }
 {
@@ -54,7 +54,7 @@ fn make_table<S: Alter>(tx: &mut Transaction<'_, S>, kind: &TableKind) -> Result
     run(tx, table_text(kind), &[])
 }
 
-/// Makes the index of grants by persons, and the office's row.
+/// Makes the index of grants by person, and the office's row.
 fn fill_office<S: Alter>(tx: &mut Transaction<'_, S>, admin: &Person) -> Result<(), Error>
     ensures same_reference { SameReference tx.old tx.new }
     ensures made { LeadsTo S.Store tx.old tx.new
@@ -85,7 +85,7 @@ pub fn make_tables<S: Alter>(tx: &mut Transaction<'_, S>, admin: &Person) -> Res
     fill_office(tx, admin)
 }
 
-/// Makes all tables in a database that has none: all of them, or nothing.
+/// Makes all tables in a database that has no tables: all of them, or nothing.
 pub fn make_all<S: Alter>(conn: &mut Connection<S>, admin: &Person) -> Result<(), Error>
     requires { HasNoTransaction conn.old }
     ensures mode { HasNoTransaction conn.new }
@@ -96,7 +96,7 @@ pub fn make_all<S: Alter>(conn: &mut Connection<S>, admin: &Person) -> Result<()
     ensures survives { IsBlank (state S.Store conn.old).now
         → Survives (state S.Store conn.old) (state S.Store conn.new) (AreNewTrees admin.now) }
 {
-    // Tells the proof that no transaction is open; the value is not used.
+    // Gives the proof that no transaction is open; the value is not used.
     let _settled = conn.is_autocommit();
     let mut tx = conn.transaction();
     make_tables(&mut tx, admin)?;

@@ -1,4 +1,4 @@
-//! Out of memory, as an error of the database.
+//! Reports running out of memory as an error of the database.
 
 ghost use Rattle.std.specs.Prelude.{◌≡◌, ◌++◌, ◌∷◌, [], IfOk, OnOk};
 
@@ -6,7 +6,7 @@ use plant_types::{List, TryCopy};
 use sqlite::{Error, ErrorCode};
 use std::alloc::Global;
 
-/// Puts a value at the end.
+/// Appends a value.
 pub fn push<T: Drop>(table: &mut List<T>, row: T) -> Result<(), Error>
     ensures { OnOk result (table.new ≡ table.old ++ row ∷ []) }
 {
@@ -15,7 +15,7 @@ pub fn push<T: Drop>(table: &mut List<T>, row: T) -> Result<(), Error>
         .map_err(|_| Error::SqliteFailure(ErrorCode::OutOfMemory))
 }
 
-/// The same value again.
+/// A copy of the value.
 pub fn copy_of<T: TryCopy>(alloc: Global, value: &T) -> Result<T, Error>
     ensures { IfOk result (λ copy. copy ≡ value.now) }
 {

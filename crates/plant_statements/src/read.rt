@@ -13,7 +13,7 @@ use sqlite::types::ValueRef;
 use sqlite::{Alter, Connection, Error, ErrorCode, Row};
 use std::alloc::Global;
 
-/// Asks one question.
+/// Runs one query.
 pub fn ask<S: Alter>(
     conn: &mut Connection<S>,
     sql: &str,
@@ -26,12 +26,12 @@ pub fn ask<S: Alter>(
     ensures shows { CrashesAsShown S.Store conn.old conn.new sql.now cells.now }
     ensures honest { WasHonest (IsHonestIn S.Store) conn.old conn.new }
 {
-    // Tells the proof that no transaction is open; the value is not used.
+    // Gives the proof that no transaction is open; the value is not used.
     let _settled = conn.is_autocommit();
     conn.query_all(sql, cells)
 }
 
-/// Asks one question, and decodes what it shows.
+/// Runs one query, and decodes the rows that it returns.
 pub fn read_rows<T: Shown, S: Alter>(
     alloc: Global,
     conn: &mut Connection<S>,
@@ -63,7 +63,7 @@ pub fn all_rows<T: Stored, S: Alter>(
     read_rows(alloc, conn, T::select(), &single(unit))
 }
 
-/// The rows that were read. If they do not stand in the order of their keys, the file is damaged.
+/// The rows that were read, as a table. If they are not in the order of their keys, the file is damaged.
 pub fn in_order<T: Keyed>(rows: List<T>) -> Result<Sorted<T>, Error>
     ensures value { IfOk result (λ sorted. sorted ≡ rows) }
     ensures when { IsOk result ↔ IsInOrder T.order T.key rows }
@@ -89,7 +89,7 @@ pub fn sorted_rows<T: Stored + Keyed, S: Alter>(
     in_order(rows)
 }
 
-/// The rows of this tag as they were read.
+/// The rows with this tag, as they were read.
 fn as_read_of_tag<T: StoredByTag, S: Alter>(
     alloc: Global,
     conn: &mut Connection<S>,
@@ -104,7 +104,7 @@ fn as_read_of_tag<T: StoredByTag, S: Alter>(
     read_rows(alloc, conn, T::select_of_tag(), &pair(unit, tag))
 }
 
-/// The unit's row of this tag in one table, if any.
+/// The unit's row with this tag in one table, if any.
 pub fn row_of_tag<T: StoredByTag, S: Alter>(
     alloc: Global,
     conn: &mut Connection<S>,
@@ -120,7 +120,7 @@ pub fn row_of_tag<T: StoredByTag, S: Alter>(
     in_order(rows)
 }
 
-/// The rows of this number as they were read.
+/// The rows with this number, as they were read.
 fn as_read_of_number<T: StoredByNumber, S: Alter>(
     alloc: Global,
     conn: &mut Connection<S>,
@@ -135,7 +135,7 @@ fn as_read_of_number<T: StoredByNumber, S: Alter>(
     read_rows(alloc, conn, T::select_of_number(), &numbered(unit, number))
 }
 
-/// The unit's rows of this number in one table.
+/// The unit's rows with this number in one table.
 pub fn rows_of_number<T: StoredByNumber, S: Alter>(
     alloc: Global,
     conn: &mut Connection<S>,

@@ -1,4 +1,4 @@
-//! The tables, each described once: the statements that read its rows and that put one.
+//! The tables, each described once: the statements that read its rows and that write one.
 
 ghost use Rattle.std.specs.Prelude.{◌≡◌, ◌∷◌, [], ℕ, List, true};
 ghost use Rattle.sqlite.specs.Tree.{Trees};
@@ -30,10 +30,10 @@ use sqlite::{Alter, Error, Transaction};
 
 /// A row of a table.
 pub trait Stored: Shown {
-    /// Those that the tables have of a unit.
+    /// The unit's rows in the tables.
     ghost seen: { Name → Trees → List Self };
 
-    /// The same row, as changes name it.
+    /// The row in the form in which changes have it.
     ghost as_row: { Self → AnyRow };
 
     ghost select_text: { List ℕ };
@@ -43,7 +43,7 @@ pub trait Stored: Shown {
         ensures reads { ReadsUnit Self.width Self.cells seen result.now }
         ensures text { result.now ≡ select_text };
 
-    /// Whether the key may be that of one of these rows of the unit: false only where it is none of theirs.
+    /// Whether one of these rows of the unit may have the row's key. False only if none has it.
     fn has_key_in(&self, rows: &UnitRows) -> bool
         ensures { has_key (as_row self.now) rows.now ≡ true → result ≡ true }
     {
@@ -51,8 +51,8 @@ pub trait Stored: Shown {
         true
     }
 
-    /// Puts the row over the one with the same key, and returns how many rows were written. Rows of some tables never
-    /// change: 0.
+    /// Replaces the row with the same key, if any, and returns how many rows were written. In a table whose rows never
+    /// change that is 0.
     #[tactic(auto, using(crate::proofs::public::Writes::applies_none))]
     fn update<S: Alter>(&self, tx: &mut Transaction<'_, S>, unit: &UnitCode) -> Result<usize, Error>
         ensures same_reference { SameReference tx.old tx.new }
@@ -62,7 +62,7 @@ pub trait Stored: Shown {
         Ok(0)
     }
 
-    /// Puts the row as a new one. Fails if there is a row of its key.
+    /// Inserts the row as a new one. Fails if a row with its key exists.
     fn insert<S: Alter>(&self, tx: &mut Transaction<'_, S>, unit: &UnitCode) -> Result<(), Error>
         ensures same_reference { SameReference tx.old tx.new }
         ensures made { Writes S.Store tx.old tx.new unit.now (Put (as_row self.now) ∷ []) result }
@@ -71,14 +71,14 @@ pub trait Stored: Shown {
 
 /// A row of a table whose key is a tag.
 pub trait StoredByTag: Stored + Keyed<Key = Tag> {
-    /// The text that reads the unit's row of a tag.
+    /// The text that reads the unit's row with a tag.
     fn select_of_tag() -> &'static str
         ensures { ReadsTag Self.width Self.cells Self.seen Self.key result.now };
 }
 
 /// A row of a table whose key begins with a number: that of a matrix, or of a change.
 pub trait StoredByNumber: Stored + Numbered {
-    /// The text that reads the unit's rows of a number.
+    /// The text that reads the unit's rows with a number.
     fn select_of_number() -> &'static str
         ensures { ReadsNumber Self.width Self.cells Self.seen Self.number result.now };
 }

@@ -1,6 +1,6 @@
-//! The texts of the schema and of the statements, each fixed. The proofs name them too.
+//! The fixed texts of the schema and of the statements. The proofs refer to these constants too.
 
-// What makes the schema, in the order in which it is made: scripts/check-schema reads them so.
+// The statements that make the schema, in the order in which they run. scripts/check-schema reads them in this order.
 
 pub const OFFICE_TABLE: &str =
     "CREATE TABLE office (id INTEGER NOT NULL, schema_no INTEGER NOT NULL, admin TEXT NOT NULL, PRIMARY KEY (id)) STRICT";
@@ -40,7 +40,7 @@ pub const PUT_OFFICE: &str = "INSERT INTO office (id, schema_no, admin) VALUES (
 
 pub const OFFICE_ROW: &str = "SELECT id, schema_no, admin FROM office";
 
-// Updates the row that has this key, and leaves its key as it is.
+// Update the row with this key. The key itself stays the same.
 
 pub const OVER_UNIT: &str =
     "UPDATE units SET last_s = ?2, matrix_no = ?3, matrix_rev = ?4, quota = ?5 WHERE unit = ?1";
@@ -54,7 +54,7 @@ pub const OVER_RECORD: &str =
 pub const OVER_CHANGE: &str =
     "UPDATE changes SET proposer = ?3, proposed_s = ?4, kind_no = ?5, tag = ?6, base = ?7, cause = ?8, consequence = ?9, remedy = ?10, severity = ?11, response_s = ?12, max_s = ?13, state_no = ?14, decider = ?15, decided_s = ?16 WHERE unit = ?1 AND number = ?2";
 
-// A row put where none has its key.
+// Insert a row whose key no row has.
 
 pub const PUT_UNIT: &str =
     "INSERT INTO units (unit, last_s, matrix_no, matrix_rev, quota) VALUES (?1, ?2, ?3, ?4, ?5)";
@@ -83,7 +83,7 @@ pub const PUT_RECORD: &str =
 pub const PUT_CHANGE: &str =
     "INSERT INTO changes (unit, number, proposer, proposed_s, kind_no, tag, base, cause, consequence, remedy, severity, response_s, max_s, state_no, decider, decided_s) VALUES (?1, ?2, ?3, ?4, ?5, ?6, ?7, ?8, ?9, ?10, ?11, ?12, ?13, ?14, ?15, ?16)";
 
-// The row of a key taken out.
+// Delete the row with a key.
 
 pub const REMOVE_GRANT: &str =
     "DELETE FROM grants WHERE unit = ?1 AND person = ?2 AND role_no = ?3";
@@ -119,7 +119,7 @@ pub const RECORDS_ROWS: &str =
 pub const CHANGES_ROWS: &str =
     "SELECT number, proposer, proposed_s, kind_no, tag, base, cause, consequence, remedy, severity, response_s, max_s, state_no, decider, decided_s FROM changes WHERE unit = ?1 ORDER BY unit, number";
 
-// Those of a person, of a tag or of a number.
+// The unit's rows with a person, a tag or a number.
 
 pub const OWN_GRANTS: &str =
     "SELECT person, role_no, end_s FROM grants WHERE unit = ?1 AND person = ?2 ORDER BY unit, person, role_no";

@@ -44,8 +44,8 @@ pub fn run_counting<S: Alter>(
     tx.execute(sql, cells)
 }
 
-/// Updates the row with the same key, and returns how many rows were written: none where the rows that were seen of the
-/// unit have none of this key.
+/// Updates the row with the same key, and returns how many rows were written. If the rows of the unit that were seen
+/// have no such row, nothing is written.
 fn put_over<T: Stored, S: Alter>(
     tx: &mut Transaction<'_, S>,
     unit: &UnitCode,
@@ -62,8 +62,8 @@ fn put_over<T: Stored, S: Alter>(
     }
 }
 
-/// Puts a row: over the one of its key, or as a new one. In a table whose rows do not change it fails if there is one,
-/// and so it does where the rows that were seen of the unit have none of its key.
+/// Puts a row: it replaces the row with its key, or is inserted as a new one. If a row with its key exists, it fails in
+/// a table whose rows never change, and also if the rows of the unit that were seen do not have that row.
 #[tactic(auto, using(crate::proofs::WritesOver::one_put))]
 pub fn put<T: Stored, S: Alter>(
     tx: &mut Transaction<'_, S>,
@@ -135,7 +135,7 @@ fn put_row<S: Alter>(
     }
 }
 
-/// Puts events, each as a new row.
+/// Inserts events, each as a new row.
 fn put_events<S: Alter>(
     tx: &mut Transaction<'_, S>,
     unit: &UnitCode,
@@ -151,7 +151,7 @@ fn put_events<S: Alter>(
     Ok(())
 }
 
-/// Removes the row of a key.
+/// Removes the row with a key.
 fn remove_row<S: Alter>(
     tx: &mut Transaction<'_, S>,
     unit: &UnitCode,
@@ -205,8 +205,8 @@ fn change_all<S: Alter>(
     Ok(())
 }
 
-/// Fails where a failure has shut the store, so that nothing is written to one that is shut: as closed, where that is
-/// all it can mean. It changes nothing.
+/// Fails if a failure has shut the store, so that nothing is written to a store that is shut. The error `Closed` always
+/// means that. Changes nothing.
 fn find_open<S: Alter>(conn: &mut Connection<S>) -> Result<(), Error>
     requires { HasNoTransaction conn.old }
     ensures mode { HasNoTransaction conn.new }
@@ -214,7 +214,7 @@ fn find_open<S: Alter>(conn: &mut Connection<S>) -> Result<(), Error>
     ensures open { WasOpen S.Store conn.old conn.new result }
     ensures shut { IfErr result (λ e. e ≡ SqliteFailure Closed → ¬ IsHonest (state S.Store conn.new)) }
 {
-    // Tell the proof that no transaction is open, and that there is a database; the values are not used.
+    // Give the proof that no transaction is open, and that there is a database; the values are not used.
     let _settled = conn.is_autocommit();
     let _live = conn.schema();
     if let Err(error) = conn.prepare(texts::OFFICE_ROW) {
@@ -223,7 +223,7 @@ fn find_open<S: Alter>(conn: &mut Connection<S>) -> Result<(), Error>
     Ok(())
 }
 
-/// Whether a failure has shut the store. It changes nothing.
+/// Whether a failure has shut the store. Changes nothing.
 pub fn is_shut<S: Alter>(conn: &mut Connection<S>) -> bool
     requires { HasNoTransaction conn.old }
     ensures mode { HasNoTransaction conn.new }
@@ -251,7 +251,7 @@ fn commit_all<S: Alter>(
     ensures open { IsLeftOpen S.Store conn.new result }
     ensures survives { LeavesChanged S.Store conn.old conn.new unit.now changes.now }
 {
-    // Tells the proof that no transaction is open; the value is not used.
+    // Gives the proof that no transaction is open; the value is not used.
     let _settled = conn.is_autocommit();
     let mut tx = conn.transaction();
     change_all(&mut tx, unit, changes, seen)?;
