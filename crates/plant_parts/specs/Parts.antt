@@ -31,7 +31,7 @@ count_seen unit i trees = length (rows_seen unit trees i)
 abbrev pub last_change_seen : Name → Trees → ℕ
 last_change_seen unit trees = last_number (rows_seen unit trees Changes)
 
--- the alarms and events of a unit that are read for those that are wanted
+-- the alarms and events of a unit that are read to find those that are wanted
 abbrev pub alarms_seen : WantedAlarms → Name → Trees → List AlarmRow
 alarms_seen wanted unit trees = alarms_with wanted (rows_seen unit trees Alarms)
 
@@ -40,7 +40,7 @@ events_seen wanted unit trees = events_with wanted (rows_seen unit trees Events)
 
 -- ---- of a connection before and after, on a clean disk
 
--- if the list is a person's grants in the unit, the result is these, or all grants of the unit where all are wanted
+-- if the list is a person's grants in the unit, the result is this list, or all grants of the unit if all are wanted
 abbrev pub LoadsGrants : {S E : Type 0} → Ghosts S → Held S → Held S → Name → List GrantRow → Bool
     → Result (List GrantRow) E → Type 0
 LoadsGrants g before after unit own all said =
@@ -48,8 +48,8 @@ LoadsGrants g before after unit own all said =
     → IfOk said (λ rows. (p : Name) → own ≡ grants_of p unit (state g before).now.trees
     → rows ≡ filter (λ r. same_name p r.person || all) (rows_seen unit (state g before).now.trees Grants))
 
--- the result is the count that the request needs in the unit, if the events are the unit's where the request looks at
--- them
+-- the result is the count that the request needs in the unit, provided that the events are the unit's if the request
+-- looks at them
 abbrev pub LoadsCount : {S E : Type 0} → Ghosts S → Held S → Held S → Name → Request → List Event → Result ℕ E → Type 0
 LoadsCount g before after unit request events said =
     HasCleanDisk (state g after) → AreBooks (state g before).now
@@ -76,7 +76,7 @@ LoadsApproved g before after unit request said =
 
 -- ---- of a connection before and after, on an honest disk
 
--- where the numbers of the unit's rows do not fall, the result is the rows of these numbers
+-- if the numbers of the unit's rows do not fall, the result is the rows with these numbers
 abbrev pub LoadsNumbers : {S X E : Type 0} → Ghosts S → Held S → Held S → (Name → Trees → List X) → Name → (X → ℕ)
     → BTreeSet ℕ → Result (List X) E → Type 0
 LoadsNumbers g before after seen unit number_of numbers said =
@@ -84,7 +84,7 @@ LoadsNumbers g before after seen unit number_of numbers said =
     → NumbersRise number_of (seen unit (state g before).now.trees)
     → IfOk said (λ rows. rows ≡ of_numbers number_of numbers (seen unit (state g before).now.trees))
 
--- where the numbers of the unit's rows do not fall, the result is the rows of the matrices that the scope takes in
+-- if the numbers of the unit's rows do not fall, the result is the rows of the matrices that the scope takes in
 abbrev pub LoadsMatrices : {S X E : Type 0} → Ghosts S → Held S → Held S → (Name → Trees → List X) → Name → (X → ℕ)
     → List UnitRow → Scope → Result (List X) E → Type 0
 LoadsMatrices g before after seen unit number_of units scope said =
@@ -99,7 +99,7 @@ abbrev pub ReadsSelected : {S A E : Type 0} → Ghosts S → Held S → Held S �
 ReadsSelected g before after unit scope said what =
     ReadsContent g before after said (λ m. what (rows_in m unit) (selection_by (rows_in m unit) scope))
 
--- the result is the unit's changes that the scope takes in, where it takes in these records
+-- the result is the unit's changes that the scope takes in, if it takes in these records
 abbrev pub LoadsChanges : {S E : Type 0} → Ghosts S → Held S → Held S → Name → List RecordEntry → Scope
     → Result (List ChangeEntry) E → Type 0
 LoadsChanges g before after unit records scope said =
@@ -110,6 +110,6 @@ LoadsChanges g before after unit records scope said =
 
 -- ---- of lists
 
--- the list is the events of these that the scope takes in, whatever the unit's other rows are
+-- the list is those of these events that the scope takes in, whatever the unit's other rows are
 abbrev pub AreAskedBy : Scope → List Event → List Event → Type 0
 AreAskedBy scope events asked = (rows : UnitRows) → asked ≡ (selection_by rows scope).events events

@@ -7,18 +7,18 @@ use Rattle.plant_model.specs.declared.rows.{AlarmRow.{AlarmRow}, ShelfRow.{Shelf
 use Rattle.plant_model.specs.steps.RowFacts.{alarm_tag}
 use Rattle.plant_types.specs.Names.{Name, same_name}
 
--- of rows with tags those that are wanted
+-- those of rows with tags that are wanted
 abbrev pub rows_with : {X : Type 0} → (X → Name) → Wanted → List X → List X
 rows_with tag_of Nothing rows = []
 rows_with tag_of (One tag) rows = filter (λ r. same_name tag.now (tag_of r)) rows
 rows_with tag_of Every rows = rows
 
--- the alarms that are read for those that are wanted: all, where shelves decide
+-- the alarms that are read to find those that are wanted: all, if the shelves determine them
 abbrev pub alarms_with : WantedAlarms → List AlarmRow → List AlarmRow
 alarms_with (Those wanted) rows = rows_with alarm_tag wanted rows
 alarms_with Shelved rows = rows
 
--- of the alarms that were read, beside these shelves, those that are wanted
+-- those of the alarms that were read that are wanted, given the unit's shelves
 abbrev pub alarms_left : WantedAlarms → List ShelfRow → List AlarmRow → List AlarmRow
 alarms_left (Those wanted) shelves rows = rows
 alarms_left Shelved shelves rows = shelved shelves rows

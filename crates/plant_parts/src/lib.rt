@@ -1,4 +1,4 @@
-//! What is read of one unit: its rows, or the part of them that a call looks at.
+//! Reads the rows of one unit from the tables: all of them, or the part that a call looks at.
 #![tactic(auto)]
 
 pub mod part;

@@ -1,4 +1,4 @@
-//! The part of a unit's rows that a call looks at.
+//! Reads the part of a unit's rows that a call looks at.
 
 ghost use Rattle.std.specs.Prelude.{◌≡◌, false, filter, IfOk, None, Some};
 ghost use Rattle.sqlite.specs.Held.{state};
@@ -31,7 +31,7 @@ use plant_types::{List, Sorted, UnitCode};
 use sqlite::{Alter, Connection, Error, ErrorCode};
 use std::alloc::Global;
 
-/// All grants of the unit where they are wanted, or those that are the caller's own.
+/// All grants of the unit if they are wanted, otherwise the caller's own, which were read before.
 pub fn some_grants<S: Alter>(
     alloc: Global,
     conn: &mut Connection<S>,
@@ -51,7 +51,7 @@ pub fn some_grants<S: Alter>(
     }
 }
 
-/// The unit's rows of the tags that are wanted.
+/// The unit's rows whose tags are wanted.
 fn rows_wanted<T: StoredByTag, S: Alter>(
     alloc: Global,
     conn: &mut Connection<S>,
@@ -71,7 +71,7 @@ fn rows_wanted<T: StoredByTag, S: Alter>(
     }
 }
 
-/// The unit's alarms that are wanted, or all where shelves decide which are.
+/// The unit's alarms that are wanted. All of them, if the shelves determine which are wanted.
 pub fn some_alarms<S: Alter>(
     alloc: Global,
     conn: &mut Connection<S>,
@@ -89,7 +89,7 @@ pub fn some_alarms<S: Alter>(
     }
 }
 
-/// Of the alarms that were read those that are wanted beside these shelves.
+/// Those of the alarms that were read that are wanted, given the unit's shelves.
 fn alarms_for(
     alloc: Global,
     read: Sorted<AlarmRow>,
@@ -106,7 +106,7 @@ fn alarms_for(
     }
 }
 
-/// The unit's events, where they are wanted.
+/// The unit's events, if they are wanted.
 pub fn some_events<S: Alter>(
     alloc: Global,
     conn: &mut Connection<S>,
@@ -125,7 +125,7 @@ pub fn some_events<S: Alter>(
     }
 }
 
-/// Of the unit's events those that the scope takes in. All of them are not copied.
+/// Those of the unit's events that the scope takes in. If these are all events, they are not copied.
 fn events_for(
     alloc: Global,
     events: Sorted<Event>,
@@ -140,8 +140,8 @@ fn events_for(
     events_asked(alloc, &events, wanted).map_err(|_| Error::SqliteFailure(ErrorCode::OutOfMemory))
 }
 
-/// How many alarms the unit has, how many events, or the number of its last change, for a call that needs it. The
-/// events were read where the request looks at them.
+/// How many alarms or events the unit has, or the number of its last change, for a request that needs it. `events` has
+/// the unit's events if the request looks at them.
 #[tactic(auto, using(crate::proofs::Selected::counts_events))]
 fn count_for<S: Alter>(
     conn: &mut Connection<S>,
@@ -162,7 +162,7 @@ fn count_for<S: Alter>(
     }
 }
 
-/// Whether the request shelves where so many shelves are kept that the unit's quota may be used up.
+/// Whether the request shelves an alarm and the unit has so many shelves that its quota may be used up.
 fn crowded_for<S: Alter>(
     conn: &mut Connection<S>,
     unit: &UnitCode,
@@ -181,7 +181,7 @@ fn crowded_for<S: Alter>(
     }
 }
 
-/// The change that the request approves, if it approves one that is there.
+/// The change that the request approves, if it approves one and that exists.
 fn approved_for<S: Alter>(
     alloc: Global,
     conn: &mut Connection<S>,
@@ -220,8 +220,7 @@ fn alarms_and_shelves<S: Alter>(
     Ok((alarms, shelves))
 }
 
-/// The events that the scope takes in, and the count that the request needs, where the scope takes in what the request
-/// looks at.
+/// The events that the scope takes in, and the count that the request needs. The scope must be that of the request.
 fn events_and_count<S: Alter>(
     alloc: Global,
     conn: &mut Connection<S>,
@@ -267,7 +266,7 @@ fn records_and_changes<S: Alter>(
     Ok((records, changes))
 }
 
-/// The limits and the cells of the matrices that the scope takes in, of a unit with this row of its own.
+/// The limits and the cells of the matrices that the scope takes in, of a unit whose own row is this.
 fn matrices<S: Alter>(
     alloc: Global,
     conn: &mut Connection<S>,
@@ -290,8 +289,8 @@ fn matrices<S: Alter>(
     Ok((bands, cells))
 }
 
-/// Reads the rows of a caller's part beside the unit's own row and the grants, which were read before. It gives the count
-/// that the request needs, and owns no list where a query fails. The scope takes in what the call looks at.
+/// Reads the rows of a part, except the unit's own row and the grants, which were read before. Returns the count that
+/// the request needs. It owns no list when a query fails. The scope must be that of the call.
 fn read_in_scope<S: Alter>(
     alloc: Global,
     conn: &mut Connection<S>,
@@ -321,8 +320,8 @@ fn read_in_scope<S: Alter>(
     Ok(count)
 }
 
-/// The part of a caller who holds a role, with the unit's own row and the grants of the part, which were read before. The
-/// scope takes in what the call looks at.
+/// The part for a caller who holds a role, with the unit's own row and the part's grants, which were read before. The
+/// scope must be that of the call.
 fn part_in_scope<S: Alter>(
     alloc: Global,
     conn: &mut Connection<S>,
@@ -355,7 +354,7 @@ fn part_in_scope<S: Alter>(
     })
 }
 
-/// The part of a caller who holds a role, with the unit's own row and the caller's grants, which were read before.
+/// The part for a caller who holds a role, with the unit's own row and the caller's grants, which were read before.
 fn holders_part<S: Alter>(
     alloc: Global,
     conn: &mut Connection<S>,
@@ -382,8 +381,8 @@ fn holders_part<S: Alter>(
     part_in_scope(alloc, conn, unit, call, scope, units, grants)
 }
 
-/// The unit's part that the call looks at, where the unit was opened. Of a caller who holds no role nothing is read but
-/// the unit's own row and the caller's grants.
+/// The part of the unit's rows that the call looks at, if the unit was opened. For a caller who holds no role, only the
+/// unit's own row and the caller's grants are read.
 fn unit_part<S: Alter>(
     alloc: Global,
     conn: &mut Connection<S>,
@@ -408,7 +407,7 @@ fn unit_part<S: Alter>(
     Ok(Some(part))
 }
 
-/// The part of its unit's rows that the call looks at, where it names a unit that was opened.
+/// The part of its unit's rows that the call looks at. `None` unless the call names a unit that was opened.
 pub fn part_of<S: Alter>(
     alloc: Global,
     conn: &mut Connection<S>,

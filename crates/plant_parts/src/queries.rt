@@ -1,4 +1,5 @@
-//! The queries that only a part asks: the caller's grants, how many rows a table has, and the last change's number.
+//! The queries that are needed only for a part: the caller's grants, how many rows a table has, and the last change's
+//! number.
 
 ghost use Rattle.std.specs.Prelude.{◌≡◌, IfOk};
 ghost use Rattle.plant_columns.specs.declared.tables.TableKind.TheVariants.{Alarms, Shelves};
@@ -47,7 +48,7 @@ pub fn own_grants<S: Alter>(
     in_order(rows)
 }
 
-/// So many rows as a part counts them. More than it can count are an error other than that memory ran out.
+/// A number of rows, as a part counts them. More than a part can count is an error other than out of memory.
 pub fn count_of(rows: usize) -> Result<u32, Error>
     ensures { IfOk result (λ count. count ≡ rows) }
 {
@@ -65,7 +66,7 @@ pub fn count_of_alarms<S: Alter>(conn: &mut Connection<S>, unit: &UnitCode) -> R
     count_of(alarms.as_slice().len())
 }
 
-/// How many shelves the unit keeps.
+/// How many shelves the unit has.
 #[tactic(auto, using(plant_statements::proofs::public::Meanings::shelf_tags, plant_statements::proofs::public::ReadsOnly::reads_plain))]
 pub fn count_of_shelves<S: Alter>(conn: &mut Connection<S>, unit: &UnitCode) -> Result<u64, Error>
     requires { HasNoTransaction conn.old }
@@ -77,7 +78,7 @@ pub fn count_of_shelves<S: Alter>(conn: &mut Connection<S>, unit: &UnitCode) -> 
     Ok(tags.as_slice().len() as u64)
 }
 
-/// The number of the unit's last change, 0 where it has none.
+/// The number of the unit's last change, 0 without changes.
 pub fn last_change_number<S: Alter>(conn: &mut Connection<S>, unit: &UnitCode) -> Result<u32, Error>
     requires { HasNoTransaction conn.old }
     ensures mode { HasNoTransaction conn.new }

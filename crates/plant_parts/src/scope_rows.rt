@@ -1,4 +1,4 @@
-//! The rows of the matrices and the changes that a scope takes in.
+//! Reads the rows of the matrices and the changes that a scope takes in.
 
 ghost use Rattle.std.specs.Prelude.{◌≡◌, ◌++◌, OnOk};
 ghost use Rattle.plant_parts.specs.Parts.{LoadsChanges, LoadsMatrices, LoadsNumbers};
@@ -13,7 +13,7 @@ use sqlite::{Alter, Connection, Error, ErrorCode};
 use std::alloc::Global;
 use std::collections::BTreeSet;
 
-/// Puts rows behind others.
+/// Appends rows to others.
 fn append<T: Drop>(rows: &mut Vec<T>, more: List<T>) -> Result<(), Error>
     ensures { OnOk result (rows.new.items ≡ rows.old.items ++ more) }
 {
@@ -21,7 +21,7 @@ fn append<T: Drop>(rows: &mut Vec<T>, more: List<T>) -> Result<(), Error>
     Ok(rows.append(&mut more)?)
 }
 
-/// The unit's rows of these numbers.
+/// The unit's rows with these numbers.
 fn rows_of_numbers<T: StoredByNumber, S: Alter>(
     alloc: Global,
     conn: &mut Connection<S>,
@@ -60,7 +60,7 @@ pub fn matrix_rows<T: StoredByNumber, S: Alter>(
     rows_of_numbers(alloc, conn, unit, &numbers)
 }
 
-/// The unit's changes that the scope takes in, where it takes in these records.
+/// The unit's changes that the scope takes in. `records` are the unit's records that it takes in.
 pub fn some_changes<S: Alter>(
     alloc: Global,
     conn: &mut Connection<S>,

@@ -1,4 +1,4 @@
-//! The rows of one unit: all of them, or all but its history, or its events alone.
+//! Reads the rows of one unit: all of them, all except its history, or its events alone.
 
 ghost use Rattle.std.specs.{FinMap.{contains_key, get}, Prelude.{◌≡◌, OnOk}};
 ghost use Rattle.sqlite.specs.Held.{state};
@@ -12,7 +12,7 @@ use plant_types::{List, Sorted, UnitCode};
 use sqlite::{Alter, Connection, Error};
 use std::alloc::Global;
 
-/// Whether there is a row: a unit was opened where it has a row of its own.
+/// Whether there is a row: a unit was opened exactly if it has a row of its own.
 #[tactic(auto, using(plant_statements::proofs::public::Contents::any_is))]
 pub fn has_row(units: &List<UnitRow>) -> bool
     ensures { result ≡ has_any units.now }
@@ -36,8 +36,8 @@ pub fn taken<S: Alter>(
     Ok(has_row(&units))
 }
 
-/// Reads the rows of the unit beside its own row and its history. It owns no list where a query fails: a function that owns
-/// many is proved for all of them at each.
+/// Reads the rows of the unit, except its own row and its history. It owns no list when a query fails: the prover
+/// treats each list owned at each query.
 fn read_standing<S: Alter>(
     alloc: Global,
     conn: &mut Connection<S>,
@@ -62,7 +62,7 @@ fn read_standing<S: Alter>(
     Ok(())
 }
 
-/// All rows of the unit but its history, where it was opened.
+/// All rows of the unit except its history, if it was opened.
 pub fn rows_but_history<S: Alter>(
     alloc: Global,
     conn: &mut Connection<S>,
@@ -84,7 +84,7 @@ pub fn rows_but_history<S: Alter>(
     Ok(Some(rows))
 }
 
-/// All events of the unit, none where it was never opened.
+/// All events of the unit. Empty if it was never opened.
 pub fn events<S: Alter>(
     alloc: Global,
     conn: &mut Connection<S>,
@@ -119,7 +119,7 @@ fn read_history<S: Alter>(
     Ok(())
 }
 
-/// All rows of the unit, where it was opened.
+/// All rows of the unit, if it was opened.
 #[tactic(auto, using(plant_statements::proofs::public::Contents::whole_again))]
 pub fn rows_of<S: Alter>(
     alloc: Global,
