@@ -41,11 +41,11 @@ old_quota = 2000
 
 -- ---- the refusals that several requests have
 
--- no alarm has this tag
+-- the unit has no alarm with this tag
 abbrev pub old_unknown : Facts → Name → Bool × Refused
 old_unknown f a = (is_none (f.alarm a), refused.AlarmUnknown)
 
--- a file: its fault of reading; else no room for its numbers, or its first fault of merging
+-- a file: the fault found in reading it; else no room for its new events, or the first fault found in merging it
 abbrev pub old_fault_entries : Option BadFile → List (Bool × Refused)
 old_fault_entries None = []
 old_fault_entries (Some fault) = (true, refused.BadFile fault) ∷ []
@@ -56,7 +56,7 @@ old_file_refusals f t (Ok rows) =
     (nat_lt old_max_events (length f.events + length (new_numbers f.events rows)), refused.UnitFull full.Events)
     ∷ old_fault_entries (first_fault (map alarm_tag f.alarms) t 2 f.events rows)
 
--- a change of an alarm's record or limit: whether the alarm is there
+-- a change of an alarm's record or limit: the unit does not have the alarm
 abbrev pub old_kind_unknown : Facts → ChangeKind → List (Bool × Refused)
 old_kind_unknown f (Rationale a s) = old_unknown f a ∷ []
 old_kind_unknown f (Matrix m) = []
@@ -85,7 +85,7 @@ old_kind_refusals f base (Matrix m) =
     ∷ (list_any (λ r. not (is_some (row_of m r.severity))) f.rationales, refused.OutsideMatrix) ∷ []
 old_kind_refusals f base (Limit a max) = old_base_changed base (limit_revision_of f a) ∷ []
 
--- a decision is about a change that is there and not decided yet
+-- a decision needs a change that exists and is not decided yet
 abbrev pub was_open : ChangeState → Bool
 was_open Proposed = true
 was_open Approved = false
@@ -166,7 +166,7 @@ old_role_needed (request.Floods u begin until) = None
 old_role_needed request.MyUnits = None
 old_role_needed request.MyShelves = None
 
--- refused where the role that is needed does not stand
+-- refused if the role that is needed does not stand
 abbrev pub old_lacks_role : Facts → Name → Option Role → List (Bool × Refused)
 old_lacks_role f p None = []
 old_lacks_role f p (Some r) = (not (f.stands (p, r)), refused.RoleLacking r) ∷ []
@@ -182,12 +182,12 @@ old_refusals f c =
 abbrev pub old_verdict : List Call → Call → Result Reply Refused
 old_verdict h c = refused_or (first_refusal (old_refusals (facts h) c)) (reply (facts h) c.moment c.request)
 
--- what was said is of schema 1: an opening gives the quota of those units, a grant has no end
+-- an entry belongs to schema 1: an opening gives the quota of those units, a grant has no end
 abbrev pub was_said : Option Opening → Option (Pair × Said (Option ℕ)) → Bool
 was_said (Some o) pair = same_number o.quota old_quota
 was_said None pair = passes is_for_good pair
 
--- a request of today that stands for one of schema 1
+-- a request of this schema that represents one of schema 1
 abbrev pub is_of_old : Request → Bool
 is_of_old r = was_said (says r).opening (says r).pair
 
@@ -198,11 +198,11 @@ WasLegal (c ∷ []) = IsTrue (is_opening c.request) × IsTrue (has_matrix c.requ
 WasLegal (c ∷ d ∷ before) = IsTrue (not (is_opening c.request) && changes_history (old_verdict (d ∷ before) c) c)
     × IsTrue (has_matrix c.request) × IsTrue (is_of_old c.request) × WasLegal (d ∷ before)
 
--- each of them is a history of today
+-- each history of schema 1 is a history of this schema
 abbrev pub OldHistoriesAreLegal : Type 0
 OldHistoriesAreLegal = (h : List Call) → WasLegal h → IsLegal h
 
--- and a call of then is answered after it as it was
+-- after a history of schema 1, a call of schema 1 gets the answer that it got then
 abbrev pub OldVerdictsStay : Type 0
 OldVerdictsStay = (h : List Call) → WasLegal h → (c : Call) → IsTrue (is_of_old c.request)
     → verdict h c ≡ old_verdict h c
@@ -212,6 +212,6 @@ pub record AreOldRows (rows : UnitRows) : Type 0 where
   pub quotas : AllByRecursion (λ (r : UnitRow). r.quota ≡ old_quota) rows.units
   pub ends : AllByRecursion (λ (g : GrantRow). g.end_s ≡ None) rows.grants
 
--- the rows of a history of schema 1 are such
+-- the rows of a history of schema 1 have that quota, and no ends
 abbrev pub OldRowsHaveNoEnds : Type 0
 OldRowsHaveNoEnds = (h : List Call) → WasLegal h → AreOldRows (rows_of h)

@@ -1,5 +1,5 @@
--- The tables of schema 1, from which a plant may come: those of this schema, but that a unit's row has no quota, and a
--- grant no end.
+-- The tables of schema 1, from which a plant may come: those of this schema, except that a unit's row has no quota and
+-- a grant has no end.
 use Rattle.std.specs.{Ordering.{nat_cmp}, Prelude.{List, [], codes, map, ℕ, ◌++◌, ◌∷◌}}
 use Rattle.sqlite.specs.{Effect.{Database}, Schema.{Schema}, Tree.{Trees}}
 use Rattle.sqlite_value.specs.{Order.{Row, bytes, column}, declared.value.Value.TheVariants.{Null, Text}}

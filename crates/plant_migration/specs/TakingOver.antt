@@ -12,7 +12,7 @@ use Rattle.plant_statements.specs.Writing.{Writes}
 use Rattle.plant_migration.specs.declared.old_rows.CodeLine.{CodeLine}
 use Rattle.plant_types.specs.Names.{Name}
 
--- on an honest disk this holds of the tables of schema 1
+-- on an honest disk this holds for the tables of schema 1
 abbrev pub OfOldTables : {S : Type 0} → Ghosts S → Held S → Held S → (Trees → Type 0) → Type 0
 OfOldTables g before after Holds = IsHonest (state g after) → AreOldBooks (state g before).now
     → Holds (state g before).now.trees

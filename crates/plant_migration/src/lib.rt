@@ -1,4 +1,4 @@
-//! What becomes of a store of schema 1: its rows, and the rules by which its calls were judged.
+//! The migration from schema 1: what its rows become, and the rules by which its calls were judged.
 #![tactic(auto)]
 
 mod laws;

@@ -1,4 +1,4 @@
-//! The rows of a store of schema 1: how each table is read, and what its rows become.
+//! The rows of a store of schema 1: how each table is read, and what its rows become in this schema.
 
 ghost use Rattle.std.specs.Prelude.{◌∷◌, [], List};
 ghost use Rattle.sqlite.specs.Tree.{Trees};
@@ -27,7 +27,7 @@ use plant_types::{List, Moment, Person, Quota, Role, UnitCode};
 use sqlite::{Alter, Connection, Error, Row, Transaction};
 use std::alloc::Global;
 
-/// A unit's own row: there was no quota.
+/// A unit's own row in schema 1, which had no quota.
 #[derive(Drop)]
 pub struct OldUnitRow {
     pub last_s: Moment,
@@ -35,7 +35,7 @@ pub struct OldUnitRow {
     pub matrix_rev: u32,
 }
 
-/// A grant: it had no end.
+/// A grant in schema 1, which had no end.
 #[derive(Drop)]
 pub struct OldGrantRow {
     pub person: Person,
@@ -89,17 +89,17 @@ impl Shown for CodeLine {
 
 /// A row of a store of schema 1.
 pub trait OldRow: Shown {
-    /// The row that it becomes.
+    /// The row that it becomes in this schema.
     ghost becomes: { Self → AnyRow };
 
-    /// Those that the tables have of a unit.
+    /// The unit's rows in the tables.
     ghost had: { Name → Trees → List Self };
 
     /// The text that reads all rows of a unit.
     fn old_select() -> &'static str
         ensures { ReadsOldUnit Self.width Self.cells had result.now };
 
-    /// Puts what it becomes, as a new row.
+    /// Inserts the row that it becomes, as a new row.
     fn put<N: Alter>(
         &self,
         alloc: Global,
@@ -113,7 +113,7 @@ pub trait OldRow: Shown {
 
 /// A row of a table that is the same in schema 1.
 pub trait Unchanged: Stored {
-    /// Those that the tables of schema 1 have of a unit.
+    /// The unit's rows in the tables of schema 1.
     ghost had_before: { Name → Trees → List Self };
 
     /// The text that reads all rows of a unit, in schema 1 too.
@@ -245,7 +245,7 @@ impl Unchanged for ChangeEntry {
     }
 }
 
-/// The codes of all units, rising.
+/// The codes of all units, in order.
 pub fn old_codes_of<S: Alter>(
     alloc: Global,
     conn: &mut Connection<S>,

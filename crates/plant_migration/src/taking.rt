@@ -1,4 +1,4 @@
-//! A plant's rows taken over from a store of schema 1 into new tables of this schema.
+//! Copies a plant's rows from a store of schema 1 into new tables of this schema.
 
 ghost use Rattle.std.specs.Prelude.{◌≡◌, map, IsTrue, OnOk};
 ghost use Rattle.sqlite.specs.{Held.{state}, State.{HasCleanDisk, Survives}};
@@ -16,7 +16,7 @@ use plant_types::{Person, UnitCode};
 use sqlite::{Alter, Connection, Error, Transaction};
 use std::alloc::Global;
 
-/// Puts the rows of one table.
+/// Inserts the rows of one table.
 fn put_rows<T: OldRow, N: Alter>(
     alloc: Global,
     tx: &mut Transaction<'_, N>,
@@ -34,7 +34,7 @@ fn put_rows<T: OldRow, N: Alter>(
     Ok(())
 }
 
-/// Takes a unit's rows of one table over.
+/// Copies a unit's rows of one table.
 fn take_rows<T: OldRow, O: Alter, N: Alter>(
     alloc: Global,
     from: &mut Connection<O>,
@@ -53,7 +53,7 @@ fn take_rows<T: OldRow, O: Alter, N: Alter>(
     put_rows::<T, N>(alloc, tx, unit, rows.as_slice())
 }
 
-/// Takes all rows of a unit over, table by table.
+/// Copies all rows of a unit, table by table.
 #[tactic(auto, using(plant_statements::proofs::public::ReadsOnly::reads_then, plant_statements::proofs::public::StepsInside::stays_then))]
 fn take_unit<O: Alter, N: Alter>(
     alloc: Global,
@@ -80,7 +80,7 @@ fn take_unit<O: Alter, N: Alter>(
     Ok(())
 }
 
-/// Takes all rows of units over, one unit after another.
+/// Copies all rows of some units, one unit after another.
 fn take_units<O: Alter, N: Alter>(
     alloc: Global,
     from: &mut Connection<O>,
@@ -100,7 +100,7 @@ fn take_units<O: Alter, N: Alter>(
     Ok(())
 }
 
-/// Makes the tables and takes all rows over.
+/// Makes the tables and copies all rows.
 fn fill<O: Alter, N: Alter>(
     alloc: Global,
     from: &mut Connection<O>,
@@ -122,7 +122,7 @@ fn fill<O: Alter, N: Alter>(
     take_units(alloc, from, tx, lines.as_slice())
 }
 
-/// Makes the tables and takes all rows over: everything, or nothing.
+/// Makes the tables and copies all rows, in one transaction: everything, or nothing.
 pub fn take_over<O: Alter, N: Alter>(
     alloc: Global,
     from: &mut Connection<O>,
@@ -143,7 +143,7 @@ pub fn take_over<O: Alter, N: Alter>(
         → Survives (state N.Store into.old) (state N.Store into.new)
         (AreTaken (state O.Store from.old) (state O.Store from.new) admin.now) }
 {
-    // Tells the proof that no transaction is open; the value is not used.
+    // Gives the proof that no transaction is open; the value is not used.
     let _settled = into.is_autocommit();
     let mut tx = into.transaction();
     fill(alloc, from, &mut tx, admin)?;
