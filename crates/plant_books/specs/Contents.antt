@@ -93,7 +93,7 @@ mine_row u rows s = record { unit = u; shelf = s; last_return = last_return_in r
 abbrev pub AddsShelves : {A E : Type 0} → Name → UnitRows → List MineRow → List MineRow → Result A E → Type 0
 AddsShelves u rows before after said = OnOk said (after ≡ before ++ map (mine_row u rows) rows.shelves)
 
--- the shelves of a unit, each with the moment at which its alarm last returned to normal; none where there are no rows
+-- the shelves of a unit, each with the moment at which its alarm last returned to normal; none without rows
 abbrev pub shelves_there : Name → Option UnitRows → List MineRow
 shelves_there u o = map (mine_row u (unwrap_or o no_rows)) (unwrap_or o no_rows).shelves
 

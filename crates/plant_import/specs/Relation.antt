@@ -1,4 +1,4 @@
--- How a row relates to events in rising number: what the code finds from the nearest of them.
+-- How a row relates to events that are ordered by number: what the code finds from the nearest of them.
 use Rattle.std.specs.{Borrow.{Bor}, List.{list_any}}
 use Rattle.std.specs.Prelude.{ℕ, ◌≡◌, ◌-◌, Bool, true, false, List, ◌++◌, Option, Some, None, Result, Ok, Err, filter, length, nat_lt, not, slice_get, option_copied}
 use Rattle.plant_types.specs.Names.{Name}

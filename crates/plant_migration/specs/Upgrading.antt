@@ -57,7 +57,7 @@ puts_all rows = flat_map (puts_of rows) all_tables
 abbrev pub is_among : List Name → Name → Bool
 is_among us u = list_any (λ k. same_name k u) us
 
--- the rows of these units are taken over, and of the others there is none
+-- the rows of these units are copied; other units have no rows
 pub record AreTakenOver (us : List Name) (trees : Trees) (db : Database) : Type 0 where
   pub books : AreBooks db
   pub database : IsDatabase db

@@ -139,12 +139,12 @@ count_put c u copy = by (lookup_entry (same_name u) c.entries) refl
     by None e = let rest = count_taken (c.cap - 1) c.entries in omega (arith, rest)
     by (Some d) e = let rest = count_removed u c.entries d e in omega (arith, rest)
 
--- ---- what is at hand of the rows that there are
+-- ---- the cached rows among a unit's rows
 
 pub is_there : (b : Bool) (o : Option UnitRows) (rows : UnitRows) → option_map (seen b) o ≡ Some rows → true ≡ is_some o
 is_there b o rows e = grind arith
 
--- the events, where they are at hand
+-- the events, if they are cached
 pub events_there : (b : Bool) (o : Option UnitRows) (rows : UnitRows) → b ≡ true → option_map (seen b) o ≡ Some rows
     → rows.events ≡ (unwrap_or o no_rows).events
 events_there b None rows whole e = absurd (cc e)
@@ -185,7 +185,7 @@ pub part_there : (c : Call) (b : Bool) (o : Option UnitRows) (rows : UnitRows) �
 part_there c b None rows e h = absurd (cc e)
 part_there c b (Some r) rows e h = let same : seen b r ≡ rows = cc e in ap (λ x. Some x) (h r same)
 
--- a part that was made of rows at hand is that of the unit
+-- a part that was made from cached rows is that of the unit
 pub made_there : (said : Result UnitPart Fault) (made : Result (Option UnitPart) Fault) (part : UnitPart) (there : Option UnitPart)
     → IfOk made (λ o. IfSome o (λ x. said ≡ Ok x)) → IfOk said (λ y. y ≡ part) → Some part ≡ there → IfOk made (λ o. IfSome o (λ x. Some x ≡ there))
 made_there said (Ok (Some x)) part there is gives at = let given : x ≡ part =
@@ -203,7 +203,7 @@ pub part_seen : (c : Call) (b : Bool) (kept rows : UnitRows) → seen b rows ≡
     → looks_at_events c.request ≡ false → part_of c kept ≡ part_of c rows
 part_seen c b kept rows e unreviewed none = ap (part_of c) (sym e) ∙ seen_part c b rows unreviewed none
 
--- of a call that may look at them, where they are at hand
+-- for a call that may look at events, if they are cached
 pub part_with_events : (c : Call) (b : Bool) (kept rows : UnitRows) → seen b rows ≡ kept → looks_at_reviews c.request ≡ false
     → b ≡ true → part_of c kept ≡ part_of c rows
 part_with_events c true kept rows e unreviewed whole = ap (part_of c) (sym e) ∙ part_unreviewed c rows unreviewed

@@ -45,7 +45,7 @@ alarm_list : verdict shelved_too (call vic (at 10 0 0) (Alarms u1)) ≡ Ok (Alar
 unfolding holds_some
 alarm_list = refl
 
--- no event was brought, so no alarm is active
+-- no event was imported, so no alarm is active
 standing_list : verdict shelved_too (call vic (at 10 0 0) (Standing u1)) ≡ Ok (StandingOf u1 (at 10 0 0) [])
 unfolding holds_some
 standing_list = refl
@@ -70,7 +70,7 @@ placement : IsDone shelved_too (call moe (at 10 0 0) (PlaceInService u1 pt))
 unfolding holds_some
 placement = (refl, refl, refl)
 
--- the row of an alarm that is out of service tells since when, by whom and why
+-- the row of an alarm that is out of service has since when, by whom and why
 abbrev outage : AlarmRow → Option ℕ × Option Name × Option Name
 outage r = (r.out_s, r.out_by, r.out_words)
 

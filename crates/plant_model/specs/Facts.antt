@@ -24,7 +24,7 @@ pub record Facts : Type 0 where
   -- the shelf that the last shelving of an alarm left, even if its time has passed
   pub shelf : Name → Option ShelfRow
   pub shelves : List ShelfRow
-  -- all events, in rising number
+  -- all events, ordered by number
   pub events : List Event
   -- the matrix in force, and the priorities of alarms by it
   pub matrix : Grid

@@ -18,8 +18,8 @@ pub data Subject : Type 0 where
   OwnUnits : Subject
   OwnShelves : Subject
 
--- what a request does to its unit's history, the role that it needs, where it needs one in particular, the count that
--- it needs, and what it is about
+-- what a request does to its unit's history, the role that it needs, if it needs a particular one, the count that it
+-- needs, and what it is about
 abbrev pub traits_of : Request → Effect × Option Role × Counted × Subject
 traits_of (request.OpenUnit u s m q) = (Opens, None, count.Nothing, OneUnit u)
 traits_of (request.Grant u p t) = (Changes, Some Steward, count.Nothing, OneUnit u)

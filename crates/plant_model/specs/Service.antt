@@ -1,4 +1,4 @@
--- Out of service (ISA-18.2, IEC 62682): the third kind of suppression, beside shelving and suppression by design.
+-- Out of service (ISA-18.2, IEC 62682): the third kind of suppression, after shelving and suppression by design.
 use Rattle.std.specs.Prelude.{List, Option, option_map, ℕ}
 use Rattle.plant_model.specs.{Histories.{Said, latest, of_key, said_as, still}, Kinds.{says}, declared.call.{Call.{Call}, Request.{Request}}}
 use Rattle.plant_types.specs.Names.{Name, same_name}

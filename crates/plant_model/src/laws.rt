@@ -14,7 +14,8 @@ pub fn two_worlds()
     ensures shared { CallsToSeenUnits }
 {}
 
-/// Purge: a person's answers stay the same if the calls of others on units where the person has no role are left out.
+/// Purge: a person's answers stay the same if the calls of others on units where the person never had a
+/// role are left out.
 #[tactic(auto, using(crate::proofs::PurgeLaws::others_calls_can_go))]
 pub fn purged()
     ensures { OthersCallsCanGo }

@@ -69,7 +69,7 @@ pub enum Refused {
     RangeNotAligned,
     /// The line and the cause of the file's first fault.
     BadFile(BadFile),
-    /// As many other alarms of the unit are shelved as its quota, which is this, allows.
+    /// The unit's quota, which is this number, is used up by other shelved alarms.
     ShelfQuota(Quota),
     /// A grant's end is not after the call's moment.
     EndNotAhead,

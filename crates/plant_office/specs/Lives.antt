@@ -36,7 +36,7 @@ IsWithin (x ∷ xs) [] = ⊥
 IsWithin (x ∷ xs) (y ∷ ys) = ((x ≡ y) × IsWithin xs ys) ⊎ IsWithin (x ∷ xs) ys
 
 -- Whatever number of crashes: the books that are found last hold the world after some calls, made one after the other.
--- All that were confirmed are among them, each in its order, and beside them at most one for each life.
+-- All confirmed calls are among them, in their order, and besides these at most one for each life.
 abbrev pub CrashesLeaveAWorld : Type 0
 CrashesLeaveAWorld =
     (first last : Content) (lives : List Life) (w : World) → IsLegalWorld w → Holds first w → LeadTo first lives last

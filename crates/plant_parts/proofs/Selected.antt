@@ -76,7 +76,7 @@ module _ (s : State) (m : Content) (u : Name) (k : HasContent s m) where
       ∙ ap (λ rows. slice_get (filter (λ (r : ChangeEntry). same_number n r.number) rows) 0) (sym (k.seen u Changes))
       ∙ ap (λ rows. slice_get rows 0) (sym is)
 
-  -- the caller's grants tell whether the caller holds a role in the unit
+  -- the caller's grants determine whether the caller holds a role in the unit
   own_tell : (c : Call) (own : List GrantRow) → own ≡ filter (λ g. same_name c.person g.person) (rows_seen u s.now.trees Grants)
       → holds_by own c.moment c.person ≡ holds_by (rows_in m u).grants c.moment c.person
   own_tell c own is = ap (λ gs. holds_by gs c.moment c.person) (is ∙ ap (filter (λ (g : GrantRow). same_name c.person g.person)) (k.seen u Grants))

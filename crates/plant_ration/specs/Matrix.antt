@@ -6,7 +6,7 @@ use Rattle.plant_types.specs.Numbers.{is_seconds}
 use Rattle.plant_ration.specs.{Grid.{Grid}, declared.cell.{Cell.{Cell, TheVariants.{P1, P2, P3, P4, N}}, MatrixFault.{MatrixFault}}}
 use Rattle.plant_ration.specs.declared.cell.MatrixFault.TheVariants.{Shape, BandsNotRising, NotOrdered}
 
--- the place of a cell, from 1 for the highest priority to 5 where no alarm is needed
+-- the rank of a cell, from 1 for the highest priority to 5, which means that no alarm is needed
 abbrev pub rank : Cell → ℕ
 rank P1 = 1
 rank P2 = 2

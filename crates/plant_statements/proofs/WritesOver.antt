@@ -1,4 +1,4 @@
--- A row is written over the one of its key where there is one, and put anew where there is none.
+-- A row replaces the one with its key if any, and is otherwise inserted.
 use Rattle.std.specs.{FinMap.{nat_cmp-IsAntisymmetric}, Ordering.{ordering_then}}
 use Rattle.std.proofs.Common.{IfOk, Result, arith, ◌≡◌, ℕ, zero, suc, true, false, List, [], ◌∷◌, drop, Ok, refl, sym, ap, ◌∙◌, subst, is_eq, Ordering, Equal, true≢false, nat_eq}
 use Rattle.std.proofs.lemmas.Bool.{and_parts, Decides.{nat_tests}}

@@ -123,7 +123,7 @@ module _ (n : ℕ) (admin : Name) (old new : State) (t : Table) (is_there : offi
       (map (three a b c) (old.now.trees t.tree)) rows (map-map (columns 3) (three a b c) (old.now.trees t.tree)) some_order in
       (λ e. by_names (old.now.trees t.tree) ∙ it.0 e, λ e. it.1 (sym (by_names (old.now.trees t.tree)) ∙ e))
 
-  -- the rows that are shown tell whether it is this office
+  -- the rows that are shown determine whether it is this office
   pub office_told : (map (columns 3) rows ≡ office_cells n admin ∷ []) ↔ IsOffice n admin old.now
   office_told = (
     λ e. record { table = t; is_there = is_there; has_columns = has; row = this_row.0 e },

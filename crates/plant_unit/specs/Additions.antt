@@ -88,7 +88,7 @@ GivesImport part t rows added said =
 pub record AreKept (part : UnitPart) : Type 0 where
   -- a number of events that fits into 32 bits
   pub events_few : length part.rows.events ≤ 4294967295
-  -- the matrix in force, where the part has cells of it, is a matrix
+  -- the matrix in force is a valid matrix, if the part has cells of it
   pub matrix_whole : (is_left_out part.rows (unit_read part.rows).matrix_no
       || is_matrix_at part.rows (unit_read part.rows).matrix_no) ≡ true
   -- a change has what its kind needs: the columns, or the rows of a matrix
@@ -97,7 +97,7 @@ pub record AreKept (part : UnitPart) : Type 0 where
   -- a change has nothing else: its row is that of the change that is read from it
   pub changes_read : (n : ℕ) (c : ChangeEntry) → change_found part.rows n ≡ Some c
       → change_entry (change_read part.rows c) ≡ c
-  -- the change that a record came from, where the part has it, has the columns of a sheet
+  -- the change that a record came from has the columns of a sheet, if the part has that change
   pub records_whole : list_all (has_its_sheet part.rows) part.rows.records ≡ true
   -- there is a next number of each kind
   pub count_fits : part.count < 4294967295

@@ -48,8 +48,8 @@ abbrev pub PushesNamed : {A E : Type 0} → List AlarmRow → Brought → List R
 PushesNamed alarms all before after said = (es fresh : List Event) → all ≡ brought alarms es fresh
     → OnOk said (after ≡ before ++ states_put es fresh alarms)
 
--- the fact holds of all events before the import, so many, and of those that its file adds, which stand here in rising
--- number: the file needs the kept ones, and the columns of the alarms are computed from all events
+-- the fact holds for all events before the import, of which `count` gives the number, and for those that its file adds,
+-- here ordered by number: `kept` are those that the file needs, and the columns of the alarms are computed from all
 abbrev pub ForImport : List AlarmRow → List Event → ℕ → List Event → (List Event → List Event → Type 0) → Type 0
 ForImport alarms kept count fresh fact = (es rows added : List Event) → kept ≡ needed es rows → count ≡ length es
     → AreAdded es rows added → fresh ≡ with_events [] added → HaveSummaries alarms es → fact es added

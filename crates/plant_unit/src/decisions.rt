@@ -277,8 +277,8 @@ fn push_rerated(
     Ok(())
 }
 
-/// Adds the changes of all records, with their priorities by a matrix that comes into force, or
-/// gives the first refusal of its base and its rows.
+/// Appends the changes of all records, with their priorities by a matrix that comes into force, or
+/// returns the first refusal for its base and its rows.
 fn push_matrix_in_force(
     alloc: Global,
     changes: &mut List<RowEdit>,

@@ -108,7 +108,7 @@ few_approvals h legal =
       | inr there ↦ let it = what_is (decision h n) (decided h n there) in let le = decided_bound h legal n it.0 it.1 in omega (arith, le)
     ]
 
--- what only approvals bring is brought no more often than they come
+-- what only approvals change is changed at most as often as there are approvals
 fewer : {A : Type 0} (says : Call → List Call → Option A)
     → ((c : Call) (before : List Call) → is_some (says c before) ≡ true → 1 ≤ length (approved_by c.request)) → (h : List Call)
     → counted (λ c before. is_some (says c before)) h ≤ length (approved h)

@@ -410,7 +410,7 @@ module _ (rows : UnitRows) (p : Name) (t : ℕ) where
   unfolding holds_some
   part_holds part es = refl
 
-  -- the caller's own grants tell whether the caller holds a role
+  -- the caller's own grants determine whether the caller holds a role
   pub own_holds : holds_by (filter (λ g. same_name p g.person) rows.grants) t p ≡ holds_by rows.grants t p
   own_holds =
       λ i. own Viewer i || (own Operator i || (own Maintainer i || (own Engineer i || (own Approver i || (own Steward i || false))))) where

@@ -182,7 +182,7 @@ pub opening_changes : (admin taken : Bool) (c : Call) → changes_history (openi
 opening_changes true false c t = (refl, refl)
 opening_changes _ _ c t = cc
 
--- what a change of a unit tells
+-- what follows from a change of a unit
 pub changes_by : (admin taken : Bool) (h : List Call) (c : Call) → changes_history (unit_answer admin taken h c) c ≡ true
     → ((admin ≡ true) × (taken ≡ false)) ⊎ (holds_any h c.moment c.person ≡ true)
 changes_by admin taken h c =

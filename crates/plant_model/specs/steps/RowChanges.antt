@@ -99,7 +99,7 @@ taken_out p t words r = record r { out_s = Some t; out_by = Some p; out_words = 
 abbrev pub placed_in : AlarmRow → AlarmRow
 placed_in r = record r { out_s = None; out_by = None; out_words = None }
 
--- the new rows of a file, in rising number
+-- the new rows of a file, ordered by number
 abbrev pub new_events : List Event → List Event → List Event
 new_events kept rows = with_events [] (fresh kept rows)
 

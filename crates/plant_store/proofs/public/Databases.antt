@@ -1,4 +1,4 @@
--- The trees of a database tell its schema.
+-- The trees of a database determine its schema.
 use Rattle.std.proofs.Common.{◌≡◌, sym, subst}
 use Rattle.sqlite.specs.{Effect.{Database, IsDatabase}, Tree.{Trees}}
 use Rattle.sqlite_catalog.{specs.Listing.{Lists}, proofs.ReadLemmas.{lists_once}}
