@@ -1,4 +1,4 @@
--- Books in a list of units: what is found there, and what is there after a put.
+-- Books in a list of units: what is found in it, and what it has after a put.
 use Rattle.std.{specs.{Cmp.{tied_itself}, FinMap.Entries.{below_all, by_order, find as found, is_sorted, put}}, proofs.lemmas.List.{nil_from_length}}
 use Rattle.std.specs.{FinMap.{entries, entries-insert, entries_sorted, get, get-entries, keys, len-empty, len-entries}, List.{cons_option}}
 use Rattle.std.specs.Ordering.{eq_by_cmp}
@@ -55,7 +55,8 @@ none_listed admin opened none =
           ∙ sym (nil_from_length (entries (no_units admin).units) (sym (len-entries (no_units admin).units) ∙ len-empty name_cmp UnitRows));
     }
 
--- what is said of each code with what is found there, is said of each unit of the list with its rows: each entry is found by a look-up
+-- what is said of each code with what is found there, is said of each unit of the list with its rows: each entry is
+-- found by a look-up
 abbrev AreFound : (Name → Option UnitRows) → List (Name × UnitRows) → Type 0
 AreFound g [] = Unit {0}
 AreFound g (e ∷ es) = (g e.0 ≡ Some e.1) × AreFound g es
@@ -96,7 +97,7 @@ all_listed f admin opened m h =
     ∙ sym (all_found f (get m.units) (entries m.units)
     (subst (λ g. AreFound g (entries m.units)) lookup (are_found (entries m.units) (entries_sorted m.units))))
 
--- the same for what is said of each code, if something is
+-- the same for a statement about each code, if there is one
 told_by_lists : {A B : Type 0} (f : A → Option B) (xs : List A) → filter_map f xs ≡ flat_map (λ x. option_to_list (f x)) xs
 told_by_lists f [] = refl
 told_by_lists f (x ∷ xs) =
@@ -109,7 +110,7 @@ told_listed f admin opened m h =
     told_by_lists (λ o. f o.unit (Some o.rows)) opened ∙ all_listed (λ u o. option_to_list (f u o)) admin opened m h
     ∙ sym (told_by_lists (λ u. f u (get m.units u)) (keys m.units))
 
--- what the keeper answers and leaves, said of the content
+-- what the keeper answers and leaves, stated about the content
 pub part_listed : (admin u v : Name) (opened : List OpenedUnit) (m : Content) (c : Call) → IsListed admin opened m → Some v ≡ unit_named c.request
     → unit_named c.request ≡ Some u → option_map (part_of c) (rows_at opened v) ≡ part_in m c u
 part_listed admin u v opened m c h is named =

@@ -1,4 +1,4 @@
--- The new rows of a file in rising number stand below each row that follows.
+-- If a file is ordered by number, its new rows so far have smaller numbers than each row that follows.
 use Rattle.std.{specs.{Borrow.{Bor}, List.{list_all}}, proofs.lemmas.{Bool.{lt-ltb}, List.{append-nil, drop_more}}}
 use Rattle.std.proofs.Common.{List, [], ap, drop, get_or, length, refl, subst, sym, ◌++◌, ◌+◌, ◌<◌, ◌∙◌, ◌∷◌, ◌≡◌, ℕ, false, BTreeMap, IsTrue, MatchOption, None, Option, Some, nat_lt, not, true, ◌&&◌}
 use Rattle.plant_alarm.specs.declared.event.Event.{Event}

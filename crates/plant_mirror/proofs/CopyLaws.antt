@@ -10,7 +10,7 @@ use Rattle.plant_model.{specs.declared.{call.Call.{Call}, rows.{RowEdit.{RowEdit
 use Rattle.plant_mirror.specs.{Copies.{AreCopies, Copy, IsCopy, There, row_count, rows_of_all, seen}, declared.at_hand.AtHand.{AtHand}}
 use Rattle.plant_types.{specs.{Names.{Name, same_name}, declared.fault.Fault.{Fault}}, proofs.public.Orders.{name_total}}
 
--- ---- what is found is there
+-- ---- what is found exists
 
 pub found_there : (u : Name) (there : There) (es : List Copy) (copy : AtHand) → AreCopies there es → lookup (same_name u) es ≡ Some copy
     → IsCopy there (u, copy)

@@ -113,7 +113,7 @@ no_cell q n s (row ∷ rows) other =
     ∙ (λ i. no_place cell_cmp q (cell_key_of n s) (λ b. leads q.0 n (ordering_then (nat_cmp q.1 s) (nat_cmp q.2 b)) other)
     (range_with_len 1 (length row)) i || no_cell q n (s + 1) rows other i)
 
--- what is said of a number
+-- the statements about a number
 numbered : (n : ℕ) (x : ℕ × Grid) (m : Grid) → when (same_number n x.0) x.1 ≡ Some m → (n ≡ x.0) × (x.1 ≡ m)
 numbered n x m e =
     elim (same_number n x.0) as (λ b. same_number n x.0 ≡ b → when b x.1 ≡ Some m → (n ≡ x.0) × (x.1 ≡ m)) [
@@ -121,7 +121,8 @@ numbered n x m e =
       | false ↦ λ s is. cc
     ] refl e
 
--- A table of matrices: the row at a key is of the matrix of a number, and is there only if the matrix has the key's place
+-- A table of matrices: the row at a key is of the matrix of a number, and is there only if the matrix has the key's
+-- place
 module _ {K X : Type 0} {R : K → K → Ordering} (total : IsTotalOrder R) (same : (a b : K) → R a b ≡ Equal → a ≡ b) (key : X → K) (number : K → ℕ)
     (of : K → Grid → Option X) (places : ℕ → Grid → List K)
     (keyed : (k : K) (m : Grid) (r : X) → of k m ≡ Some r → key r ≡ k)

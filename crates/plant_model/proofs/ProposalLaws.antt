@@ -111,7 +111,7 @@ no_revision h legal a unregistered =
     none_counted (λ c before. approved_limit a before c.request) h
     (never_some (limit_said h a) (λ max e. true≢false (sym (limit_registered h legal a max e) ∙ ap is_some unregistered)))
 
--- the alarm of a proposed limit is there
+-- the alarm of a proposed limit exists
 pub limit_there : (h : List Call) → IsLegal h → (n : ℕ) (d : Draft) (b : Name) (max : ℕ) → draft h n ≡ Some d → d.kind ≡ Limit b max
     → (l : Bool) × (latching h b ≡ Some l)
 limit_there h legal n d b max e is = what_is (latching h b) (limited_known h legal n b d e (ap (λ k. limited (Some k)) is))

@@ -1,4 +1,4 @@
--- All that is said of shelves is what the alarms' events leave of them.
+-- All answers about shelves agree with what the alarms' events leave of them.
 use Rattle.std.specs.List.{AllByRecursion, Sorted.{IsNonDecreasingBy}, cons_option}
 use Rattle.std.proofs.Common.{List, None, Option, Some, [], ap, arith, refl, subst, sym, ◌∙◌, ◌≡◌, Bool, cond, filter, filter_map, get_or, inl, inr, length, map, not, suc, option_and_then, option_map, unwrap_or, ℕ, ◌&&◌, ◌++◌, ◌∷◌}
 use Rattle.std.proofs.lemmas.{Bool.Decides.{leb_tells}, List.{Kept.{IsNonDecreasingBy-filter}, Sums.{length-filter}}}
@@ -75,7 +75,7 @@ module _ {X : Type 0} (row : Name → Option X) where
             refl
       ] refl
 
--- ---- what is said of shelves
+-- ---- the answers about shelves
 
 module _ (h : List Call) (legal : IsLegal h) (t : ℕ) where
   state_left : (a : Name) → shelf_now (facts h) a t ≡ shelf_in_history h a t

@@ -45,12 +45,12 @@ held_part : (b : Content) (w : World) (c : Call) (u : Name) → IsLegalWorld w �
 held_part b w c u legal h =
     subst (λ o. IsPartOf (option_map (part_of c) o) (history w u) c) (sym (h.rows u)) (part_left w c u (get w.units u) legal refl)
 
--- the rows of a unit that is there, or not
+-- the rows of a unit, whether it exists or not
 rows_told : (b : Content) (w : World) (u : Name) (o : Option (List Call)) → Holds b w → get w.units u ≡ o
     → rows_in b u ≡ unwrap_or (option_map rows_of o) no_rows
 rows_told b w u o holds is = ap (λ o. unwrap_or o no_rows) (holds.rows u ∙ ap (option_map rows_of) is)
 
--- a unit that accepts a change is there
+-- a unit that accepts a change exists
 there_of_accepted : (w : World) (c : Call) (u : Name) → changes_history (verdict (history w u) c) c ≡ true → get w.units u ≡ Some (history w u)
 there_of_accepted w c u changing =
     elim (holds_any (history w u) c.moment c.person) as (λ b. holds_any (history w u) c.moment c.person ≡ b → get w.units u ≡ Some (history w u)) [
@@ -95,7 +95,7 @@ answer_told : (w : World) (c : Call) (u : Name) (opens : Bool) → is_opening c.
     → answer_at w c (Some u) ≡ (if opens then opening (by_admin w c) (is_taken w u) else verdict (history w u) c)
 answer_told w c u opens e = ap (λ x. if x then opening (by_admin w c) (is_taken w u) else verdict (history w u) c) e
 
--- a call on a unit that is there or not, and is no opening
+-- a call that is not an opening, on a unit that may or may not exist
 pub refused_call : (b : Content) (w : World) (c : Call) (u : Name) (r : Refused) → Holds b w → unit_named c.request ≡ Some u
     → is_opening c.request ≡ false → IsVerdictOn (history w u) c (IsRefused r) → IsAnswered w c (Err r) (λ m. m ≡ b)
 refused_call b w c u r h named plain v =
@@ -205,7 +205,7 @@ pub leaves : (w : World) (c : Call) (a : Said) (b : Content) (left : Content →
 leaves w c a b left legal matrix s h =
     record { answered = s.answered; after = s.after; left_it = subst left (sym s.left_it) h; holds = s.holds; legal = next_legal w c legal matrix }
 
--- a unit that accepts a change is there, so any changes may be made to its rows
+-- a unit that accepts a change exists, so any changes may be made to its rows
 pub known_call : (b : Content) (w : World) (c : Call) (u : Name) (reply : Reply) (cs left : List RowEdit) → Holds b w → is_read c.request ≡ false
     → IsVerdictOn (history w u) c (IsAccepted reply cs) → IsKnownTo b u left
 known_call b w c u reply cs left h read v =
@@ -563,7 +563,7 @@ pub by_outcome : {A : Type 0} (made : Result A Fault) (reply : Reply) (S : Resul
 by_outcome (Ok a) reply S P is ok err = ok a is
 by_outcome (Err e) reply S P is ok err = err e is
 
--- what a call said, as an answer
+-- the result of a call, as an answer
 pub said_if : (r : Result Said Fault) (P : Said → Type 0) → IfOk r P → IfSaid (answer_as r) P
 said_if (Ok (Ok x)) P is = is
 said_if (Ok (Err x)) P is = is

@@ -16,7 +16,7 @@ left_alone old new settled sql params e (inr h) up =
     let was = back.was_open up in
     ((back.undone up).0 ∙ sym (settled was), was)
 
--- an error that says that the store is closed comes only where it is
+-- the error Closed occurs only if the store is closed
 broken : (old new : State) (cause : StoreError) → SqliteFailure code.Closed ≡ store_error cause → HasCause old new ⊥ cause → IsTrue old.is_open → ⊥
 broken old new OutOfMemory e h up = cc
 broken old new Io e h up = cc

@@ -6,7 +6,7 @@ use Rattle.plant_model.proofs.public.PutLaws.{is_some-find}
 use Rattle.plant_statements.proofs.public.Writes.{PutsNew, put_applies}
 use Rattle.plant_types.specs.KeyedRows.{row_at}
 
--- a row that is found by its key is there, and no key that is there is passed over
+-- a row that is found by its key exists, and no existing key is passed over
 same_some : {X : Type 0} (o : Option (Bor X)) → is_some o ≡ is_some (option_copied o)
 same_some None = refl
 same_some (Some x) = refl

@@ -1,4 +1,5 @@
--- What a join of grants with another table shows: each row of a unit there, beside each grant of the person in the unit.
+-- What a join of grants with another table returns: each row of a unit there, with each grant of the person in the
+-- unit.
 use Rattle.std.specs.{FinMap.{contains_key, contains_key-keys, entries, entries_sorted, get, keys}, List.{AllByRecursion, list_all, list_any}, List.Sorted.{IsStrictlySortedBy}, Ordering.{ordering_then}}
 use Rattle.std.proofs.Common.{◌≡◌, ◌&&◌, ◌||◌, ℕ, Bool, true, false, cond, List, [], ◌∷◌, ◌++◌, drop, map, filter, flat_map, subst, IsPermutation, Option, None, Some, refl, sym, ap, ap₂, ◌∙◌, true≢false, Ordering, Less, Equal, Greater, is_eq, is_gt, is_some, option_and_then, unwrap_or}
 use Rattle.std.proofs.lemmas.{Bool.{and_parts}, Cmp.{tied_itself}, List.{Concat.{flat_map-append}, Sorted.{IsPermutation-map}}}

@@ -1,5 +1,5 @@
--- A third table brought beside the pairs of two by LEFT JOIN: where its key is among the columns that it is joined by,
--- at most one row of it stands beside a pair, so each pair gives one line.
+-- A third table joined to the pairs of two by LEFT JOIN: if its key is among the columns by which it is joined, at most
+-- one row of it meets a pair, so each pair gives one line.
 use Rattle.std.specs.List.{AllByRecursion, list_all}
 use Rattle.std.proofs.Common.{◌≡◌, ℕ, Bool, true, false, true≢false, cond, List, [], ◌∷◌, ◌++◌, ◌&&◌, map, filter, flat_map, refl, sym, ap, ◌∙◌, subst, Equal, IsPermutation, is_eq}
 use Rattle.std.proofs.lemmas.{Bool.{and_from, and_parts}, Cmp.{alike_right}, List.Sorted.{IsPermutation-trans, IsPermutation-map}}
@@ -72,7 +72,7 @@ alone true x = refl
 alone false x = refl
 
 module _ (first second third : ℕ) (on tests project : List Term) (order : List (Term × Key)) (params : Row) (trees : Trees) where
-  -- the rows of the third table beside a pair
+  -- the rows of the third table that meet a pair
   abbrev pub beside : Row → Row → List Row
   beside g u = filter (λ r. list_all (holds (params ∷ g ∷ u ∷ r ∷ [])) on) (trees third)
 

@@ -1,4 +1,4 @@
--- What a statement said, said again by the books.
+-- A statement's result, returned by the books.
 use Rattle.std.proofs.Common.{subst, sym, Err, IfOk, Ok, OnErr, OnOk, Result}
 use Rattle.sqlite.specs.declared.error.Error.{Error}
 use Rattle.plant_store.specs.Counting.{SaysAgain}

@@ -14,12 +14,12 @@ use Rattle.plant_types.specs.Names.{Name, same_name}
 use Rattle.plant_unit.specs.{Additions.{AreKept, decided_or}, Judged.{IsApproved, IsJudgedOwn, decided_row, own_answer}}
 use Rattle.plant_unit.{specs.Readings.{change_whole, has_kind}, proofs.ProposalLaws.{not_rejected}}
 
--- in a legal history all of a change is there
+-- in a legal history nothing of a change is missing
 pub whole_read : {part : UnitPart} (n : ℕ) (e : ChangeEntry) (c : ChangeRow) → AreKept part → Some e ≡ change_found part.rows n
     → Some c ≡ change_whole part.rows e → c ≡ change_read part.rows e
 whole_read {part} n e c kept found is = sym (when_Some (has_kind part.rows e e.kind_no) (change_read part.rows e) c (sym is))
 
--- a decision on a change that is there
+-- a decision on an existing change
 pub refused_change : (o : Option ChangeRow) (c : ChangeRow) → Some c ≡ o
     → (k : ChangeRow → List (Bool × Refused)) (made : ChangeRow → List RowEdit) (x : Refused) → Some x ≡ first_refusal (of_change (Some c) k)
     → Err x ≡ decided_or (first_refusal (of_change o k)) (for_change o made)

@@ -140,7 +140,7 @@ room_for_all es rows k b ek eb room =
     let free : k + length rows ≤ max_events = ltb-false _ _ (sym eb ∙ room) in
     sym (le-ltb _ _ (omega (arith, free, ek, fewer_numbers es rows)))
 
--- what the code finds of a file beside the events that it needs
+-- what the code finds about a file by the events that it needs
 pub counted_at : (es rows kept : List Event) (k n : ℕ) (b : Bool) → IsRising es → kept ≡ needed es rows → k ≡ length es
     → n ≡ length (new_numbers kept rows) → b ≡ nat_lt max_events (k + n) → b ≡ nat_lt max_events (length es + length (new_numbers es rows))
 counted_at es rows kept k n b rises ek el en eb =

@@ -90,7 +90,7 @@ part_kept h part c o some left =
     let known : IsPartOf (Some part) h c = subst (λ x. IsPartOf x h c) some left in
     subst (λ (x : UnitPart). AreKept x) (sym known.0) (part_kept_of h known.1 c.person c.moment c.request)
 
--- a part of a history says whether the caller holds a role
+-- a part of a history states whether the caller holds a role
 pub says_held : (h : List Call) (part : UnitPart) (c : Call) (o : Option UnitPart) → o ≡ Some part → IsPartOf o h c → SaysHeld part c
 unfolding holds_some
 says_held h part c o some left =
@@ -106,7 +106,7 @@ part_seen h part c o some left =
     subst (λ (x : UnitPart). holds_by x.rows.grants c.moment c.person ≡ true → AreEventsFor x c.request (events h)) (sym known.0)
     (part_events h known.1 c)
 
--- a call that is no import is judged alike whatever events are beside its part, unless it lists floods
+-- a call that is not an import is judged alike whatever the unit's events are, unless it lists floods
 judged_at : (part : UnitPart) (es : List Event) (p : Name) (t : ℕ) (q : Request) (v : Verdict) → is_import q ≡ false → AreEventsFor part q es
     → IsJudged (facts_in part) (record { person = p; moment = t; request = q }) v
     → IsJudged (facts_among part es) (record { person = p; moment = t; request = q }) v

@@ -25,7 +25,7 @@ go_on (r ∷ alarms) es rows fresh added late =
     ∙ ap (λ l. of_alarm r.tag (with_events es l)) (sym added.fresh_are) in
     λ i. summary r.latching (own i) ∷ go_on alarms es rows fresh added late i
 
--- the new events in rising number name the same alarms, and leave the same events
+-- the new events, ordered by number, name the same alarms and leave the same events
 named_rising : (alarms : List AlarmRow) (es rows fresh : List Event) → AreAdded es rows fresh
     → map (has_event_of (with_events [] fresh)) alarms ≡ map (has_event_of fresh) alarms
 named_rising [] es rows fresh added = refl

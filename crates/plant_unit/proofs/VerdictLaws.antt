@@ -47,7 +47,7 @@ read_own f c a reads is =
       none = sym (ap (λ b. if is_ok (own_answer f c.person c.moment c.request) && not b then changes_for f c else []) reads
           ∙ ap (λ b. if b then changes_for f c else []) (and_right (is_ok (own_answer f c.person c.moment c.request)) false refl))
 
--- a change that was decided is made beside that of the unit's row
+-- a change that was decided is made together with that of the unit's row
 done_own : (f : Facts) (c : Call) (d : Result RowEdit Refused) → says f c ≡ Done → is_read c.request ≡ false
     → unit_after f c.moment c.request ≡ record f.unit { last_s = c.moment } → one_change d ≡ own_decision f c.person c.moment c.request
     → IsJudgedOwn f c (done_as (record f.unit { last_s = c.moment }) d)

@@ -226,7 +226,7 @@ fit_more others e fit clash order = fit_from (others ++ e ∷ []) (λ a b h k. b
   by a b (inr h) (inl k) = subst (λ x. Agrees x b) (sym h) (with_old b k)
   by a b (inr h) (inr k) = subst (λ x. Agrees x b) (sym h) (subst (Agrees e) (sym k) (never_itself e))
 
--- a file without fault fits with the events that it is seen beside
+-- a file without fault is consistent with the events with which it is compared
 pub file_fits : (tags : List Name) (now line : ℕ) (others rows : List Event) → is_fit others ≡ true → first_fault tags now line others rows ≡ None
     → is_fit (others ++ rows) ≡ true
 file_fits tags now line others [] fit h = ap is_fit (append-nil others) ∙ fit

@@ -1,4 +1,4 @@
--- What the acceptance of a call says, and that an accepted call's changes turn the rows of the history.
+-- What follows from the acceptance of a call, and that an accepted call's changes turn the rows of the history.
 use Rattle.std.proofs.Common.{option_to_list, Bool, None, Option, Some, cond, map, option_map, unwrap_or, ◌+◌, Err, List, Ok, Result, [], false, max, true, ℕ, ◌∷◌, ◌≡◌, ap, refl, ◌∙◌, is_none, is_ok}
 use Rattle.std.proofs.lemmas.Bool.{and_parts}
 use Rattle.plant_types.specs.{Names.{name_cmp, same_name, Name}, Options.{or_else, when}, Roles.{Pair, same_pair}, declared.role.Role.{Role}}

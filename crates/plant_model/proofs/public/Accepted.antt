@@ -28,7 +28,7 @@ all_off ((false, x) ∷ rest) r e = (refl, all_off rest r e)
 pub unrefused : (h : List Call) (c : Call) → IsEntry h c → AllOff (refusals (facts h) c)
 unrefused h c entry = all_off (refusals (facts h) c) _ (and_parts _ _ entry).0
 
--- a change that is decided is there, and open
+-- a change that is decided exists and is open
 pub open_change : (o : Option ChangeRow) (more : ChangeRow → List (Bool × Refused)) → AllOff (of_change o more)
     → (c : ChangeRow) × (o ≡ Some c) × (not (is_open c.state) ≡ false)
 open_change None more off = absurd (true≢false off.0)
@@ -57,7 +57,7 @@ by_legal P first next (c ∷ b ∷ h) legal =
     let parts = and_parts (not (is_opening c.request)) _ legal.0 in
     next (b ∷ h) c (record { legal = legal.2; plain = parts.0; entry = parts.1; matrix = legal.1 }) (by_legal P first next (b ∷ h) legal.2)
 
--- so for what was said last: it holds where it was said, and stays
+-- the same for the last statement: it holds when it is made, and stays
 pub latest_legal : {A : Type 0} (says : Call → List Call → Option A) (P : List Call → A → Type 0)
     → ((p : Name) (t : ℕ) (u s : Name) (m : Grid) (k : ℕ) → has_matrix (OpenUnit u s m k) ≡ true → (x : A)
     → says (made p t (OpenUnit u s m k)) [] ≡ Some x → P (made p t (OpenUnit u s m k) ∷ []) x)

@@ -48,7 +48,7 @@ now_stands k x until rest =
       | false ↦ λ e. refl
     ] refl
 
--- a row that is made from what is said of its key, and of which one thing is said anew
+-- a row that is made from the statements about its key, after one new statement
 pub said_anew : {K V B X : Type 0} (R : K → K → Ordering) (same : (x y : K) → R x y ≡ Equal → x ≡ y) (row : K → V → B → X) (value : K → V)
     (base : K → Option B) (a : K) (b : B) (v : V) → base a ≡ Some b → (k : K)
     → option_map (row k (cond (eq_by_cmp R k a) v (value k))) (base k) ≡ cond (eq_by_cmp R k a) (Some (row a v b))
@@ -73,7 +73,7 @@ module _ (h : List Call) (p : Name) (t : ℕ) where
   abbrev pub Turns : Request → Type 0
   Turns q = changed_by (changes_for (facts h) (record { person = p; moment = t; request = q })) (rows_of h) ≡ rows_of (with_request q)
 
-  -- Registration of an alarm of which nothing was said before
+  -- Registration of an alarm about which nothing was stated before
   alarm_anew : (a k : Name) (l : Bool) (max : ℕ) → IsUnspoken h a
       → option_map (alarm_as k (unwrap_or (or_else (when (same_name k a) max) (limit h k)) 0) (limit_revision h k) (events_of h k) (outage h k))
       (or_else (when (same_name k a) l) (latching h k)) ≡ cond (same_name k a) (Some (alarm_as a max 0 [] None l)) (alarm_row h k)

@@ -5,7 +5,7 @@ use Rattle.plant_model.specs.{Grants.{is_before, said_of_pair, standing}, Histor
 use Rattle.plant_model.specs.{Laws.{has_no_end}, declared.call.{Call.{Call}, Request.{Request, TheVariants.{Grant, OpenUnit, Withdraw}}}}
 use Rattle.plant_types.specs.{Options.{or_else, when}, Roles.{Pair, same_pair}, declared.role.Role.TheVariants.{Steward}}
 
--- what is said of a pair gives it no end
+-- no statement about a pair gives it an end
 abbrev NoEnd : Option (Said (Option ℕ)) → Type 0
 NoEnd (Some (Begins (Some until))) = ⊥
 NoEnd _ = Unit {0}

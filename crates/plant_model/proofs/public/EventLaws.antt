@@ -17,7 +17,7 @@ use Rattle.plant_floods.specs.Activations.{of_alarm}
 use Rattle.plant_types.specs.{KeyedRows.{IsInOrder, in_order}, Limits.{max_events}, Names.{Name, name_cmp, same_name}, Options.{or_else}}
 use Rattle.plant_types.proofs.public.{KeyedRowLaws.{IsInOrder-rows, row_at-rows, tied}, Orders.{same_names}}
 
--- what the acceptance of an import says of its file
+-- what follows for its file from the acceptance of an import
 abbrev FileAccepted : List Call → ℕ → Result (List Event) BadFile → Type 0
 FileAccepted h t (Err fault) = ⊥
 FileAccepted h t (Ok rows) = (nat_lt max_events (length (events h) + length (new_numbers (events h) rows)) ≡ false)
@@ -75,7 +75,7 @@ none_named tags a (e ∷ rows) known none =
     ∙ parts.0) none) in
     λ i. other i || rest i
 
--- what legality says of the events
+-- what follows for the events from legality
 pub record Kept (h : List Call) : Type 0 where
   pub fit : is_fit (events h) ≡ true
   pub known : (a : Name) → latching h a ≡ None → list_any (is_of a) (events h) ≡ false

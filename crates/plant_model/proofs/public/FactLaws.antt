@@ -67,7 +67,7 @@ priority_in_rows : (h : List Call) (a : Name)
 priority_in_rows h a = ap (option_map (λ (r : RecordEntry). r.cell_no)) (record_entry_in h a)
     ∙ map-map (λ (r : RecordEntry). r.cell_no) record_entry (record_of h a)
 
--- what is never said is counted 0 times
+-- what is never stated is counted 0 times
 pub none_counted : {A : Type 0} (says : Call → List Call → Option A) (h : List Call) → latest says h ≡ None
     → counted (λ c before. is_some (says c before)) h ≡ 0
 none_counted says [] e = refl

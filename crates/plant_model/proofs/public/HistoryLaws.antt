@@ -27,7 +27,7 @@ when_Some false x y e = cc
 pub when_same : {A : Type 0} (a b : Name) (x y : A) → when (same_name a b) x ≡ Some y → a ≡ b
 when_same a b x y e = elim (when_or (same_name a b) x) [ inl none ↦ let no = sym none ∙ e in cc | inr same ↦ same_names a b (tied _ true same refl) ]
 
--- if each entry says something only of keys that it names, then the newest that says something of a key names it
+-- if each entry states something only about keys that it names, then the newest that does so about a key names it
 module _ {A X K : Type 0} (R : K → K → Ordering) (says : Call → List Call → Option A) (read : Option A → Option X) (names : Call → List Call → List K)
     (k : K) where
   abbrev IsNamed : Option X → List K → Type 0
@@ -43,7 +43,7 @@ module _ {A X K : Type 0} (R : K → K → Ordering) (says : Call → List Call 
         | Some x ↦ λ some. elim (each c h x some) [ inl nothing ↦ inl nothing | inr here ↦ inr (both ∙ or_left _ _ here) ]
       ] refl
 
--- what each entry says holds of what the newest says
+-- what holds for each entry's statement holds for the newest
 pub latest-holds : {A : Type 0} (says : Call → List Call → Option A) (P : A → Type 0)
     → ((c : Call) (before : List Call) (x : A) → says c before ≡ Some x → P x) → (h : List Call) (x : A) → latest says h ≡ Some x → P x
 latest-holds says P each [] x e = cc
@@ -112,7 +112,7 @@ tag_is_shelved a p t before (OneShotShelve u b w) v e = one_named name_cmp a b _
 tag_is_shelved a p t before (Unshelve u b) v e = one_named name_cmp a b _ v e
 tag_is_shelved a p t before _ v e = cc
 
--- a shelf that is said of an alarm has its tag
+-- a shelf that is stated about an alarm has its tag
 abbrev HasTag : Name → Said ShelfRow → Type 0
 HasTag a Over = Unit {0}
 HasTag a (Begins s) = s.tag ≡ a

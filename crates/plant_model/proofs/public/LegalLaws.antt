@@ -14,7 +14,7 @@ pub first_entry : (by_admin taken opens : Bool) (c : Call) → is_opening c.requ
 first_entry by_admin taken true c is e = is
 first_entry by_admin taken false c is e = absurd (refused_changes (verdict [] c) c NotGranted (not_granted [] c refl) e)
 
--- and one on a unit that is there is no opening
+-- and one on an existing unit is not an opening
 pub later_entry : (by_admin opens : Bool) (h : List Call) (c : Call) → is_opening c.request ≡ opens
     → changes_history (if opens then opening by_admin true else verdict h c) c ≡ true → may_follow h c ≡ true
 later_entry by_admin true h c is e = absurd (let no : true ≡ false = (opening_changes by_admin true c e).1 in cc)

@@ -270,7 +270,7 @@ module _ (rows : UnitRows) (p : Name) (t : ℕ) where
       ∙ kind_same n c.base c.number c.tag c.kind_no (sheet_read c) (matrix_read rows c.number) (unwrap_or c.max_s 0)
       ∙ sym (ap (outcome (facts_of rows) c.base c.number) kind)
 
-  -- the refusals and the changes of an approval of a change that is there
+  -- the refusals and the changes of an approval of an existing change
   abbrev refusals_by : Facts → ChangeRow → List (Bool × Refused)
   refusals_by f c = (same_name p c.proposer, SamePerson) ∷ kind_refusals f c.base c.kind
 
@@ -428,7 +428,7 @@ module _ (rows : UnitRows) (p : Name) (t : ℕ) where
     by true some = sym (own_roles q ∙ some)
     by false none = sym (own_holds ∙ none)
 
-  -- the verdict from the part, with all events beside it, is the verdict from all rows
+  -- the verdict from the part and all events is the verdict from all rows
   pub part_verdict : (q : Request)
       → verdict_of (facts_among (part_of (asked q) rows) rows.events) (asked q) ≡ verdict_of (facts_of rows) (asked q)
   part_verdict q = by (holds_by rows.grants t p) refl where

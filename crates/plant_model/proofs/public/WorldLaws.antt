@@ -118,7 +118,7 @@ pub clash : {A : Type 0} (b : Bool) → b ≡ true → b ≡ false → A
 clash true t f = cc
 clash false t f = cc
 
--- held, by what was said of the pair
+-- held, by the statements about the pair
 abbrev held_by : ℕ → Option (SaidOf (Option ℕ)) → Bool
 held_by t said = unwrap_or (option_map (is_before t) (still said)) false
 

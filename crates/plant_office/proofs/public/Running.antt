@@ -32,7 +32,7 @@ run-append w cs ds xs ys mid left first second =
       legal = subst IsLegalWorld both.2 second.legal;
     }
 
--- what a served call says and leaves
+-- what a served call returns and leaves
 pub said_as : (v : World) (c : Call) (a : Answer) (new : Content → Type 0) → IfSaid a (λ x. IsServed v c x new) → IfSaid a (λ x. x ≡ answer v c)
 said_as v c (Replied r) new s = s.answered
 said_as v c (WasRefused r) new s = s.answered
