@@ -1,3 +1,6 @@
+//! The two printed lists of a unit's alarms, all of them and the active ones only, and the names of an alarm's state
+//! and of a priority, which the JSON answers use too.
+
 ghost use Rattle.std.specs.Prelude.{◌≡◌, ◌++◌, IfOk};
 ghost use Rattle.plant_types.specs.{Adding.{Adds}, Results.{OnlyMemory}};
 ghost use Rattle.plant_report.specs.{Columns.{line as line_of}, Texts.{alarm_columns, standing_columns}};

@@ -1,3 +1,6 @@
+//! Appends one column to a line of a printed list, padded with spaces to a fixed width where the list is to be read as
+//! a table, or ends the line.
+
 ghost use Rattle.std.specs.Prelude.{◌≡◌, [], ◌∷◌, ◌++◌, ◌-◌, ◌≤◌, length, replicate};
 ghost use Rattle.plant_types.specs.{Adding.{Adds}, Results.{OnlyMemory}};
 ghost use Rattle.plant_report.specs.{Columns.{left, right, line as line_of}, Moments.{moment_text}, declared.columns.TheConstants.{WIDEST}};

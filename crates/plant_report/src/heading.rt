@@ -1,3 +1,6 @@
+//! The first line that the lists of alarms and of shelves share, and an estimate of how much memory a printed list
+//! takes.
+
 ghost use Rattle.std.specs.Prelude.{◌≡◌, ◌++◌};
 ghost use Rattle.plant_types.specs.{Adding.{Adds}, Results.{OnlyMemory}};
 ghost use Rattle.plant_report.specs.Texts.{heading};
