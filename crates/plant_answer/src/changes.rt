@@ -1,3 +1,6 @@
+//! The JSON bodies of a rationalisation record and of a proposed change, with the content that the change proposes: a
+//! record, a matrix or a limit.
+
 ghost use Rattle.std.specs.Prelude.{◌≡◌, ◌++◌, codes, map, option_map, IfOk};
 ghost use Rattle.plant_types.specs.{Adding.{Adds}, Results.{OnlyMemory}};
 ghost use Rattle.plant_report.specs.Moments.{moment_text};

@@ -1,3 +1,6 @@
+//! A small writer of JSON: strings, numbers, truth values and lists, appended to a buffer of bytes. Each write fails
+//! only if memory runs out.
+
 ghost use Rattle.std.specs.{List.{join_with_byte, list_all}, Prelude.{◌≡◌, ◌++◌, option_map, decimal, map, ◌==◌, ◌||◌, not, flat_map}};
 ghost use Rattle.plant_types.specs.{Adding.{Adds}, Results.{OnlyMemory}};
 ghost use Rattle.plant_answer.specs.Json.{after_commas, escaped, listed, quoted, quoted_or_null, truth};

@@ -1,3 +1,6 @@
+//! The names that answers use, such as those of roles, shelved states, kinds of change and faults. They are part of the
+//! interface: clients compare them.
+
 ghost use Rattle.std.specs.Prelude.{◌≡◌};
 ghost use Rattle.plant_answer.specs.Names as spec;
 

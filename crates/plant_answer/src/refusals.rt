@@ -1,3 +1,6 @@
+//! The JSON body and the HTTP status of a refusal. Each refusal has a number and a name, and some carry a value, such
+//! as the limit that was exceeded.
+
 ghost use Rattle.std.specs.Prelude.{◌≡◌, ◌++◌, Some, IfOk};
 ghost use Rattle.plant_types.specs.{Adding.{Adds}, Results.{OnlyMemory}};
 ghost use Rattle.plant_answer.specs.Bodies.{bad_file_object, refusal_value, value_member};
