@@ -1,3 +1,6 @@
+//! Looks up a header field by its name, ignoring ASCII case. A field that comes twice is reported as such, so that no
+//! caller picks one of the values silently.
+
 ghost use Rattle.std.specs.Prelude.{◌≡◌, ◌≤◌, ◌++◌, ◌∷◌, [], ℕ, List, length, map, All};
 ghost use Rattle.httparse.specs.Spans.{header_bytes, IsHeaderWithin};
 ghost use Rattle.plant_head.specs.Fields.{is_named, values_named, IsLookup};

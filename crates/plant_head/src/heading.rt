@@ -1,3 +1,6 @@
+//! Reads a request's head with httparse, within a limit of its length. It distinguishes a head that is not complete yet
+//! from one that is malformed or too long.
+
 ghost use Rattle.std.specs.Prelude.{◌≡◌, ◌≤◌, length};
 ghost use Rattle.plant_head.specs.{Head.{front, IsHeading}, declared.heading.TheConstants.{FIELD_ROOM}};
 ghost use Rattle.plant_types.specs.Results.{OnlyMemory};
