@@ -1,3 +1,6 @@
+//! The table of all routes, as two routers of matchit, one for GET and one for POST, and the look-up of the kind of
+//! call by method and target.
+
 ghost use Rattle.std.specs.{List.{list_all}, Prelude.{◌≡◌, IfOk, OnOk, IsTrue}};
 ghost use Rattle.plant_types.specs.Results.{OnlyMemory};
 ghost use Rattle.plant_route.specs.Routes.{insert, unit_posts, alarm_posts, service_posts, change_posts, alarm_gets, unit_gets, own_gets, post_rows, get_rows, with_routes, route_in, route_of, is_path_byte, is_path};
