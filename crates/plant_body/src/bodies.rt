@@ -1,3 +1,6 @@
+//! Reads the bodies of all requests but proposals: opening a unit, grants and withdrawals, registering an alarm,
+//! shelving, and removal from service.
+
 ghost use Rattle.std.specs.Prelude.{◌≡◌, map};
 ghost use Rattle.serde_json.specs.View.{view};
 ghost use Rattle.plant_body.specs.Bodies.{matrix_from, opening_in, granting_in, withdrawal_in, registration_in, timed_shelving_in, reason_in, read_by};

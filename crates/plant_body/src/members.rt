@@ -1,3 +1,6 @@
+//! Reads single members of a JSON object, each with the limits of its type, and the errors of reading a body: out of
+//! memory, or the body is unfit.
+
 ghost use Rattle.std.specs.Prelude.{◌≡◌, option_map};
 ghost use Rattle.serde_json.specs.View.{view};
 ghost use Rattle.plant_body.specs.Members.{ReadsAs, ReadsAsSeen, or_body, value_of, whole_number, number_at, string_at, truth_at, text_at, seconds_at, base_at, severity_at, role_at, quota_at, end_at, tenure_of};
