@@ -1,3 +1,5 @@
+//! What can be wrong with a malformed request, and how the errors of reading a body become such causes.
+
 ghost use Rattle.std.specs.Prelude.{◌≡◌};
 ghost use Rattle.plant_call.specs.Causes as spec;
 

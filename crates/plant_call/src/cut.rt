@@ -1,3 +1,6 @@
+//! Cuts the first request off a buffer of received bytes. The request may be incomplete, malformed, or such that its
+//! end cannot be determined.
+
 ghost use Rattle.std.specs.Prelude.{◌≡◌, ◌≢◌, ◌⊎◌, ◌<◌, ◌≤◌, ◌++◌, ℕ, List, length};
 ghost use Rattle.httparse.specs.{Grammar.{RequestHead}, Spans.{IsRequestAt, IsRequestWithin}};
 ghost use Rattle.plant_call.specs.Cut.{Shows, IsCutOf, IsLengthOf, WaitsBelow};

@@ -1,3 +1,6 @@
+//! The length of a request's body, from Content-Length. Anything that leaves the length unclear, such as a repeated
+//! field or a Transfer-Encoding, is an error.
+
 ghost use Rattle.std.specs.{Char.{is_ascii_digit}, List.{list_all}, Prelude.{◌≡◌, ◌≤◌, ◌+◌, IfOk, IsTrue, min, map, length, All}};
 ghost use Rattle.std.specs.Str.Parse.{digits_value};
 ghost use Rattle.httparse.specs.Spans.{header_bytes, IsHeaderWithin};

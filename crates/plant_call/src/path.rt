@@ -1,3 +1,6 @@
+//! Reads the segments of a request's path: the unit, the tag of an alarm, the number of a change, and the ends of a
+//! range of time.
+
 ghost use Rattle.std.specs.Prelude.{◌≡◌};
 ghost use Rattle.plant_call.specs.Causes.{ReadsAs};
 ghost use Rattle.plant_call.specs.Path.{until_slash, after_slash, segment, unit_in, tag_in, moment_at, begin_in, until_in, is_change_number, change_number_of, change_number_in};

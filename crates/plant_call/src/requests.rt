@@ -1,3 +1,5 @@
+//! Reads a request whose bytes are complete as a call: who calls, at which moment, and what is asked for.
+
 ghost use Rattle.std.specs.Prelude.{◌≡◌, ◌≤◌, codes, map, length, All, ok_or, Result};
 ghost use Rattle.httparse.specs.Spans.{header_bytes, IsHeaderWithin};
 ghost use Rattle.plant_head.specs.Fields.{values_named};
