@@ -1,3 +1,5 @@
+//! The answers to malformed requests, as constants, so that writing one needs no memory.
+
 ghost use Rattle.std.specs.Prelude.{◌≡◌, IfOk};
 ghost use Rattle.plant_types.specs.Results.{OnlyMemory};
 ghost use Rattle.plant_wire.specs.Causes as spec;

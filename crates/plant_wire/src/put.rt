@@ -1,3 +1,5 @@
+//! Writes a whole text to an outlet that may take only part of it at a time.
+
 ghost use Rattle.std.specs.{Io.KnownBytes.{Appends}, Prelude.{◌≡◌, ◌≤◌, ◌-◌, ◌+◌, ℕ, length, drop, take as first, OnErr, OnOk}};
 
 use crate::streams::{Failed, Outlet};

@@ -1,3 +1,6 @@
+//! The loop of a session: reads bytes, answers all requests that are complete, and keeps the rest for the next read,
+//! until the session ends.
+
 ghost use Rattle.std.specs.Prelude.{◌≡◌, ◌≤◌, length, drop, OnOk};
 ghost use Rattle.plant_books.specs.Books.{WasHonest};
 ghost use Rattle.plant_wire.specs.{Limits.{least_room}, Over.{IsSessionOn, RanOn, ReadsOn, StopsOn}, Session.{IsFewReads, IsIdle}};

@@ -1,3 +1,6 @@
+//! Adapters from the readers and writers of std to the streams of a session. A call that a signal interrupts is
+//! repeated a limited number of times.
+
 ghost use Rattle.std.specs.{Io.{ReadsAtMost, WritesAtMost, KnownBytes.{ReadConsumes, WriteAppends}}, IoError.{error_kind}, Option.{is_some}};
 ghost use Rattle.std.specs.Prelude.{◌≡◌, ◌≢◌, ◌<◌, ◌-◌, ◌^◌, if◌then◌else◌, None, Some, IfErr, IsSome, false, true};
 

@@ -1,3 +1,6 @@
+//! Answers the request at the front of the received bytes, and then all that are complete. An answer is written whole
+//! before the next call is made.
+
 ghost use Rattle.std.specs.Prelude.{◌≡◌, IfErr, List, ℕ};
 ghost use Rattle.plant_books.specs.Books.{WasHonest};
 ghost use Rattle.plant_answer.specs.Answers.{answer_bytes};

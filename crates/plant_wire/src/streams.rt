@@ -1,3 +1,6 @@
+//! The two traits over which a session runs: where its bytes come from and where its answers go. What the traits claim
+//! is what the session's theorem rests on.
+
 ghost use Rattle.std.specs.Io.KnownBytes.{ReadConsumes, WriteAppends};
 ghost use Rattle.std.specs.Prelude.{◌≡◌, ◌≤◌, ◌<◌, ◌+◌, ℕ, List, Bool, Option, length, IfOk, OnErr, OnOk, IsTrue};
 ghost use Rattle.plant_wire.specs.Limits.{least_room};
