@@ -1,3 +1,6 @@
+//! Serves a given number of connections one after the other. A client that breaks its connection costs that connection
+//! only.
+
 ghost use Rattle.std.specs.{Io.KnownBytes.{Appends}, Prelude.{◌≡◌, ◌⊎◌, ◌+◌, ◌<◌, ℕ, suc, Bool, IsTrue, List, [], Some, length, take, IfOk, OnOk, OnErr}};
 ghost use Rattle.plant_books.specs.Books.{WasHonest};
 ghost use Rattle.plant_wire.specs.{Over.{RanOn}, declared.reads.End.{End}};

@@ -1,3 +1,6 @@
+//! The lines that a service writes to its log and its errors: how a connection ended, and which kinds of fault it was
+//! answered. A failed write of such a line is ignored.
+
 ghost use Rattle.std.specs.{Io.KnownBytes.{Appends}, Prelude.{◌≡◌, ℕ, take}};
 ghost use Rattle.plant_connections.specs.Connections as spec;
 

@@ -1,3 +1,6 @@
+//! Serves connections one after the other, as `connections` does, but stops once a failure has shut the store, which
+//! stays shut until the program is started again.
+
 ghost use Rattle.std.specs.Prelude.{◌≡◌, ◌+◌, Err, IsTrue, List, length};
 ghost use Rattle.plant_books.specs.Books.{WasHonest};
 ghost use Rattle.plant_connections.specs.Connections.{AreServedInTurn, AreSeen, Exchange, HaltsAfter};
