@@ -1,3 +1,6 @@
+//! The answer that is being composed for a connection. Its first bytes are allocated before the call is made, so that a
+//! fault can be answered even if memory has run out.
+
 ghost use Rattle.std.specs.Prelude.{◌≡◌, ◌≤◌, ◌<◌, ◌+◌, ◌++◌, [], true, Some, if◌then◌else◌, length, take as first, IfOk, vec_capacity, vec_len};
 ghost use Rattle.plant_lines.specs.Drafts.{least_room_of_answers};
 

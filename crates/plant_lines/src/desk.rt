@@ -1,3 +1,6 @@
+//! What reading and answering need for any connection: the routes, room for the fields of a head, and a read buffer. It
+//! is allocated once, before the first connection.
+
 ghost use Rattle.std.specs.Prelude.{◌≤◌, length};
 ghost use Rattle.plant_wire.specs.Limits.{least_room};
 

@@ -1,3 +1,5 @@
+//! One connection of many: its unread bytes and its unsent answer, and the steps that read, answer and write on it.
+
 ghost use Rattle.std.specs.Prelude.{◌≡◌, ◌≤◌, ◌<◌, [], None, Some, length, drop, false, true, IfSome};
 ghost use Rattle.std.specs.Bool.{OnTrue};
 ghost use Rattle.plant_call.specs.{Cut.{WaitsBelow}, Front.{StandsAtFront, waits}};

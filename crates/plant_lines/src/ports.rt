@@ -1,3 +1,6 @@
+//! The trait between the service and its sockets: what is ready next, and how to accept, read, write and close. The
+//! service's proof rests on what the trait claims.
+
 ghost use Rattle.std.specs.Prelude.{◌≡◌, ◌≢◌, ◌≤◌, [], ◌∷◌, length, true, take as first, List, Option, if◌then◌else◌};
 ghost use Rattle.plant_wire.specs.Limits.{least_room};
 ghost use Rattle.plant_lines.specs.Events.{Event, Logs, opened, closed, reported};

@@ -1,3 +1,6 @@
+//! The service loop over many connections on one thread: does what is ready, and answers at most one request of each
+//! connection per turn, so that none starves the others.
+
 ghost use Rattle.std.specs.Prelude.{◌≡◌, ◌<◌, ℕ, List, Option, Err, IfSome, IsTrue, length, remove, slice_get, Some, true, false};
 ghost use Rattle.std.specs.Bool.{OnTrue};
 ghost use Rattle.plant_books.specs.Books.{WasHonest};
