@@ -1,3 +1,6 @@
+//! One client's socket, with what is known of its readiness and its deadlines, and how it is closed so that the last
+//! answer still arrives.
+
 ghost use Rattle.std.specs.Prelude.{None, ℕ};
 ghost use Rattle.plant_lines.specs.PortSteps.{IsSent, IsTaken};
 

@@ -1,3 +1,6 @@
+//! Whether the limit of open file descriptors allows the wanted number of clients. It is checked at the start, for a
+//! warning.
+
 use libc::types::rlimit;
 use libc::{RLIMIT_NOFILE, getrlimit};
 

@@ -1,3 +1,6 @@
+//! The sockets of a port with epoll: which client goes on next, which deadlines have passed, who is given up while
+//! others wait for a place, and how much memory unread requests may take.
+
 ghost use Rattle.std.specs.Prelude.{None};
 
 use crate::clients::{Client, may_finish};
