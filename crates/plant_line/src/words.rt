@@ -1,3 +1,6 @@
+//! Reads the command line with clap: the administrator, the file, and the port with its options or the migration of an
+//! older file.
+
 ghost use Rattle.std.specs.Prelude.{◌≡◌, [], None, Some, Err, IfOk, IfErr, IfSome, IsSome, List, Option, codes, false, map, ℕ};
 ghost use Rattle.std.specs.Prelude.{option_copied, option_map, string_bytes, unwrap_or};
 ghost use Rattle.plant_line.specs.Lines.{IsLineOf, IsNoLine, IsNoLineOf, IsReadAs, IsServiceOf, IsTaskOf, IsTold, said};
