@@ -1,3 +1,6 @@
+//! The program's command in full: reads the command line, opens the books, serves or migrates, closes the files, and
+//! returns the exit status.
+
 ghost use Rattle.std.specs.{Duration.{as_nanos}, Prelude.{◌≡◌, ◌+◌, ◌*◌, [], List, Result, length, map, option_map}};
 ghost use Rattle.std.specs.Prelude.{Err, IsTrue, OnOk, true, false};
 ghost use Rattle.sqlite_std_file.specs.File.{IsFresh};

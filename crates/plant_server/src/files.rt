@@ -1,4 +1,5 @@
-//! Books that a file keeps.
+//! Opens the books that a file keeps, or creates the file if neither it nor its log exists. A new file is made under
+//! another name and renamed once it is whole, so that a start that is cut off leaves no half file.
 
 ghost use Rattle.std.specs.Prelude.{◌≡◌, false, true, IsTrue, IfErr, IfOk, IfSome};
 ghost use Rattle.sqlite.specs.{Effect.{Database}, Files.{file_state, IsBlankAs, IsOpened}, Start.{FindsIn}};

@@ -1,4 +1,4 @@
-//! The migration of a file of the older schema: its tables are copied to a new file.
+//! The migration of a file of the older schema: its tables are copied to a new file, and the older file is only read.
 
 ghost use Rattle.std.specs.Prelude.{◌≡◌, IfErr, IfOk, IfSome, IsErr, IsSomeAnd, Ok, false};
 ghost use Rattle.sqlite.specs.{Effect.{Database}, Files.{file_state, IsOpened}, Held.{state}, Start.{FindsIn}};

@@ -1,4 +1,4 @@
-//! The engine over the files at a path, with a log that is copied into the file soon.
+//! Opens the database engine over the file at a path and its write-ahead log, with a limit of the log's length.
 
 ghost use Rattle.std.specs.Prelude.{◌≡◌, false, true, IfErr, IfOk, IfSome, IsTrue};
 ghost use Rattle.sqlite.specs.Files.{FailsToOpenFiles, file_state, IsBlankAs, IsCleanLeft, IsOpened, LeavesFiles};

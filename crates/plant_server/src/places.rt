@@ -1,3 +1,5 @@
+//! Names, for clauses only, the path of the files whose contents on opening are given by a `Start`.
+
 ghost use Rattle.std.specs.Prelude.{ℕ, List, []};
 
 use sqlite::Unknown;

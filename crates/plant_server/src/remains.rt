@@ -1,4 +1,5 @@
-//! What serving leaves of the files of books.
+//! Closes the files after serving, with the log copied into the main file, and hands back what is left of them, so that
+//! the command's contract can state what they hold.
 
 ghost use Rattle.std.specs.Prelude.{◌≡◌, IfErr, IfOk, IsTrue, List};
 ghost use Rattle.sqlite.specs.{Files.{file_state}, Held.{AreDatabases, state}, State.{HasCleanDisk, IsLive}};

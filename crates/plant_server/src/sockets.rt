@@ -1,3 +1,5 @@
+//! The port of a service of one connection after the other, with blocking sockets and, if given, a limit of silence.
+
 ghost use Rattle.std.specs.Prelude.{false, if◌then◌else◌};
 ghost use Rattle.plant_connections.specs.Connections.{unseen};
 
