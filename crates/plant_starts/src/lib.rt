@@ -1,4 +1,5 @@
-//! The program over several starts: a contract that stands on an empty body.
+//! A law about any number of starts of the program over one file: together they are one run. It holds no code; the
+//! function has an empty body and carries the contract.
 #![tactic(auto)]
 
 ghost use Rattle.plant_starts.specs.Starts.{StartsAreOneRun};
