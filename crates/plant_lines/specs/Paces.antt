@@ -53,8 +53,8 @@ pub record AreKept (bound : ℕ) (events : List Event) : Type 0 where
   pub steady : AtEachMoment IsSteady events
   pub due : AreDue None events
 
--- whatever happened before, if each connection came so far by it, and if this is given of the last event: with these
--- events more the turns go on from one bound to the other
+-- Whatever happened before, if it led each connection to its stage and `given` is true of the last event: these further
+-- events carry the turns from one bound to the other.
 abbrev pub Keeps : (Option Event → Type 0) → ℕ → ℕ → (ℕ → Stage) → List Event → Type 0
 Keeps given from to stages events = (es : List Event) → given (last_of None es) → ((k : ℕ) → Leads k fresh es (stages k))
     → AreKept from es → AreKept to (es ++ events)
