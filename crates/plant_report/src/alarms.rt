@@ -97,7 +97,7 @@ pub fn state_name(state: AlarmState) -> &'static [u8]
     }
 }
 
-/// The name of a cell of a matrix: a priority, or that no alarm is needed.
+/// The name of a cell of a matrix: a priority, or N if no alarm is needed.
 pub fn cell_name(cell: Cell) -> &'static [u8]
     ensures { result.now ≡ texts.cell_name cell }
 {
