@@ -98,7 +98,7 @@ fn push_limit(out: &mut Vec<u8>, max: Seconds) -> Result<(), Fault>
     Ok(out.push(b'}')?)
 }
 
-/// Adds what is proposed.
+/// Adds the proposed content.
 fn push_content(out: &mut Vec<u8>, kind: &ChangeKind) -> Result<(), Fault>
     ensures value { Adds result out.old.items out.new.items (content_object kind.now) }
     ensures err { OnlyMemory result }
@@ -110,7 +110,7 @@ fn push_content(out: &mut Vec<u8>, kind: &ChangeKind) -> Result<(), Fault>
     }
 }
 
-/// The tag of the alarm that a change is of.
+/// The tag of the alarm that a change concerns; a change of the matrix concerns none.
 fn changed_tag(kind: &ChangeKind) -> Option<&[u8]>
     ensures { option_map (λ t. t.now) result ≡ changed_tag kind.now }
 {

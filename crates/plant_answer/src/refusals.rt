@@ -76,7 +76,7 @@ fn push_bad_file(out: &mut Vec<u8>, fault: &BadFile) -> Result<(), Fault>
     Ok(out.push(b'}')?)
 }
 
-/// Adds the member `value`, where the refusal carries a value.
+/// Adds the member `value`, if the refusal carries one.
 fn push_value(out: &mut Vec<u8>, refused: &Refused) -> Result<(), Fault>
     ensures value { Adds result out.old.items out.new.items
         (value_member (refusal_value refused.now)) }

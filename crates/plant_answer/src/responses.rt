@@ -16,7 +16,7 @@ use std::alloc::Global;
 pub enum Media {
     /// JSON.
     Json,
-    /// Text without a form of its own.
+    /// Plain text.
     Plain,
 }
 
@@ -49,7 +49,7 @@ fn push_status(out: &mut Vec<u8>, status: StatusCode) -> Result<(), Fault>
     Ok(out.extend_from_slice(phrase(status).as_bytes())?)
 }
 
-/// Bytes of room for what stands before a body.
+/// How many bytes are allocated for the status line and the header fields.
 const HEAD_ROOM: usize = 128;
 
 /// The bytes of a whole answer: its status, the type and the length of its body, and the body.
