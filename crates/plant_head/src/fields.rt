@@ -7,7 +7,7 @@ ghost use Rattle.plant_head.specs.Fields.{is_named, values_named, IsLookup};
 
 use httparse::spans::HeaderSpan;
 
-/// The value of a field that may come several times.
+/// The value of a field, which may be missing or come several times.
 #[derive(Clone, Copy, Debug)]
 pub enum Lookup<'b> {
     Missing,
@@ -42,7 +42,7 @@ impl<'b> Lookup<'b> {
     }
 }
 
-/// The value of the field of this name, whatever the case of its letters.
+/// The value of the field with this name, ignoring ASCII case.
 pub fn field<'b>(buf: &'b [u8], headers: &[HeaderSpan], name: &[u8]) -> Lookup<'b>
     requires { All (IsHeaderWithin (length buf.now)) headers.now }
     ensures { IsLookup (values_named name.now (map (header_bytes buf.now) headers.now)) result }
