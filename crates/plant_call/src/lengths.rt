@@ -24,7 +24,7 @@ pub(crate) fn is_numeral(text: &[u8]) -> bool
     !text.is_empty() && has_digits(text)
 }
 
-/// The number, or one more than the limit where it is above that.
+/// The number, or `MAX_BODY + 1` if it is greater, so that it can't overflow.
 #[tactic(auto, using(crate::proofs::Digits::capped_push))]
 pub(crate) fn capped_value(text: &[u8]) -> usize
     requires { IsTrue (list_all is_ascii_digit text.now) }
