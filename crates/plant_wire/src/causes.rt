@@ -8,7 +8,7 @@ use plant_call::Cause;
 use plant_types::Fault;
 use std::alloc::Global;
 
-/// The bytes of the answer to a malformed request, in memory of their own.
+/// The bytes of the answer to a malformed request, in a new vector.
 pub fn render_cause(alloc: Global, cause: Cause) -> Result<Vec<u8>, Fault>
     ensures value { IfOk result (λ text. text.items ≡ spec.cause_text cause) }
     ensures err { OnlyMemory result }
