@@ -122,8 +122,8 @@ fn run_reads<I: Inlet, O: Outlet, B: Books>(
 /// runs out. After each read all whole requests are answered in their order, each answer being written whole before the
 /// next call is made. At most 1,000,000 reads are made, each with room for 65,536 bytes.
 ///
-/// What is written are the answers to the calls in the bytes received, however the reads and the writes are cut. A call
-/// that the office answers by a fault is answered 503, which takes no memory, and the session goes on.
+/// The answers to the calls in the bytes received are written, however the reads and the writes are cut. A call that
+/// the office answers by a fault is answered 503, which takes no memory, and the session goes on.
 pub fn session<I: Inlet, O: Outlet, B: Books>(
     alloc: Global,
     inlet: &mut I,
