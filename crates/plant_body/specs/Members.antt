@@ -104,7 +104,7 @@ abbrev pub ReadsAs : {A : Type 0} → Result A BodyError → Result A Unfit → 
 ReadsAs (Ok x) given = given ≡ Ok x
 ReadsAs (Err e) given = Fails e given
 
--- the same, where the returned value is seen by a view
+-- the same for a returned value that is seen through a view
 abbrev pub ReadsAsSeen : {A B : Type 0} → (A → B) → Result A BodyError → Result B Unfit → Type 0
 ReadsAsSeen view (Ok x) given = given ≡ Ok (view x)
 ReadsAsSeen view (Err e) given = Fails e given
