@@ -19,7 +19,7 @@ unfoldable pub after_slashes : ℕ → List ℕ → List ℕ
 after_slashes zero path = path
 after_slashes (suc n) path = after_slash (after_slashes n path)
 
--- the segment after the nth slash, where the path begins with the first one
+-- the segment after the nth slash; a path begins with the first slash
 abbrev pub segment : ℕ → List ℕ → List ℕ
 segment n path = until_slash (after_slashes n path)
 
