@@ -1,6 +1,6 @@
--- What a session did, by how it ended. `unread` is what the reader has left, where that is known, and `written` what
--- the writer holds; `failed` counts failed reads, `lost` failed writes, `reads` all reads, each before and after.
--- `ended` says whether the input's end was seen.
+-- What a session did, by how it ended. `unread` is what the reader has left, if that is known, and `written` what the
+-- writer holds; `failed` counts failed reads, `lost` failed writes, `reads` all reads, each before and after. `ended`
+-- says whether the input's end was seen.
 use Rattle.std.specs.{Io.KnownBytes.{Consumes, IsAtEnd}, Prelude.{◌≡◌, ◌⊎◌, ◌<◌, ◌≤◌, ◌+◌, ℕ, List, [], ◌++◌, length, Bool, IsTrue, Option}}
 use Rattle.plant_types.specs.Limits.{max_reads}
 use Rattle.plant_model.specs.declared.{call.Call.{Call}, reply.Answer.{Answer}}

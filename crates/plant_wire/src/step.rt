@@ -39,7 +39,7 @@ pub enum Stop {
     Fault,
 }
 
-/// What is left after all whole requests: where it begins, and with fewer bytes than which number it stays incomplete.
+/// What is left after all whole requests: where it begins, and the number of bytes below which it stays incomplete.
 #[derive(Clone, Copy, Debug)]
 pub(crate) enum Rest {
     Waits(usize, usize),
