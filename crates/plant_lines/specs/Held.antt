@@ -26,7 +26,7 @@ pub record IsWithinRound {B : Type 0} (b : Ghosts B) (x y : B) (s t : Seen) (n m
   pub splits : Splits bound at (numbers ms)
   pub keeps : Keeps Always n bound (λ k. stage_of k n ls) happened.events
 
--- a service so far, after so many turns
+-- a service so far, after this many turns
 pub record IsUnderWay {B : Type 0} (b : Ghosts B) (x y : B) (s t : Seen) (turns n : ℕ) (ls : List Line) : Type 0 where
   pub happened : Happened b x y s t 0 n [] ls
   pub kept : AreKept 0 happened.events

@@ -25,7 +25,7 @@ Splits bound at [] = Unit {0}
 Splits bound zero (n ∷ ns) = (bound ≤ n) × Splits bound zero ns
 Splits bound (suc at) (n ∷ ns) = (n < bound) × Splits bound at ns
 
--- How many calls were made for the connection j since k waits, where the connections from the bound on have had their
+-- How many calls were made for the connection j since k waits, if the connections from the bound on have had their
 -- turn: at most one. None, if j comes after k and neither has had its turn; if k has had its turn, and waits since
 -- then, and j has not; or if j had its turn before k.
 pub record Owes (bound k j n : ℕ) : Type 0 where
