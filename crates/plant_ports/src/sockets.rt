@@ -280,8 +280,8 @@ impl<'a> Sockets<'a> {
         }
     }
 
-    /// Marks the clients that the last wait reported, and queues them. One that can't be queued, for lack of memory, is
-    /// queued when deadlines are looked at next.
+    /// Marks the clients that the last wait reported, and queues them. One that can't be queued, because memory ran
+    /// out, is queued when deadlines are looked at next.
     fn note_events(&mut self) {
         for event in &self.events {
             if event.token() == LISTENER {
