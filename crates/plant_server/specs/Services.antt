@@ -41,8 +41,8 @@ pub record AreInTurn (ran : OfCalls) (lost : Type 0) (service : Service) (n : Ex
   pub status : n ≡ served result
   pub shut : result ≡ Err stopped.Shut → IsTrue service.while_open × lost
 
--- They were served many at once, as many in all as the service asks for, or fewer where the port failed, or where the
--- store shut and the service goes on only while it is open: of what happened at all of them the office's calls are one
+-- They were served many at once: as many in all as the service asks for, or fewer if the port failed, or if the store
+-- has shut and the service goes on only while it is open. Of what happened at all of them the office's calls are one
 -- list, and each was sent the answers to its own requests.
 pub record AreAtOnce (ran : OfCalls) (lost : Type 0) (service : Service) (n : ExitStatus) : Type 0 where
   pub result : Outcome

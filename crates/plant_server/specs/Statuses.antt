@@ -57,7 +57,7 @@ abbrev pub status_of_migration : {A : Type 0} → Result A StoreFault → ExitSt
 status_of_migration (Ok made) = statuses.Done
 status_of_migration (Err e) = statuses.NoBooks
 
--- ---- what is said of it
+-- ---- what is printed about it
 
 -- on the output: the help, or the version, that the words ask for
 abbrev pub help_text : LineError → List ℕ

@@ -29,7 +29,7 @@ pub enum Left<D: Disk, N: Disk> {
     Refused(Connection<FileStore<D>>),
     /// Files that were served and closed, with the log copied into the file.
     Closed(Files<D>),
-    /// Files that were served, where the log could not be copied.
+    /// Files that were served, but whose log could not be copied.
     Unclosed(FileStore<D>),
     /// The older file, if it was opened, and the closed files of the new one, or why there are none.
     Migrated(Option<Connection<FileStore<D>>>, Result<Files<N>, StoreFault>),
