@@ -31,7 +31,7 @@ pub data Event : Type 0 where
   closed : ℕ → End → Event
   reported : Ready → Event
 
--- the connection's number; 0 for what the ports report, which is of all
+-- the connection's number; 0 for what the ports report, which concerns all
 abbrev pub who : Event → ℕ
 who (opened k) = k
 who (came k bytes) = k
@@ -88,7 +88,7 @@ marks_in (failed k trial) = []
 marks_in (closed k end) = []
 marks_in (reported ready) = []
 
--- the text behind which nothing more is answered
+-- the text after which nothing more is answered
 abbrev pub cut_in : Event → List ℕ
 cut_in (opened k) = []
 cut_in (came k bytes) = []

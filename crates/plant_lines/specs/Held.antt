@@ -1,4 +1,4 @@
--- The lines that are held.
+-- The lines of the open connections.
 use Rattle.std.specs.Prelude.{Bool, false, true, ℕ, suc, length, List, [], Option, Some, slice_get, remove, ◌⊎◌, ◌≡◌, ◌≤◌}
 use Rattle.std.specs.declared.io.Write as write
 use Rattle.plant_books.specs.declared.books.Books.{Ghosts}
@@ -33,7 +33,7 @@ pub record IsUnderWay {B : Type 0} (b : Ghosts B) (x y : B) (s t : Seen) (turns 
   pub asked : turns ≤ length (reports happened.events)
 
 -- One turn, from one state of the books, of what is seen and of the lines to another. If `left` is false, it leaves no
--- request that can be answered now, if there was none before. `given` is true of the event before.
+-- request that can be answered now, if there was none before. `given` is assumed of the event before.
 pub record IsTurn {B : Type 0} (given : Option Event → Type 0) (b : Ghosts B) (x y : B) (s t : Seen) (before after : Held)
     (serves left : Bool) : Type 0 where
   pub happened : Happened b x y s t before.count after.count before.lines.items after.lines.items
@@ -55,7 +55,7 @@ pub record IsTurnAt {B : Type 0} (b : Ghosts B) (x y : B) (s t : Seen) (before a
   pub others : (numbers after.lines.items ≡ numbers before.lines.items)
       ⊎ (numbers after.lines.items ≡ remove (numbers before.lines.items) at)
 
--- a turn, where what is seen is what these ports and this log of lines show
+-- a turn, with what these ports and this log of lines show as what is seen
 abbrev pub Turns : {B P W E : Type 0} → (Option Event → Type 0) → Ghosts B → ports.Ghosts P → write.Ghosts W → B → B → P → P
     → Reports W E → Reports W E → Held → Held → Bool → Bool → Type 0
 Turns given b p w x y from to told_before told_after before after serves left =

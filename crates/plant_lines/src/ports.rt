@@ -49,8 +49,7 @@ pub trait Ports {
     ghost seen: { Self → Option (List Event) };
 
     /// What can be done next. It blocks only if `may_wait`, which requires that no line has a request that can be
-    /// answered now: each is without a whole request, or an earlier answer is still to be sent on it. A new connection
-    /// is accepted only if `accepts`.
+    /// answered now. A new connection is accepted only if `accepts`.
     fn next(&mut self, lines: &[Line], accepts: bool, may_wait: bool) -> Ready
         requires prompt { may_wait ≡ true → ArePrompt lines.now }
         ensures { Logs (seen self.old) (seen self.new) (reported result ∷ []) };

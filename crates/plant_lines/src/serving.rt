@@ -300,7 +300,7 @@ fn turn<P: Ports, B: Books, W: Write, E: Write>(
     !all_prompt(&held.lines, held.count)
 }
 
-/// Whether a service that goes on only while its store is open is over.
+/// Whether the service ends now because it goes on only while its store is open, and the store has shut.
 fn is_over<B: Books>(while_open: bool, office: &Office<B>) -> bool
     ensures { IsTrue result → IsTrue while_open × (¬ B.is_honest office.now.books) }
 {
