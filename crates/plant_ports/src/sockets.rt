@@ -112,7 +112,7 @@ pub struct Sockets<'a> {
     now: u64,
     /// When deadlines are looked at next.
     check: u64,
-    /// When a client that gives up its place or its room is looked for next.
+    /// When a client that is to give up its place or its memory is looked for next.
     look: u64,
     /// Whether the last turn accepted first.
     accepts_first: bool,
@@ -299,7 +299,7 @@ impl<'a> Sockets<'a> {
         }
     }
 
-    /// Looks at the clock. If the program was stopped, all deadlines move on.
+    /// Looks at the clock. If the program was suspended, all deadlines move on.
     fn tick(&mut self) -> io::Result<()> {
         let now = millis(self.start.elapsed(self.rt)?);
         let passed = now.saturating_sub(self.now);
