@@ -97,8 +97,8 @@ module _ {D N : Type 0} {g : Ghosts D} where
     pub meanwhile : (w : World) → begins w → w.admin ≡ admin → IsCleanAfter after → LeavesOutcomes store w calls answers
     pub afterwards : (w : World) → begins w → w.admin ≡ admin → IsCleanAfter after → LeavesAfter after w calls answers
 
-  -- No books were opened, for this fault, and the files are as they were. If they were not opened at all, nothing is
-  -- stated of the names of the files, by which they were refused.
+  -- No books were opened, for this fault, and the files are as they were. If they were not even opened, nothing is
+  -- stated about the cause.
   abbrev pub IsRefusal : Place D → List ℕ → Name → StoreFault → Left D N g → Type 0
   IsRefusal place path admin fault left.Nothing = Unit {0}
   IsRefusal place path admin fault (left.Unopened rest) = IsUnopened place path fault rest
