@@ -8,7 +8,7 @@ use Rattle.plant_model.specs.declared.reply.Answer.TheVariants as answer
 use Rattle.plant_model.specs.declared.reply.Refused.TheVariants as refused
 use Rattle.plant_model.specs.declared.reply.Reply.TheVariants as reply
 
--- who may not call at all is answered 403, any other refusal 409
+-- 403 if the caller lacks the right to make the call, 409 for any other refusal
 abbrev pub refusal_status : Refused → ℕ
 refusal_status refused.NotAdministrator = 403
 refusal_status refused.UnitTaken = 409
@@ -39,7 +39,7 @@ refusal_status (refused.BadFile x) = 409
 refusal_status (refused.ShelfQuota x) = 409
 refusal_status refused.EndNotAhead = 409
 
--- a reply is JSON, but for the lists, which are texts
+-- replies are JSON, except the lists, which are plain text
 abbrev pub reply_media : Reply → Media
 reply_media (reply.Shelves unit at lines) = Plain
 reply_media (reply.Standing unit at lines) = Plain

@@ -53,7 +53,7 @@ abbrev pub bad_file_object : BadFile → List ℕ
 bad_file_object fault =
     codes "{\"cause\":" ++ quoted (file_cause_name fault.cause) ++ codes ",\"line\":" ++ decimal fault.line ++ codes "}"
 
--- the value that shows why a call is refused, where the refusal carries one
+-- the value that shows why a call is refused, if the refusal carries one
 abbrev pub refusal_value : Refused → Option (List ℕ)
 refusal_value (RoleLacking role) = Some (quoted (role_name role))
 refusal_value (MomentBehind last) = Some (quoted (moment_text last))

@@ -34,7 +34,7 @@ sheet_object s =
 abbrev pub row_list : List Cell → List ℕ
 row_list row = listed (map (λ cell. quoted (cell_name cell)) row)
 
--- a matrix, as the opening of a unit has it
+-- a matrix, in the form that the opening of a unit takes
 unfoldable pub matrix_object : Grid → List ℕ
 matrix_object matrix =
     codes "{\"bands\":" ++ listed (map decimal matrix.limits)
@@ -45,13 +45,13 @@ matrix_object matrix =
 unfoldable pub limit_object : ℕ → List ℕ
 limit_object max = codes "{\"max\":" ++ decimal max ++ codes "}"
 
--- what is proposed
+-- the proposed content
 abbrev pub content_object : ChangeKind → List ℕ
 content_object (Rationale tag sheet) = sheet_object sheet
 content_object (Matrix matrix) = matrix_object matrix
 content_object (Limit tag max) = limit_object max
 
--- the alarm that the change is of; a change of a matrix is of none
+-- the alarm that the change concerns; a change of the matrix concerns none
 abbrev pub changed_tag : ChangeKind → Option (List ℕ)
 changed_tag (Rationale tag sheet) = Some tag
 changed_tag (Matrix matrix) = None

@@ -1,4 +1,4 @@
--- The names and the numbers that answers use, beside those of states and cells, which stand in texts too.
+-- The names and the numbers that answers use. Those of states and cells, which printed lists use too, are in `Texts`.
 use Rattle.std.specs.Prelude.{ℕ, List, codes}
 use Rattle.plant_types.specs.declared.{fault.Fault.{Fault}, role.Role.{Role, TheVariants.{Viewer, Operator, Maintainer, Engineer, Approver, Steward}}}
 use Rattle.plant_alarm.specs.declared.shelf.ShelfState.{ShelfState, TheVariants.{Unshelved, TimedShelved, OneShotShelved}}
@@ -20,32 +20,32 @@ role_name Engineer = codes "Engineer"
 role_name Approver = codes "Approver"
 role_name Steward = codes "Steward"
 
--- a shelved state, by its name of OPC 10000-9
+-- a shelved state, named as in OPC 10000-9
 abbrev pub shelf_name : ShelfState → List ℕ
 shelf_name Unshelved = codes "Unshelved"
 shelf_name (TimedShelved seconds) = codes "TimedShelved"
 shelf_name (OneShotShelved seconds) = codes "OneShotShelved"
 
--- the seconds that are left of a shelf
+-- how many seconds of a shelf are left
 abbrev pub seconds_left : ShelfState → ℕ
 seconds_left Unshelved = 0
 seconds_left (TimedShelved seconds) = seconds
 seconds_left (OneShotShelved seconds) = seconds
 
--- what a unit has no room for
+-- what a full unit has no room for
 abbrev pub full_name : Full → List ℕ
 full_name full.Alarms = codes "Alarms"
 full_name full.Grants = codes "Grants"
 full_name full.Events = codes "Events"
 full_name full.Changes = codes "Changes"
 
--- what a change is of
+-- the kind of a change
 abbrev pub kind_name : ChangeKind → List ℕ
 kind_name (kind.Rationale tag sheet) = codes "record"
 kind_name (kind.Matrix matrix) = codes "matrix"
 kind_name (kind.Limit tag max) = codes "limit"
 
--- how far a change has come
+-- the state of a change
 abbrev pub change_state_name : ChangeState → List ℕ
 change_state_name Proposed = codes "Proposed"
 change_state_name Approved = codes "Approved"

@@ -1,3 +1,5 @@
+//! The JSON bodies of faults and of most replies; those of a record and of a change stand in `changes`.
+
 ghost use Rattle.std.specs.Prelude.{◌≡◌, ◌++◌, IfOk};
 ghost use Rattle.plant_types.specs.{Adding.{Adds}, Results.{OnlyMemory}};
 ghost use Rattle.plant_answer.specs.{Bodies.{unit_object}, Json.{quoted}};

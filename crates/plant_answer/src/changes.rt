@@ -1,3 +1,6 @@
+//! The JSON bodies of a rationalisation record and of a proposed change, with the content that the change proposes: a
+//! record, a matrix or a limit.
+
 ghost use Rattle.std.specs.Prelude.{◌≡◌, ◌++◌, codes, map, option_map, IfOk};
 ghost use Rattle.plant_types.specs.{Adding.{Adds}, Results.{OnlyMemory}};
 ghost use Rattle.plant_report.specs.Moments.{moment_text};
@@ -95,7 +98,7 @@ fn push_limit(out: &mut Vec<u8>, max: Seconds) -> Result<(), Fault>
     Ok(out.push(b'}')?)
 }
 
-/// Adds what is proposed.
+/// Adds the proposed content.
 fn push_content(out: &mut Vec<u8>, kind: &ChangeKind) -> Result<(), Fault>
     ensures value { Adds result out.old.items out.new.items (content_object kind.now) }
     ensures err { OnlyMemory result }
@@ -107,7 +110,7 @@ fn push_content(out: &mut Vec<u8>, kind: &ChangeKind) -> Result<(), Fault>
     }
 }
 
-/// The tag of the alarm that a change is of.
+/// The tag of the alarm that a change concerns; a change of the matrix concerns none.
 fn changed_tag(kind: &ChangeKind) -> Option<&[u8]>
     ensures { option_map (λ t. t.now) result ≡ changed_tag kind.now }
 {

@@ -1,3 +1,6 @@
+//! A small writer of JSON: strings, numbers, truth values and lists, appended to a buffer of bytes. Each write fails
+//! only if memory runs out.
+
 ghost use Rattle.std.specs.{List.{join_with_byte, list_all}, Prelude.{◌≡◌, ◌++◌, option_map, decimal, map, ◌==◌, ◌||◌, not, flat_map}};
 ghost use Rattle.plant_types.specs.{Adding.{Adds}, Results.{OnlyMemory}};
 ghost use Rattle.plant_answer.specs.Json.{after_commas, escaped, listed, quoted, quoted_or_null, truth};
@@ -5,10 +8,10 @@ ghost use Rattle.plant_answer.specs.Json.{after_commas, escaped, listed, quoted,
 use itoa::Buffer;
 use plant_types::Fault;
 
-/// Bytes of room for an object: most take fewer.
+/// How many bytes are allocated for an object at first; most take fewer.
 pub(crate) const BODY_ROOM: usize = 256;
 
-/// Whether the byte has a backslash before it in a string.
+/// Whether the byte is written with a backslash before it in a string.
 fn is_escaped(b: u8) -> bool
     ensures { result ≡ (b == 34 || b == 92) }
 {
@@ -46,7 +49,7 @@ fn push_all_escaped(out: &mut Vec<u8>, text: &[u8]) -> Result<(), Fault>
     Ok(())
 }
 
-/// Adds a JSON string. Of the text only quotes and backslashes are escaped.
+/// Adds a JSON string. Only quotes and backslashes of the text are escaped.
 #[tactic(auto, unfolding(crate::specs::Json::quoted))]
 pub fn push_quoted(out: &mut Vec<u8>, text: &[u8]) -> Result<(), Fault>
     ensures value { Adds result out.old.items out.new.items (quoted text.now) }
@@ -66,7 +69,7 @@ pub(crate) fn push_decimal(out: &mut Vec<u8>, number: u64) -> Result<(), Fault>
     Ok(out.extend_from_slice(buffer.format(number).as_bytes())?)
 }
 
-/// Adds a number, after some bytes.
+/// Adds the bytes `before`, and then a number.
 pub(crate) fn push_number(out: &mut Vec<u8>, before: &[u8], number: u64) -> Result<(), Fault>
     ensures value { Adds result (out.old.items ++ before.now) out.new.items (decimal number) }
     ensures err { OnlyMemory result }
@@ -75,7 +78,7 @@ pub(crate) fn push_number(out: &mut Vec<u8>, before: &[u8], number: u64) -> Resu
     push_decimal(out, number)
 }
 
-/// Adds a string, after some bytes.
+/// Adds the bytes `before`, and then a string.
 pub(crate) fn push_string(out: &mut Vec<u8>, before: &[u8], text: &[u8]) -> Result<(), Fault>
     ensures value { Adds result (out.old.items ++ before.now) out.new.items (quoted text.now) }
     ensures err { OnlyMemory result }
@@ -84,7 +87,7 @@ pub(crate) fn push_string(out: &mut Vec<u8>, before: &[u8], text: &[u8]) -> Resu
     push_quoted(out, text)
 }
 
-/// Adds a string, or null for none, after some bytes.
+/// Adds the bytes `before`, and then a string, or null for `None`.
 pub(crate) fn push_string_or_null(
     out: &mut Vec<u8>,
     before: &[u8],
@@ -101,7 +104,7 @@ pub(crate) fn push_string_or_null(
     }
 }
 
-/// Adds true or false, after some bytes.
+/// Adds the bytes `before`, and then true or false.
 pub(crate) fn push_truth(out: &mut Vec<u8>, before: &[u8], holds: bool) -> Result<(), Fault>
     ensures value { Adds result (out.old.items ++ before.now) out.new.items (truth holds) }
     ensures err { OnlyMemory result }
@@ -111,13 +114,13 @@ pub(crate) fn push_truth(out: &mut Vec<u8>, before: &[u8], holds: bool) -> Resul
     Ok(out.extend_from_slice(word)?)
 }
 
-/// A value that a list shows.
+/// A value that can be written into a JSON list.
 pub(crate) trait Json: Drop {
     ghost use Rattle.std.specs.Prelude.{ℕ, List};
 
     ghost json: { Self → List ℕ };
 
-    /// Adds the value as it is written.
+    /// Adds the value as JSON.
     fn push(&self, out: &mut Vec<u8>) -> Result<(), Fault>
         ensures value { Adds result out.old.items out.new.items (json self.now) }
         ensures err { OnlyMemory result };

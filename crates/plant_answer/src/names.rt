@@ -1,3 +1,6 @@
+//! The names that answers use, such as those of roles, shelved states, kinds of change and faults. They are part of the
+//! interface: clients compare them.
+
 ghost use Rattle.std.specs.Prelude.{◌≡◌};
 ghost use Rattle.plant_answer.specs.Names as spec;
 
@@ -32,7 +35,7 @@ pub fn shelf_name(shelf: ShelfState) -> &'static [u8]
     }
 }
 
-/// The seconds that are left of a shelf.
+/// How many seconds of a shelf are left.
 pub fn shelf_left(shelf: ShelfState) -> u64
     ensures { result ≡ spec.seconds_left shelf }
 {
@@ -43,7 +46,7 @@ pub fn shelf_left(shelf: ShelfState) -> u64
     }
 }
 
-/// The name of what a unit has no room for.
+/// The name of what a full unit has no room for.
 pub fn full_name(full: Full) -> &'static [u8]
     ensures { result.now ≡ spec.full_name full }
 {
@@ -55,7 +58,7 @@ pub fn full_name(full: Full) -> &'static [u8]
     }
 }
 
-/// The name of what a change is of.
+/// The name of a change's kind.
 pub fn kind_name(kind: &ChangeKind) -> &'static [u8]
     ensures { result.now ≡ spec.kind_name kind.now }
 {
@@ -66,7 +69,7 @@ pub fn kind_name(kind: &ChangeKind) -> &'static [u8]
     }
 }
 
-/// The name of how far a change has come.
+/// The name of a change's state.
 pub fn change_state_name(state: ChangeState) -> &'static [u8]
     ensures { result.now ≡ spec.change_state_name state }
 {
@@ -78,7 +81,7 @@ pub fn change_state_name(state: ChangeState) -> &'static [u8]
     }
 }
 
-/// The name of why a row of a file is faulty.
+/// The name of the cause for which a row of a file is faulty.
 pub fn file_cause_name(cause: Cause) -> &'static [u8]
     ensures { result.now ≡ spec.file_cause_name cause }
 {

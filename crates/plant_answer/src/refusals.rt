@@ -1,3 +1,6 @@
+//! The JSON body and the HTTP status of a refusal. Each refusal has a number and a name, and some carry a value, such
+//! as the limit that was exceeded.
+
 ghost use Rattle.std.specs.Prelude.{◌≡◌, ◌++◌, Some, IfOk};
 ghost use Rattle.plant_types.specs.{Adding.{Adds}, Results.{OnlyMemory}};
 ghost use Rattle.plant_answer.specs.Bodies.{bad_file_object, refusal_value, value_member};
@@ -73,7 +76,7 @@ fn push_bad_file(out: &mut Vec<u8>, fault: &BadFile) -> Result<(), Fault>
     Ok(out.push(b'}')?)
 }
 
-/// Adds the member `value`, where the refusal carries a value.
+/// Adds the member `value`, if the refusal carries one.
 fn push_value(out: &mut Vec<u8>, refused: &Refused) -> Result<(), Fault>
     ensures value { Adds result out.old.items out.new.items
         (value_member (refusal_value refused.now)) }

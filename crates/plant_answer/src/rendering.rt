@@ -1,3 +1,5 @@
+//! From an answer of the office to the bytes that are sent: picks the status, the media type and the body.
+
 ghost use Rattle.std.specs.Prelude.{◌≡◌, IfOk};
 ghost use Rattle.plant_types.specs.Results.{OnlyMemory};
 ghost use Rattle.plant_answer.specs.Answers.{answer_bytes, reply_media, reply_body};

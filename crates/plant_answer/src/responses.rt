@@ -1,3 +1,5 @@
+//! The HTTP/1.1 frame around a body: the status line, Content-Type and Content-Length.
+
 ghost use Rattle.std.specs.Prelude.{◌≡◌, ◌++◌, IfOk, codes, unwrap_or};
 ghost use Rattle.http.specs.StatusCode.{reason_phrase};
 ghost use Rattle.plant_types.specs.{Adding.{Adds}, Results.{OnlyMemory}};
@@ -14,7 +16,7 @@ use std::alloc::Global;
 pub enum Media {
     /// JSON.
     Json,
-    /// Text without a form of its own.
+    /// Plain text.
     Plain,
 }
 
@@ -47,7 +49,7 @@ fn push_status(out: &mut Vec<u8>, status: StatusCode) -> Result<(), Fault>
     Ok(out.extend_from_slice(phrase(status).as_bytes())?)
 }
 
-/// Bytes of room for what stands before a body.
+/// How many bytes are allocated for the status line and the header fields.
 const HEAD_ROOM: usize = 128;
 
 /// The bytes of a whole answer: its status, the type and the length of its body, and the body.

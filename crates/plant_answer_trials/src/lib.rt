@@ -1,4 +1,4 @@
-//! What is written of answers, as tests alone: texts and answers that no request shows.
+//! Tests of how answers are written: texts and answers that no request shows.
 #![tactic(auto)]
 
 #[cfg(test)]

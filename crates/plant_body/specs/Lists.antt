@@ -9,12 +9,12 @@ abbrev pub before : {A : Type 0} → Option A → Option (List A) → Option (Li
 before None rest = None
 before (Some x) rest = option_map (λ xs. x ∷ xs) rest
 
--- the items, each read the same way; nothing if one of them can't be
+-- the items, each read by the same reader; None if one of them can't be read
 abbrev pub all_of : {A : Type 0} → (Data → Option A) → Items → Option (List A)
 all_of reads no_items = Some []
 all_of reads (item d ds) = before (reads d) (all_of reads ds)
 
--- a cell's name: a priority, or N where no alarm is needed
+-- a cell's name: a priority, or N if no alarm is needed
 abbrev pub cell_named : List ℕ → Option Cell
 cell_named name =
     if bytes_eq name (codes "P1") then Some P1

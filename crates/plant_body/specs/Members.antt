@@ -1,4 +1,4 @@
--- What a body's members say. `read` is serde_json's reader of a `Value`, which takes text.
+-- The values of a body's members. `read` is serde_json's reader of a `Value`, which takes text.
 use Rattle.std.specs.Prelude.{◌≡◌, ℕ, List, Option, Some, None, option_and_then, option_map, is_some, Result, Ok, Err, Bool, ◌&&◌, nat_le, codes, if◌then◌else◌, ok_or, bytes_eq}
 use Rattle.std.specs.Str.{is_utf8}
 use Rattle.plant_types.specs.{Limits.{max_changes, max_quota}, Moment.{moment_of}, Numbers.{is_seconds, is_quota, number_if}, Tenure.{is_tenure}}
@@ -7,7 +7,7 @@ use Rattle.plant_types.specs.declared.role.Role.TheVariants.{Viewer, Operator, M
 use Rattle.serde_json.specs.{Data.{Data}, Find.{get, as_number, as_u64, as_str, as_bool, as_null}, Read.{read}}
 use Rattle.plant_body.specs.declared.members.{BodyError.{BodyError, TheVariants.{Memory, Because}}, Unfit.{Unfit, TheVariants.{Body}}}
 
--- the value that the bytes are
+-- the JSON value of the bytes
 abbrev pub value_of : List ℕ → Option Data
 value_of bytes = if is_utf8 bytes then read bytes else None
 
@@ -25,7 +25,7 @@ string_at name d = option_and_then as_str (get name d)
 abbrev pub truth_at : List ℕ → Data → Option Bool
 truth_at name d = option_and_then as_bool (get name d)
 
--- a member that is a text of a set of bytes
+-- a member that is a text over a set of bytes
 abbrev pub text_at : (ℕ → Bool) → ℕ → List ℕ → Data → Option (List ℕ)
 text_at admits longest name d = option_and_then (text_of admits longest) (string_at name d)
 
@@ -42,7 +42,7 @@ words_at name d = option_and_then words_of (string_at name d)
 abbrev pub seconds_at : List ℕ → Data → Option ℕ
 seconds_at name d = option_and_then (λ n. number_if (is_seconds n) n) (number_at name d)
 
--- the revision that a proposal is drawn up for: as many changes as a unit has at most
+-- the revision that a proposal is drawn up for, at most the greatest number of changes of a unit
 abbrev pub base_at : List ℕ → Data → Option ℕ
 base_at name d = option_and_then (λ n. number_if (nat_le n max_changes) n) (number_at name d)
 
@@ -50,7 +50,7 @@ base_at name d = option_and_then (λ n. number_if (nat_le n max_changes) n) (num
 abbrev pub severity_at : List ℕ → Data → Option ℕ
 severity_at name d = option_and_then (λ n. number_if (nat_le 1 n && nat_le n 5) n) (number_at name d)
 
--- the role of a name
+-- the role with this name
 abbrev pub role_named : List ℕ → Option Role
 role_named name =
     if bytes_eq name (codes "Viewer") then Some Viewer
@@ -86,7 +86,7 @@ end_at name d = end_in (get name d)
 abbrev pub tenure_of : Role → Option ℕ → Option (Role × Option ℕ)
 tenure_of role until = if is_tenure role until then Some (role, until) else None
 
--- what isn't there makes the body unfit
+-- a missing value makes the body unfit
 abbrev pub or_body : {A : Type 0} → Option A → Result A Unfit
 or_body o = ok_or o Body
 
@@ -104,7 +104,7 @@ abbrev pub ReadsAs : {A : Type 0} → Result A BodyError → Result A Unfit → 
 ReadsAs (Ok x) given = given ≡ Ok x
 ReadsAs (Err e) given = Fails e given
 
--- the same, where the returned value is seen by a view
+-- the same for a returned value that is seen through a view
 abbrev pub ReadsAsSeen : {A B : Type 0} → (A → B) → Result A BodyError → Result B Unfit → Type 0
 ReadsAsSeen view (Ok x) given = given ≡ Ok (view x)
 ReadsAsSeen view (Err e) given = Fails e given

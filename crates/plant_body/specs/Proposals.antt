@@ -16,14 +16,14 @@ sheet_in d = do
   response ← or_body (seconds_at (codes "response") d)
   Ok (record { cause = cause; consequence = consequence; action = action; severity = severity; response = response })
 
--- of the record of an alarm
+-- a proposal for the record of an alarm
 unfoldable pub record_in : Data → Result ChangeKind Unfit
 record_in d = do
   tag ← or_body (tag_at (codes "tag") d)
   sheet ← sheet_in d
   Ok (Rationale tag sheet)
 
--- of the unit's matrix; whether its table is one is looked at last
+-- a proposal for the unit's matrix; that its table is a matrix is checked last
 unfoldable pub matrix_in : Data → Result ChangeKind Unfit
 matrix_in d = do
   limits ← or_body (numbers_at (codes "bands") d)
@@ -31,14 +31,14 @@ matrix_in d = do
   matrix ← matrix_from limits rows
   Ok (Matrix matrix)
 
--- of the limit of an alarm's shelves
+-- a proposal for the limit of an alarm's shelves
 unfoldable pub limit_in : Data → Result ChangeKind Unfit
 limit_in d = do
   tag ← or_body (tag_at (codes "tag") d)
   max ← or_body (seconds_at (codes "max") d)
   Ok (Limit tag max)
 
--- of a change of the named kind
+-- the change of the named kind
 abbrev pub change_in : List ℕ → Data → Result ChangeKind Unfit
 change_in kind d =
     if bytes_eq kind (codes "record") then record_in d
@@ -46,7 +46,7 @@ change_in kind d =
     else if bytes_eq kind (codes "limit") then limit_in d
     else Err Body
 
--- of a proposal: the base stands before the change, so that the faults of a matrix come after all else
+-- a proposal; its base is read before the change, so that a fault of a matrix is reported only if all else is right
 unfoldable pub proposal_in : Data → Result Proposal Unfit
 proposal_in d = do
   name ← or_body (string_at (codes "kind") d)

@@ -1,3 +1,6 @@
+//! Reads the bodies of all requests but proposals: opening a unit, grants and withdrawals, registering an alarm,
+//! shelving, and removal from service.
+
 ghost use Rattle.std.specs.Prelude.{◌≡◌, map};
 ghost use Rattle.serde_json.specs.View.{view};
 ghost use Rattle.plant_body.specs.Bodies.{matrix_from, opening_in, granting_in, withdrawal_in, registration_in, timed_shelving_in, reason_in, read_by};
@@ -119,8 +122,8 @@ fn timed_shelving_in(alloc: Global, value: &Value) -> Result<TimedShelving, Body
     Ok(TimedShelving { seconds, words })
 }
 
-/// The body of the opening of a unit: `steward`, `bands`, `cells`, and maybe `quota` (default 2000).
-/// A table that is not a matrix is reported only if all else is right.
+/// The body of the opening of a unit: `steward`, `bands`, `cells`, and optionally `quota` (default 2000). A table that
+/// is not a matrix is reported only if all else is right.
 pub fn read_opening(alloc: Global, bytes: &[u8]) -> Result<Opening, BodyError>
     ensures { ReadsAs result (read_by opening_in bytes.now) }
 {
@@ -128,7 +131,7 @@ pub fn read_opening(alloc: Global, bytes: &[u8]) -> Result<Opening, BodyError>
     opening_in(alloc, &value)
 }
 
-/// The body of a grant: `person`, `role`, and maybe `end`, which is null or a moment; a steward has no end.
+/// The body of a grant: `person`, `role`, and optionally `end`, which is null or a moment; a steward has no end.
 pub fn read_granting(alloc: Global, bytes: &[u8]) -> Result<Granting, BodyError>
     ensures { ReadsAs result (read_by granting_in bytes.now) }
 {

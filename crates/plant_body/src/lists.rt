@@ -1,3 +1,5 @@
+//! Reads the two members that are lists: the limits between the bands of a matrix, and the rows of its cells.
+
 ghost use Rattle.std.specs.Prelude.{◌≡◌, map};
 ghost use Rattle.serde_json.specs.View.{view, items_view};
 ghost use Rattle.plant_body.specs.{Lists.{all_of, cell_from, row_from, numbers_at, rows_from}, Members.{ReadsAsSeen, or_body, whole_number}};

@@ -1,3 +1,6 @@
+//! Reads single members of a JSON object, each with the limits of its type, and the errors of reading a body: out of
+//! memory, or the body is unfit.
+
 ghost use Rattle.std.specs.Prelude.{◌≡◌, option_map};
 ghost use Rattle.serde_json.specs.View.{view};
 ghost use Rattle.plant_body.specs.Members.{ReadsAs, ReadsAsSeen, or_body, value_of, whole_number, number_at, string_at, truth_at, text_at, seconds_at, base_at, severity_at, role_at, quota_at, end_at, tenure_of};
@@ -12,16 +15,16 @@ use std::alloc::{AllocError, AllocFailed, Global};
 /// Why a body isn't what the call asks for.
 #[derive(Clone, Copy, Debug, PartialEq, Eq)]
 pub enum Unfit {
-    /// It isn't a JSON object with the members of the call, each with a value of its set.
+    /// It is not a JSON object with the members of the call, each with an allowed value.
     Body,
-    /// It is, but its table of cells is not a matrix.
+    /// It is such an object, but its table of cells is not a matrix.
     Matrix(MatrixFault),
 }
 
 /// Why a body gives no value.
 #[derive(Clone, Copy, Debug, PartialEq, Eq)]
 pub enum BodyError {
-    /// A growth was refused.
+    /// Out of memory.
     Memory,
     /// The body is unfit.
     Because(Unfit),
@@ -62,7 +65,7 @@ impl From<Fault> for BodyError {
 
 const BAD: BodyError = BodyError::Because(Unfit::Body);
 
-/// The JSON value that the bytes are.
+/// Parses the bytes as JSON.
 #[tactic(auto, using(crate::proofs::Values::value_found, crate::proofs::Values::value_missing))]
 pub(crate) fn value_in(alloc: Global, bytes: &[u8]) -> Result<Value, BodyError>
     ensures { ReadsAsSeen view result (or_body (value_of bytes.now)) }
@@ -166,7 +169,7 @@ pub(crate) fn role_in(value: &Value, name: &str) -> Result<Role, BodyError>
     string_in(value, name).and_then(role_named).ok_or(BAD)
 }
 
-/// The quota: the greatest one where the member isn't there.
+/// The quota; the greatest one if the member is missing.
 pub(crate) fn quota_in(value: &Value, name: &str) -> Result<Quota, BodyError>
     ensures { ReadsAs result (or_body (quota_at name.now (view value.now))) }
 {
@@ -177,7 +180,7 @@ pub(crate) fn quota_in(value: &Value, name: &str) -> Result<Quota, BodyError>
     given.and_then(Quota::new).ok_or(BAD)
 }
 
-/// The end: none where the member isn't there or is null.
+/// The end of a role; `None` if the member is missing or null.
 pub(crate) fn end_in(value: &Value, name: &str) -> Result<Option<Moment>, BodyError>
     ensures { ReadsAs result (or_body (end_at name.now (view value.now))) }
 {

@@ -1,3 +1,6 @@
+//! Reads the body of a proposal, which is to change an alarm's record, a unit's matrix or the limit of an alarm's
+//! shelves.
+
 ghost use Rattle.std.specs.Prelude.{◌≡◌};
 ghost use Rattle.serde_json.specs.View.{view};
 ghost use Rattle.plant_body.specs.{Bodies.{read_by}, Members.{ReadsAs}, Proposals.{sheet_in, record_in, matrix_in, limit_in, change_in, proposal_in}};

@@ -1,4 +1,4 @@
-//! Refused memory leaves the rows as they were.
+//! A call that runs out of memory leaves the rows as they were.
 
 use crate::fixtures::{code, later, opening, plain, rationale};
 use plant_books::{Books, Plain};
@@ -117,8 +117,7 @@ fn has_kept(books: &mut Plain, unit: &UnitCode, before: &Option<UnitRows>) -> Re
     Ok(is_same)
 }
 
-/// Makes the changes. Where memory is refused, the rows are as before, and the same call is made
-/// again.
+/// Makes the changes. If memory runs out, the rows must be as before, and the same call is made again.
 fn apply_through_faults(
     rt: &(impl Abort + Eprint),
     books: &mut Plain,
@@ -149,7 +148,7 @@ fn change_all(
     apply_through_faults(rt, books, unit, &rationale(rt, alloc)?)
 }
 
-/// How many grants and shelves a unit has, which was opened.
+/// How many grants and shelves an open unit has.
 fn grants_and_shelves(
     rt: &impl Abort,
     books: &mut Plain,

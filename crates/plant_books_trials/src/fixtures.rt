@@ -278,7 +278,7 @@ pub(crate) fn plain(rt: &impl Abort, alloc: Global) -> Result<Plain, Fault> {
     Ok(Plain::new(alloc, person(rt, alloc, b"root")?))
 }
 
-/// Puts changes into a unit's rows. Without memory for it, the test ends.
+/// Puts changes into a unit's rows. If memory runs out, the test ends.
 pub(crate) fn put(
     rt: &impl Abort,
     alloc: Global,

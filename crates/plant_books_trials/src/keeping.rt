@@ -95,7 +95,7 @@ fn changes_the_rows_of_one_unit(rt: HostRuntime) {
     assert!(rt; grants_and_shelves(&rt, alloc, &mut books, b"U2") == (2, 0));
 }
 
-/// The shelf of LT-2 goes.
+/// The shelf of LT-2 is removed.
 fn removal(rt: &impl Abort, alloc: Global) -> Result<List<RowEdit>, Fault> {
     let key = Key::Shelf(tag(rt, alloc, b"LT-2")?);
     let mut changes = List::new(alloc);

@@ -1,4 +1,4 @@
-//! The books in lists, as tests alone: what they keep, what they give a call, and what a fault leaves.
+//! Tests of the books in lists: what they keep, what they give to a call, and what a fault leaves.
 #![tactic(auto)]
 
 #[cfg(test)]

@@ -1,4 +1,4 @@
--- Causes, and steps that may fail by one.
+-- Causes of malformed requests, and steps that may fail with one.
 use Rattle.std.specs.Prelude.{◌≡◌, Result, Ok, Err}
 use Rattle.plant_body.specs.declared.members.{BodyError.{BodyError}, Unfit.{Unfit}}
 use Rattle.plant_call.specs.declared.causes.{CallError.{CallError, TheVariants.{Memory, Because}}, Cause.{Cause}}
@@ -17,7 +17,7 @@ abbrev pub body_error : BodyError → CallError
 body_error body.Memory = Memory
 body_error (body.Because unfit) = Because (body_cause unfit)
 
--- what a body gives, or the cause that it is
+-- what is read from a body, or the cause for which it is unfit
 abbrev pub of_body : {A : Type 0} → Result A Unfit → Result A Cause
 of_body (Ok x) = Ok x
 of_body (Err unfit) = Err (body_cause unfit)

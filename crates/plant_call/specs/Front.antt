@@ -6,12 +6,12 @@ use Rattle.plant_head.specs.{Fields.{fields_of}, Head.{front, BeginsWith, IsHope
 use Rattle.plant_model.specs.declared.call.Call.{Call}
 use Rattle.plant_call.specs.{Lengths.{body_length_in}, Reading.{call_in}, declared.causes.Cause.{Cause, TheVariants.{HeadSyntax, HeadTooLong}}}
 
--- one whole request: a call, or why it is none
+-- one whole request: a call, or why it is not one
 pub data Item : Type 0 where
   asked : Call → Item
   bad : Cause → Item
 
--- what the bytes show: less than a request, a request of so many bytes, or that the stream is broken
+-- what the bytes show: an incomplete request, a whole one with its length in bytes, or that the stream is broken
 pub data Front : Type 0 where
   waits : Front
   whole : Item → ℕ → Front
@@ -39,7 +39,7 @@ module _ (body_length : RequestHead → Result ℕ Cause) (item_of : RequestHead
   Parses bytes [] rest = bytes ≡ rest
   Parses bytes (x ∷ xs) rest = (n : ℕ) × IsFront bytes (whole x n) × Parses (drop n bytes) xs rest
 
-  -- where the items of a stream end: nothing is left, less than a request, or what breaks the stream
+  -- where the items of a stream end: nothing is left, or an incomplete request, or what breaks the stream
   abbrev pub EndsAt : List ℕ → Type 0
   EndsAt rest = (rest ≡ []) ⊎ (IsFront rest waits ⊎ ((cause : Cause) × IsFront rest (broken cause)))
 
@@ -71,6 +71,6 @@ Parsed bytes items rest = Parses body_length item_of bytes items rest
 abbrev pub IsStream : List ℕ → List Item → List ℕ → Type 0
 IsStream bytes items rest = Parsed bytes items rest × EndsAt body_length item_of rest
 
--- somewhere in the stream stands the case that is left open
+-- the case that is left open stands somewhere in the stream
 abbrev pub OpensSomewhere : List ℕ → Type 0
 OpensSomewhere bytes = (items : List Item) × (rest : List ℕ) × Parsed bytes items rest × IsUndecided rest

@@ -1,4 +1,4 @@
--- How long the body is, by the fields.
+-- The length of a request's body, from its header fields.
 use Rattle.std.specs.{Char.{is_ascii_digit}, List.{list_all}}
 use Rattle.std.specs.{Prelude.{ℕ, List, [], ◌∷◌, length, codes, Result, Ok, Err, Bool, ◌&&◌, nat_lt, if◌then◌else◌, not}, Str.Parse.{digits_value}}
 use Rattle.plant_types.specs.Limits.{max_body}
@@ -13,7 +13,7 @@ length_in text =
     if not (is_numeral text) then Err LengthWrong
     else (if nat_lt max_body (digits_value 10 text) then Err BodyTooLong else Ok (digits_value 10 text))
 
--- no field says 0
+-- without the field the length is 0
 abbrev pub length_said : List (List ℕ) → Result ℕ Cause
 length_said [] = Ok 0
 length_said (text ∷ []) = length_in text

@@ -14,12 +14,12 @@ abbrev pub after_slash : List ℕ → List ℕ
 after_slash [] = []
 after_slash (b ∷ rest) = if b == 47 then rest else after_slash rest
 
--- the bytes after so many slashes
+-- the bytes after the first n slashes
 unfoldable pub after_slashes : ℕ → List ℕ → List ℕ
 after_slashes zero path = path
 after_slashes (suc n) path = after_slash (after_slashes n path)
 
--- the segment in its place, counted from the slash that the path begins with
+-- the segment after the nth slash; a path begins with the first slash
 abbrev pub segment : ℕ → List ℕ → List ℕ
 segment n path = until_slash (after_slashes n path)
 

@@ -12,13 +12,13 @@ use Rattle.plant_call.specs.declared.causes.Cause.TheVariants.{NoRoute, BadPerso
 use Rattle.plant_model.specs.declared.call.Request.TheVariants as request
 use Rattle.plant_model.specs.declared.kinds.CallKind.TheVariants as kind
 
--- the one value of the field, a person
+-- the value of the field, which comes once and is a person
 abbrev pub person_said : List (List ℕ) → Result (List ℕ) Cause
 person_said [] = Err BadPerson
 person_said (text ∷ []) = ok_or (person_of text) BadPerson
 person_said (text ∷ other ∷ texts) = Err BadPerson
 
--- the one value of the field, a moment
+-- the value of the field, which comes once and is a moment
 abbrev pub moment_said : List (List ℕ) → Result ℕ Cause
 moment_said [] = Err BadMoment
 moment_said (text ∷ []) = ok_or (moment_of text) BadMoment
@@ -94,7 +94,8 @@ request_in kind.Floods path body = floods_in path
 request_in kind.MyUnits path body = Ok request.MyUnits
 request_in kind.MyShelves path body = Ok request.MyShelves
 
--- the call of a request, or its first cause: the route, the person, the moment, the path, the body
+-- the call of a request, or the first cause for which it is malformed, looked for in this order: the route, the person,
+-- the moment, the path, the body
 unfoldable pub call_in : List ℕ → List ℕ → List NameValue → List ℕ → Result Call Cause
 call_in method target fields body = do
   kind ← ok_or (route_of method target) NoRoute

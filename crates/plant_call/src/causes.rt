@@ -1,3 +1,5 @@
+//! What can be wrong with a malformed request, and how the errors of reading a body become such causes.
+
 ghost use Rattle.std.specs.Prelude.{◌≡◌};
 ghost use Rattle.plant_call.specs.Causes as spec;
 
@@ -6,13 +8,13 @@ use plant_ration::MatrixFault;
 use plant_types::Fault;
 use std::alloc::AllocError;
 
-/// What is wrong with a malformed request. The first five end the session, since it isn't known where the next request
+/// What is wrong with a malformed request. The first five end the session, since it is unknown where the next request
 /// begins.
 #[derive(Clone, Copy, Debug, PartialEq, Eq)]
 pub enum Cause {
     /// What was received can't be the beginning of a head.
     HeadSyntax,
-    /// No head ends within the bytes that may hold one.
+    /// No head ends within the first `MAX_HEAD` bytes.
     HeadTooLong,
     /// Content-Length comes more than once, or isn't a number in digits.
     LengthWrong,
@@ -20,17 +22,17 @@ pub enum Cause {
     BodyTooLong,
     /// There is a Transfer-Encoding.
     Chunked,
-    /// No such method and path.
+    /// There is no such method and path.
     NoRoute,
-    /// X-Person isn't there exactly once with a person.
+    /// X-Person is missing, repeated, or not a person's name.
     BadPerson,
-    /// X-Moment isn't there exactly once with a moment.
+    /// X-Moment is missing, repeated, or not a moment.
     BadMoment,
-    /// A segment of the path is outside its set.
+    /// A segment of the path is not a value of its type.
     BadPath,
     /// The body isn't what the call asks for.
     BadBody,
-    /// The table of cells hasn't the shape of a matrix.
+    /// The table of cells does not have the shape of a matrix.
     MatrixShape,
     /// The limits between its bands don't rise.
     BandsNotRising,
@@ -67,7 +69,7 @@ impl From<Fault> for CallError {
     }
 }
 
-/// The cause that an unfit body is.
+/// The cause for an unfit body.
 pub(crate) fn body_cause(unfit: Unfit) -> Cause
     ensures { result ≡ spec.body_cause unfit }
 {
@@ -79,7 +81,7 @@ pub(crate) fn body_cause(unfit: Unfit) -> Cause
     }
 }
 
-/// The error that a body's error is.
+/// The error of a call for an error of its body.
 pub(crate) fn body_error(error: BodyError) -> CallError
     ensures { result ≡ spec.body_error error }
 {

@@ -1,3 +1,6 @@
+//! Cuts the first request off a buffer of received bytes. The request may be incomplete, malformed, or such that its
+//! end cannot be determined.
+
 ghost use Rattle.std.specs.Prelude.{◌≡◌, ◌≢◌, ◌⊎◌, ◌<◌, ◌≤◌, ◌++◌, ℕ, List, length};
 ghost use Rattle.httparse.specs.{Grammar.{RequestHead}, Spans.{IsRequestAt, IsRequestWithin}};
 ghost use Rattle.plant_call.specs.Cut.{Shows, IsCutOf, IsLengthOf, WaitsBelow};
@@ -16,7 +19,7 @@ use std::alloc::Global;
 /// What stands at the front of a buffer.
 #[derive(Drop)]
 pub enum Cut {
-    /// Less than a request.
+    /// An incomplete request; more bytes may complete it.
     More,
     /// A call, with the number of bytes of its request.
     Call(Call, usize),
@@ -24,16 +27,17 @@ pub enum Cut {
     Malformed(Cause, usize),
     /// The request's end cannot be determined; the stream is unusable.
     Broken(Cause),
-    /// A growth was refused.
+    /// Out of memory.
     Fault,
 }
 
-/// What stands at the front of a buffer, and how many bytes it takes to go on.
+/// What stands at the front of a buffer, and how many bytes there must be before another look is worth it.
 #[derive(Drop)]
 pub struct Look {
     /// What stands there.
     pub cut: Cut,
-    /// The bytes of a request whose head is whole and whose body is not: with fewer it still waits. Else 0.
+    /// If the head is whole and the body is not, the request's length in bytes: with fewer it stays incomplete.
+    /// Otherwise 0.
     pub wanted: usize,
 }
 
@@ -93,8 +97,8 @@ fn look_at(
     }
 }
 
-/// The request at the front of `bytes`, and how many bytes it takes to go on, with routes and room for fields that
-/// were made before.
+/// The request at the front of `bytes`, and how many bytes there must be before another look is worth it, with routes
+/// and space for fields that were made before.
 pub fn look_with(alloc: Global, routes: &Routes, room: &mut FieldRoom, bytes: &[u8]) -> Look
     ensures cut { IsCutOf bytes.now result.cut }
     ensures wanted { WaitsBelow bytes.now result.wanted }
@@ -123,15 +127,15 @@ pub fn look_with(alloc: Global, routes: &Routes, room: &mut FieldRoom, bytes: &[
     }
 }
 
-/// The request at the front of `bytes`, with routes and room for fields that were made before.
+/// The request at the front of `bytes`, with routes and space for fields that were made before.
 pub fn next_call_with(alloc: Global, routes: &Routes, room: &mut FieldRoom, bytes: &[u8]) -> Cut
     ensures { IsCutOf bytes.now result }
 {
     look_with(alloc, routes, room, bytes).cut
 }
 
-/// The request at the front of `bytes`. A malformed request gets the first cause that applies; it waits
-/// until its body is whole, but for the causes by which the end of a request isn't known.
+/// The request at the front of `bytes`. A malformed request gets the first cause that applies, once its body is whole;
+/// a cause that leaves the end of the request unknown is returned at once.
 pub fn next_call(alloc: Global, bytes: &[u8]) -> Cut
     ensures { IsCutOf bytes.now result }
 {
@@ -144,19 +148,19 @@ pub fn next_call(alloc: Global, bytes: &[u8]) -> Cut
     next_call_with(alloc, &routes, &mut room, bytes)
 }
 
-/// Two readings of one front are one, save where no continuation is a head and the target is still being read.
+/// What stands at a front is unique, except if no continuation is a head and the target is still being read.
 pub fn one_reading()
     ensures { (bytes : List ℕ) (f g : Front) → StandsAtFront bytes f → StandsAtFront bytes g
         → (f ≡ g) ⊎ IsUndecided bytes }
 {}
 
-/// Two readings of one stream are one, save where such a front stands in it.
+/// The reading of a stream is unique, except if such a front stands in it.
 pub fn one_stream()
     ensures { (bytes : List ℕ) (xs ys : List Item) (r q : List ℕ) → IsStream bytes xs r
         → IsStream bytes ys q → ((xs ≡ ys) × (r ≡ q)) ⊎ OpensSomewhere bytes }
 {}
 
-/// More bytes don't change what stands at the front, unless it waits for them.
+/// More bytes don't change what stands at the front, unless it is incomplete.
 pub fn cuts_agree()
     ensures { (bytes more : List ℕ) (f : Front) → f ≢ waits → StandsAtFront bytes f
         → StandsAtFront (bytes ++ more) f }

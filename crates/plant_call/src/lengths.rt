@@ -1,3 +1,6 @@
+//! The length of a request's body, from Content-Length. Anything that leaves the length unclear, such as a repeated
+//! field or a Transfer-Encoding, is an error.
+
 ghost use Rattle.std.specs.{Char.{is_ascii_digit}, List.{list_all}, Prelude.{◌≡◌, ◌≤◌, ◌+◌, IfOk, IsTrue, min, map, length, All}};
 ghost use Rattle.std.specs.Str.Parse.{digits_value};
 ghost use Rattle.httparse.specs.Spans.{header_bytes, IsHeaderWithin};
@@ -21,7 +24,7 @@ pub(crate) fn is_numeral(text: &[u8]) -> bool
     !text.is_empty() && has_digits(text)
 }
 
-/// The number, or one more than the limit where it is above that.
+/// The number, or `MAX_BODY + 1` if it is greater, so that it can't overflow.
 #[tactic(auto, using(crate::proofs::Digits::capped_push))]
 pub(crate) fn capped_value(text: &[u8]) -> usize
     requires { IsTrue (list_all is_ascii_digit text.now) }

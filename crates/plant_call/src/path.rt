@@ -1,3 +1,6 @@
+//! Reads the segments of a request's path: the unit, the tag of an alarm, the number of a change, and the ends of a
+//! range of time.
+
 ghost use Rattle.std.specs.Prelude.{◌≡◌};
 ghost use Rattle.plant_call.specs.Causes.{ReadsAs};
 ghost use Rattle.plant_call.specs.Path.{until_slash, after_slash, segment, unit_in, tag_in, moment_at, begin_in, until_in, is_change_number, change_number_of, change_number_in};
@@ -50,14 +53,14 @@ fn moment_at(path: &[u8], n: usize) -> Result<Moment, CallError>
     Moment::read(segment(path, n)).ok_or(CallError::Because(Cause::BadPath))
 }
 
-/// The moment with which the range begins that the path names.
+/// The moment with which the range in the path begins.
 pub(crate) fn begin_in(path: &[u8]) -> Result<Moment, CallError>
     ensures { ReadsAs result (begin_in path.now) }
 {
     moment_at(path, 4)
 }
 
-/// The moment before which the range ends that the path names.
+/// The moment before which the range in the path ends.
 pub(crate) fn until_in(path: &[u8]) -> Result<Moment, CallError>
     ensures { ReadsAs result (until_in path.now) }
 {
@@ -70,7 +73,7 @@ fn is_change_number(text: &[u8]) -> bool
     is_numeral(text) && text.len() <= 5 && text[0] != b'0'
 }
 
-/// The number that the text is: 1 to 5 digits, the first not 0.
+/// The number of a change: 1 to 5 digits, the first not 0.
 #[tactic(auto, using(crate::proofs::Digits::number_told))]
 fn change_number_of(text: &[u8]) -> Option<u32>
     ensures { result ≡ change_number_of text.now }

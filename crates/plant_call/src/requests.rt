@@ -1,3 +1,5 @@
+//! Reads a request whose bytes are complete as a call: who calls, at which moment, and what is asked for.
+
 ghost use Rattle.std.specs.Prelude.{◌≡◌, ◌≤◌, codes, map, length, All, ok_or, Result};
 ghost use Rattle.httparse.specs.Spans.{header_bytes, IsHeaderWithin};
 ghost use Rattle.plant_head.specs.Fields.{values_named};
@@ -24,7 +26,7 @@ use plant_route::Routes;
 use plant_types::{Moment, Person};
 use std::alloc::Global;
 
-/// What a body gives, with the error of a call.
+/// Turns the error of reading a body into that of a call.
 fn of_body<T>(read: Result<T, BodyError>) -> Result<T, CallError>
     ensures { (given : Result T Unfit) → body.ReadsAs read given → ReadsAs result (of_body given) }
 {
@@ -125,7 +127,7 @@ fn timed_shelve(alloc: Global, path: &[u8], body: &[u8]) -> Result<Request, Call
     })
 }
 
-/// A file with a fault is a call as well; the office reports the fault.
+/// A faulty file is a call as well: the office reports the fault.
 #[tactic(auto, unfolding(crate::specs::Reading::request_in))]
 fn import(alloc: Global, path: &[u8], body: &[u8]) -> Result<Request, CallError>
     ensures { ReadsAs result (request_in kind.Import path.now body.now) }

@@ -65,7 +65,7 @@ is_given_up ReadFailed = true
 is_given_up WriteFailed = true
 is_given_up Fault = false
 
--- It is a session over a connection whose client sends `incoming` and was sent `outgoing`; it was given up only where a
+-- It is a session over a connection whose client sends `incoming` and was sent `outgoing`. It was given up only if a
 -- read or a write failed, or a million reads were made, and then `failed` is true.
 pub record IsOver (incoming outgoing : List ℕ) (failed : Bool) (x : Exchange) : Type 0 where
   pub unread : List ℕ
@@ -110,8 +110,8 @@ pub record IsNext (ran : List Call → List Answer → Type 0) (seen : Bool) (tr
   pub made : ran exchange.calls exchange.answers
   pub shown : IsTrue seen → IsSeen traffic k exchange
 
--- the log got a line for each connection, by its number and its end, whole or, where it can't be written, a part from
--- the front
+-- the log got a line for each connection, with its number and its end, whole or, if the write failed, a part from the
+-- front
 abbrev pub AreLines : List End → List ℕ → Type 0
 AreLines [] text = text ≡ []
 AreLines (end ∷ earlier) text = (before : List ℕ) × (part : ℕ) × AreLines earlier before
@@ -128,12 +128,13 @@ pub record AreServedInTurn {B : Type 0} (b : Ghosts B) (before after : B) (log l
   pub made : RanOn b before after (calls_over exchanges) (answers_over exchanges)
   pub told : Tells log (map (λ x. x.end) exchanges) log_after
 
--- all n were served, or fewer where accepting failed; `failed` counts failures of accepting
+-- all n were served, or fewer if accepting failed; `failed` counts failures of accepting
 abbrev pub StopsAfter : ℕ → ℕ → ℕ → ℕ → Result (Unit {0}) Failed → Type 0
 StopsAfter n failed failed_after count (Ok u) = (count ≡ n) × (failed_after ≡ failed)
 StopsAfter n failed failed_after count (Err e) = (count < n) × (failed_after ≡ 1)
 
--- the same of a service that goes on while its store is open: fewer were served also where a failure has shut the store
+-- the same for a service that goes on only while its store is open: fewer were served also if a failure has shut the
+-- store
 abbrev pub HaltsAfter : ℕ → ℕ → ℕ → ℕ → Result (Unit {0}) Stopped → Type 0
 HaltsAfter n failed failed_after count (Ok u) = (count ≡ n) × (failed_after ≡ failed)
 HaltsAfter n failed failed_after count (Err stopped.Failed) = (count < n) × (failed_after ≡ 1)

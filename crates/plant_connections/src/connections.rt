@@ -1,3 +1,6 @@
+//! Serves a given number of connections one after the other. A client that breaks its connection costs that connection
+//! only.
+
 ghost use Rattle.std.specs.{Io.KnownBytes.{Appends}, Prelude.{◌≡◌, ◌⊎◌, ◌+◌, ◌<◌, ℕ, suc, Bool, IsTrue, List, [], Some, length, take, IfOk, OnOk, OnErr}};
 ghost use Rattle.plant_books.specs.Books.{WasHonest};
 ghost use Rattle.plant_wire.specs.{Over.{RanOn}, declared.reads.End.{End}};
@@ -11,7 +14,7 @@ use plant_wire::{End, Failed, Inlet, Outlet, session};
 use std::alloc::{AllocError, Global};
 use std::io::Write;
 
-/// Where connections come from, one after the other. One that failed once fails from then on.
+/// A source of connections, one after the other. After one failure it fails from then on.
 pub trait Listener {
     /// Where a connection's requests come from.
     type Requests: Inlet + Drop;
@@ -25,10 +28,10 @@ pub trait Listener {
     /// How many times accepting failed: never, or once.
     ghost failures: { Self → ℕ };
 
-    /// Whether it shows what comes and what goes over its connections.
+    /// Whether it records what is received and sent over its connections.
     ghost is_seen: { Self → Bool };
 
-    /// What it shows of them.
+    /// What it has recorded.
     ghost traffic: { Self → Traffic };
 
     /// Waits for the next connection.
@@ -46,8 +49,8 @@ pub trait Listener {
         ensures seen { is_seen self.new ≡ is_seen self.old }
         ensures shown { traffic self.new ≡ traffic self.old };
 
-    /// Closes the connection that was accepted last. Where it lingers, its client may still be sending, and is to
-    /// receive what it was answered all the same.
+    /// Closes the connection that was accepted last. If it lingers, its client may still be sending, and must receive
+    /// what it was answered all the same.
     fn close(&mut self, requests: Self::Requests, answers: Self::Answers, lingers: bool)
         ensures counted { accepted self.new ≡ accepted self.old }
         ensures failed { failures self.new ≡ failures self.old }
@@ -61,8 +64,8 @@ pub trait Listener {
         ensures others { (k : ℕ) → suc k < accepted self.old → IsShownAs (traffic self.old) (traffic self.new) k };
 }
 
-/// Whether the client may still be sending after this end: the office ended the session, and not because of a read or a
-/// write.
+/// Whether the client may still be sending after this end: the office ended the session, and not because of a failed
+/// read or write.
 fn may_send(end: End) -> bool {
     match end {
         End::BrokenInput | End::Fault => true,
@@ -70,7 +73,7 @@ fn may_send(end: End) -> bool {
     }
 }
 
-/// One session over the next connection, which is closed after it.
+/// Accepts the next connection, runs one session over it, and closes it.
 pub(crate) fn serve_next<L: Listener, B: Books>(
     alloc: Global,
     listener: &mut L,
@@ -107,7 +110,7 @@ fn line_of(alloc: Global, count: u64, end: End) -> Result<Vec<u8>, AllocError>
     Ok(line)
 }
 
-/// Says how a connection ended. What can't be written is passed over.
+/// Writes to the log how a connection ended. A failed write is ignored.
 pub fn say_end<W: Write>(alloc: Global, log: &mut W, count: u64, end: End)
     ensures { (n : ℕ)
         × Appends (W.contents log.old) (W.contents log.new) (take n (spec.line_of count end)) }
@@ -117,9 +120,9 @@ pub fn say_end<W: Write>(alloc: Global, log: &mut W, count: u64, end: End)
     }
 }
 
-/// Serves so many connections, one after the other, each by a session of its own, and says after each how it ended.
-/// Whatever a client does costs its own connection alone: only where accepting fails are fewer served, and `Failed` is
-/// answered.
+/// Serves `n` connections, one after the other, each by a session of its own, and writes to the log after each how it
+/// ended. Whatever a client does costs its own connection only: fewer are served, and `Failed` is returned, only if
+/// accepting fails.
 pub fn serve_connections<L: Listener, B: Books, W: Write>(
     alloc: Global,
     listener: &mut L,

@@ -1,3 +1,6 @@
+//! The lines that a service writes to its log and its errors: how a connection ended, and which kinds of fault it was
+//! answered. A failed write of such a line is ignored.
+
 ghost use Rattle.std.specs.{Io.KnownBytes.{Appends}, Prelude.{◌≡◌, ℕ, take}};
 ghost use Rattle.plant_connections.specs.Connections as spec;
 
@@ -18,7 +21,7 @@ pub fn end_name(end: End) -> &'static [u8]
     }
 }
 
-/// Writes a text. What can't be written is passed over.
+/// Writes a text. A failed write is ignored.
 pub fn say<W: Write>(writer: &mut W, text: &[u8])
     ensures { (n : ℕ) × Appends (W.contents writer.old) (W.contents writer.new) (take n text.now) }
 {
@@ -43,7 +46,7 @@ fn fault_lines(faults: Faults) -> &'static [u8]
     }
 }
 
-/// Writes a line for each kind of these faults. What can't be written is passed over.
+/// Writes a line for each kind of these faults. A failed write is ignored.
 pub fn say_faults<W: Write>(errors: &mut W, faults: Faults)
     ensures { (n : ℕ) × Appends (W.contents errors.old) (W.contents errors.new)
         (take n (spec.fault_lines faults.memory faults.store)) }

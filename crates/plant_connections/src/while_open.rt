@@ -1,3 +1,6 @@
+//! Serves connections one after the other, as `connections` does, but stops once a failure has shut the store, which
+//! stays shut until the program is started again.
+
 ghost use Rattle.std.specs.Prelude.{◌≡◌, ◌+◌, Err, IsTrue, List, length};
 ghost use Rattle.plant_books.specs.Books.{WasHonest};
 ghost use Rattle.plant_connections.specs.Connections.{AreServedInTurn, AreSeen, Exchange, HaltsAfter};
@@ -8,7 +11,7 @@ use plant_office::{Books, Office};
 use std::alloc::Global;
 use std::io::Write;
 
-/// Why fewer connections were served than were to be, of a service that goes on only while its store is open.
+/// Why a service that goes on only while its store is open served fewer connections than it was asked for.
 #[derive(Clone, Copy, Debug, PartialEq, Eq)]
 pub enum Stopped {
     /// Accepting failed.
@@ -17,9 +20,9 @@ pub enum Stopped {
     Shut,
 }
 
-/// Serves so many connections as `serve_connections` does, but only while the store is open: where a failure has shut
-/// it, the connection is served to its end, and none after it. After each connection it also writes to the errors which
-/// kinds of faults it was answered.
+/// Serves `n` connections as `serve_connections` does, but only while the store is open: if a failure shuts it, the
+/// current connection is served to its end, and none after it. After each connection it also writes to the errors which
+/// kinds of faults the connection was answered.
 pub fn serve_while_open<L: Listener, B: Books, W: Write, E: Write>(
     alloc: Global,
     listener: &mut L,

@@ -48,16 +48,16 @@ abe 11:00:00 POST /units/U1/changes/2/reject
 ste 11:00:00 POST /units/U1/grants {"person":"bob","role":"Viewer"}
 200 {"done":true}"#;
 
-/// What a change is answered that was made.
+/// The answer to a change that was made.
 const DONE: &str = r#"{"done":true}"#;
 
-/// Memory as a disk that stops after so many calls.
+/// Memory as a disk that stops after this many calls.
 fn fused(rt: &(impl Abort + AllocGlobal), calls: u64) -> Fuse<Memory> {
     Fuse::new(Memory::new(rt.alloc()), calls)
 }
 
-/// New books in this database, or its store where they can't be made. In words of any store, as the others here: each
-/// call in those of two files takes the prover long.
+/// New books in this database, or its store if they can't be made. Generic over the store, as the other functions here:
+/// the prover is slow on the concrete one.
 fn made_in<S: Alter + Drop>(
     rt: &(impl Abort + AllocGlobal),
     conn: Connection<S>,
@@ -70,7 +70,7 @@ fn made_in<S: Alter + Drop>(
     }
 }
 
-/// New books on these disks, or what a crash leaves of the files where the disk stops before they are made.
+/// New books on these disks, or what a crash leaves of the files if the disk stops before they are made.
 fn made_on<D: Crash + Drop>(
     rt: &(impl Abort + AllocGlobal),
     log: D,
@@ -113,8 +113,8 @@ fn found_in<D: Crash + Drop>(
     opened_in(rt, conn)
 }
 
-/// How many exchanges at the front were answered as expected, by the bytes that were written. Behind them no change was
-/// confirmed.
+/// How many exchanges from the first on were answered as expected, by the bytes that were written. No change after them
+/// was confirmed.
 fn answered(rt: &(impl Abort + AllocGlobal), wanted: &Exchanges, written: &[u8]) -> usize {
     let mut rest = written;
     let mut count = 0usize;
@@ -132,7 +132,7 @@ fn answered(rt: &(impl Abort + AllocGlobal), wanted: &Exchanges, written: &[u8])
     count
 }
 
-/// Whether the books hold what lists hold after so many of the exchanges.
+/// Whether the books hold what lists hold after this many of the exchanges.
 fn hold_first(
     rt: &(impl Abort + AllocGlobal),
     found: &mut impl Books,
@@ -150,7 +150,7 @@ fn hold_first(
     hold_alike(found, &mut lists, &wanted.units).expect(rt, "rows")
 }
 
-/// One session over these books, with rows at hand: how many exchanges were answered, and the books.
+/// One session over these books, with cached rows: how many exchanges were answered, and the books.
 fn served<B: Books + Drop>(
     rt: &(impl Abort + AllocGlobal),
     wanted: &Exchanges,
@@ -184,7 +184,7 @@ fn check_held<B: Books + Drop>(
     assert!(rt; is_kept || is_ahead, "after {count} answers");
 }
 
-/// Where there are books, they are without a unit.
+/// If there are books, they have no unit.
 fn check_begun<B: Books + Drop>(
     rt: &(impl Abort + AllocGlobal),
     wanted: &Exchanges,
@@ -196,7 +196,7 @@ fn check_begun<B: Books + Drop>(
 }
 
 /// A session over these books, and then a power cut: the next start finds what was answered, or that and the call that
-/// was being served. Gives how many were answered.
+/// was being served. Returns how many exchanges were answered.
 fn serves_and_survives<D: Crash + Drop>(
     rt: &(impl Abort + AllocGlobal),
     wanted: &Exchanges,
@@ -207,8 +207,8 @@ fn serves_and_survives<D: Crash + Drop>(
     count
 }
 
-/// One session on these disks, and then a power cut. Gives how many exchanges were answered; nothing was lost if all
-/// were. Where the books were only begun, the next start finds none or those without a unit.
+/// One session on these disks, and then a power cut. Returns how many exchanges were answered; nothing was lost if all
+/// were. If the books were only begun, the next start finds none or those without a unit.
 fn survives<D: Crash + Drop>(
     rt: &(impl Abort + AllocGlobal),
     wanted: &Exchanges,
@@ -224,7 +224,7 @@ fn survives<D: Crash + Drop>(
     }
 }
 
-/// At how many calls of the log's disk something is cut off: it stops at each in turn, until all exchanges are
+/// At how many calls of the log's disk a session is cut off: the disk stops at each in turn, until all exchanges are
 /// answered.
 fn cut_at_the_log(rt: &(impl Abort + AllocGlobal), wanted: &Exchanges) -> u64 {
     for calls in 0..10_000u64 {
@@ -236,7 +236,7 @@ fn cut_at_the_log(rt: &(impl Abort + AllocGlobal), wanted: &Exchanges) -> u64 {
     rt.panic("no end")
 }
 
-/// The same of the file's disk.
+/// The same for the file's disk.
 fn cut_at_the_file(rt: &(impl Abort + AllocGlobal), wanted: &Exchanges) -> u64 {
     for calls in 0..10_000u64 {
         let count = survives(rt, wanted, fused(rt, u64::MAX), fused(rt, calls));

@@ -1,4 +1,4 @@
-//! Calls over tables in which a statement may take only so many steps.
+//! Calls over tables in which a statement may take only a limited number of steps.
 
 use plant_books::Plain;
 use plant_examples::{
@@ -34,7 +34,7 @@ impl Interruptible for Tables<MemStore> {
     }
 }
 
-/// The bytes of an answer, or nothing where it is a fault of the store.
+/// The bytes of an answer, or `None` if it is a fault of the store.
 fn answered(rt: &(impl Abort + AllocGlobal), answer: &Answer) -> Option<Vec<u8>> {
     if matches!(answer, Answer::Fault(Fault::Store)) {
         return None;
@@ -42,8 +42,8 @@ fn answered(rt: &(impl Abort + AllocGlobal), answer: &Answer) -> Option<Vec<u8>>
     Some(bytes_of(rt.alloc(), answer).expect(rt, "memory"))
 }
 
-/// What a call answers whose statements may each take so many steps, or nothing where that is a fault of the store; and
-/// the books after it, without that limit. The answer is dropped by its own name: at the end of a scope the prover goes
+/// The answer to a call whose statements may each take this many steps, or `None` if it is a fault of the store; and
+/// the books after it, without that limit. The answer is dropped explicitly: at the end of a scope the prover goes
 /// through every kind of answer.
 fn limited<B: Interruptible>(
     rt: &(impl Abort + AllocGlobal),
@@ -119,7 +119,7 @@ fn goes_on<B: Books + Drop>(
     check_rows(&mut ours, &mut books, &wanted.units).expect(rt, "after the call");
 }
 
-/// Whether the call passes with so many steps, answered as expected. Otherwise it is a fault that leaves the rows as
+/// Whether the call passes with this many steps, answered as expected. Otherwise it is a fault that leaves the rows as
 /// they were, and the same call without a limit is then answered as expected and leaves the same rows as over lists.
 fn passes<B: Interruptible>(
     rt: &(impl Abort + AllocGlobal),
@@ -155,7 +155,7 @@ fn steps_of<B: Interruptible>(
     rt.panic("no end")
 }
 
-/// Each changing call of the base office, interrupted at each step: without a step none passes.
+/// Each changing call of the base office, interrupted at each step: with no step at all none passes.
 #[test]
 fn changes_nothing_where_a_call_is_interrupted(rt: HostRuntime) {
     let wanted = Exchanges::of(rt.alloc(), &[BASE, SHELVED]).expect(&rt, "exchanges");
@@ -167,8 +167,8 @@ fn changes_nothing_where_a_call_is_interrupted(rt: HostRuntime) {
     }
 }
 
-/// The books after the call between these marks, which is made with no step, with one, and so on until it is answered as
-/// expected. Each fault leaves the rows as they were, which are those of the lists.
+/// The books after the call between these marks, which is made with no step, with one, and so on until it is answered
+/// as expected. Each fault leaves the rows as they were, which are those of the lists.
 fn after_interruptions<B: Interruptible>(
     rt: &(impl Abort + AllocGlobal),
     mut books: B,

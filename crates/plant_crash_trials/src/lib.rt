@@ -1,5 +1,5 @@
-//! What is left of an office whose store fails it, as tests alone: statements that may take only so many steps, disks on
-//! which a sync fails or that stop at some call, and files that are closed and opened again.
+//! Tests of what is left of an office whose store fails: statements that may take only a limited number of steps, disks
+//! on which a sync fails or that stop at some call, and files that are closed and opened again.
 #![tactic(auto)]
 
 #[cfg(test)]

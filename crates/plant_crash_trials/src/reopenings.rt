@@ -12,7 +12,7 @@ use sqlite::{Alter, Connection, FileStore, Files, Options};
 use sqlite_disk::{Disk, Memory};
 use std::process::Abort;
 
-/// What is asked once the files are open again: the shelf still stands, and can be ended.
+/// The requests once the files are open again: the shelf still stands, and can be ended.
 const GOES_ON: &str =
     r#"ann 10:30:00 POST /units/U1/alarms/PT-101/timed-shelve {"seconds":60,"words":"pump test"}
 409 {"name":"ConditionAlreadyShelved","refused":10}
@@ -39,7 +39,7 @@ fn after_all<B: Books + Drop>(
     after(rt.alloc(), books, requests, answers).expect(rt, title)
 }
 
-/// The same behind rows at hand, none of them at first.
+/// The same with cached rows, none of them at first.
 fn after_all_at_hand<B: Books + Drop>(
     rt: &(impl Abort + AllocGlobal),
     below: B,
@@ -50,8 +50,8 @@ fn after_all_at_hand<B: Books + Drop>(
     after_all(rt, books, texts, title).into_books()
 }
 
-/// The books of an office with the first shelf, kept in this database. In words of any store: each call in those of two
-/// files takes the prover long.
+/// The books of an office with the first shelf, kept in this database. Generic over the store: the prover is slow on
+/// the concrete one.
 fn shelved<S: Alter + Drop>(rt: &(impl Abort + AllocGlobal), conn: Connection<S>) -> Tables<S>
     requires { HasNoTransaction conn }
 {
@@ -77,7 +77,7 @@ fn goes_on<B: Books + Drop>(rt: &(impl Abort + AllocGlobal), books: B) -> B {
     after_all_at_hand(rt, books, &[LOOKED_AT, GOES_ON], "again")
 }
 
-/// The first shelf has ended, with rows at hand and without.
+/// The first shelf has ended, with cached rows and without.
 fn has_ended<B: Books + Drop>(rt: &(impl Abort + AllocGlobal), books: B) {
     let books = after_all_at_hand(rt, books, &[UNSHELVED], "once more");
     drop(after_all(rt, books, &[UNSHELVED], "without rows at hand"));

@@ -15,7 +15,7 @@ use sqlite_disk::{Disk, Memory, Tally};
 use std::io;
 use std::process::Abort;
 
-/// A disk on which so many syncs succeed. The next one fails.
+/// A disk on which this many syncs succeed. The next one fails.
 #[derive(Drop)]
 struct FailingDisk<D: Disk> {
     inner: D,
@@ -152,7 +152,7 @@ fn answered<B: Books>(
     count
 }
 
-/// The same of an office over these books with rows at hand, if there are books.
+/// The same for an office over these books with cached rows, if there are books.
 fn answered_at_hand<B: Books + Drop>(
     rt: &(impl Abort + AllocGlobal),
     below: Option<B>,
@@ -167,8 +167,7 @@ fn answered_at_hand<B: Books + Drop>(
     Some(count)
 }
 
-/// New books in this database, if they can be made. In words of any store: each call in those of two files takes the
-/// prover long.
+/// New books in this database, if they can be made. Generic over the store: the prover is slow on the concrete one.
 fn made_in<S: Alter + Drop>(
     rt: &(impl Abort + AllocGlobal),
     conn: Connection<S>,
@@ -194,7 +193,7 @@ fn made_on<D: Disk + Drop>(
     }
 }
 
-/// The same of an office on these disks, or nothing if too few syncs succeed to make its books.
+/// The same for an office on these disks, or `None` if too few syncs succeed to make its books.
 fn answered_on<D: Disk + Drop>(
     rt: &(impl Abort + AllocGlobal),
     log: D,
@@ -205,8 +204,8 @@ fn answered_on<D: Disk + Drop>(
     answered_at_hand(rt, made_on(rt, log, db), wanted, calls)
 }
 
-/// How many offices answer a fault, where each sync of the log fails in turn until all calls are answered. To make
-/// the books takes nine.
+/// How many offices answer a fault, if each sync of the log fails in turn until all calls are answered. Making the
+/// books takes nine.
 fn faults(rt: &(impl Abort + AllocGlobal), wanted: &Exchanges, calls: &[Call]) -> u32 {
     let mut faults = 0u32;
     for syncs in 9..1000u64 {

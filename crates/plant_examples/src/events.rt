@@ -445,7 +445,8 @@ ann 10:02:00 POST /units/U3/alarms/A-1/timed-shelve {"seconds":60,"words":"x"}
 ann 10:02:00 POST /units/U3/alarms/A-2/timed-shelve {"seconds":60,"words":"x"}
 200 {"done":true}"#;
 
-/// What is read of the floods of 42 activations from ten on: 11, 5, 4, 10 and 12 in each ten minutes.
+/// The requests for the floods of 42 activations from ten on (11, 5, 4, 10 and 12 in each ten minutes), and their
+/// answers.
 pub const FLOODS: &str =
     r#"vic 11:00:00 GET /units/U1/floods/2026-03-01T10:00:00Z/2026-03-01T10:50:00Z
 200 FLOODS U1 FROM 2026-03-01T10:00:00Z TO 2026-03-01T10:50:00Z COUNT 2
@@ -494,7 +495,7 @@ pub const OVERLAPPING: [&str; 3] = [
 > 3,2026-03-01T09:06:00Z,PT-101,ACK"#,
 ];
 
-/// What the file that comes first is answered, and the second, and the third.
+/// The answers to the first file, to the second, and to the third.
 pub const COUNTED: [&str; 3] = [
     r#"200 {"new":2,"repeated":0}"#,
     r#"200 {"new":1,"repeated":1}"#,

@@ -34,7 +34,7 @@ pub const SHELVED: &str =
     r#"ann 10:00:00 POST /units/U1/alarms/PT-101/timed-shelve {"seconds":3600,"words":"pump test"}
 200 {"done":true}"#;
 
-/// What is read of that shelf in its last second and at its end.
+/// The requests for that shelf in its last second and at its end, and their answers.
 pub const LOOKED_AT: &str = r#"ann 10:59:59 GET /units/U1/alarms/PT-101
 200 {"limit":3600,"limit_revision":0,"out_of_service":false,"shelf":"TimedShelved","shelf_left":1,"state":"Normal","suppressed":false,"suppressed_or_shelved":true,"tag":"PT-101"}
 
@@ -329,7 +329,7 @@ U2       FT-7                     one-shot 2026-03-01T12:00:00Z   5401 ann      
 con 12:30:00 GET /shelves
 200 MINE con AT 2026-03-01T12:30:00Z COUNT 0"#;
 
-/// What a grant in a unit with 500 pairs is answered, of a new pair and of one that is there.
+/// The answers to a grant in a unit with 500 pairs: of a new pair and of an existing one.
 pub const GRANTS_FULL: &str = r#"ste 08:00:00 POST /units/U1/grants {"person":"zed","role":"Viewer"}
 409 {"name":"UnitFull","refused":6,"value":"Grants"}
 

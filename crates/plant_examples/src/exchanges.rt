@@ -1,12 +1,12 @@
-//! The notation of the examples. Exchanges are parted by an empty line; each is a line for the request, which is the
-//! caller, the moment (on 2026-03-01 where no day is given), the method, the target and the body, and then the answer,
-//! which is the status and the body. Where the body is a file, its lines stand between the two, each after `> `.
+//! The notation of the examples. Exchanges are separated by an empty line; each is a line for the request, which is the
+//! caller, the moment (on 2026-03-01 if no day is given), the method, the target and the body, and then the answer,
+//! which is the status and the body. If the body is a file, its lines stand between the two, each after `> `.
 
 use crate::failure::Failure;
 use plant_types::UnitCode;
 use std::alloc::Global;
 
-/// How many bytes the requests and their answers have, up to the end of one exchange.
+/// How many bytes the requests and their answers have up to the end of one exchange.
 #[derive(Clone, Copy)]
 pub struct Mark {
     pub asked: usize,
@@ -136,7 +136,7 @@ pub fn add_answer(out: &mut String, answer: &str) -> Result<(), Failure> {
     push_all(out, &["\r\n\r\n", body, feed])
 }
 
-/// The unit that the target of an exchange names, or nothing.
+/// The unit that the target of an exchange names, if any.
 fn unit_of_exchange(exchange: &str) -> &str {
     let target = exchange.split([' ', '\n']).nth(3).unwrap_or("");
     target.split('/').nth(2).unwrap_or("")
@@ -173,7 +173,7 @@ impl Exchanges {
         self.add_unit(unit_of_exchange(exchange))
     }
 
-    /// Marks where the exchange ends that was added last.
+    /// Marks the end of the last exchange.
     fn add_mark(&mut self) -> Result<(), Failure> {
         let mark = Mark {
             asked: self.requests.len(),
@@ -183,7 +183,7 @@ impl Exchanges {
         Ok(())
     }
 
-    /// Adds a unit that is not there yet. A text that is not a unit's code names none.
+    /// Adds a unit if it is not there yet. A text that is not a unit's code is skipped.
     fn add_unit(&mut self, name: &str) -> Result<(), Failure> {
         if let Some(unit) = UnitCode::read(self.alloc, name.as_bytes())? {
             if !self.units.contains(&unit) {

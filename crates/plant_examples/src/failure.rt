@@ -16,7 +16,7 @@ pub enum Failure {
     Ended,
     /// The two keepers hold different rows.
     Rows,
-    /// What was answered is not what is expected.
+    /// The answer is not the expected one.
     Answers { found: String, wanted: String },
 }
 

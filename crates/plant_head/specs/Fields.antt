@@ -10,7 +10,7 @@ NameValue = List ℕ × List ℕ
 abbrev pub fields_of : RequestHead → List NameValue
 fields_of head = map name_and_value head.fields
 
--- the field has this name, but for ASCII case
+-- the field has this name, ignoring ASCII case
 abbrev pub is_named : List ℕ → NameValue → Bool
 is_named name field = str_eq_ignore_ascii_case field.0 name
 
@@ -18,7 +18,7 @@ is_named name field = str_eq_ignore_ascii_case field.0 name
 abbrev pub values_named : List ℕ → List NameValue → List (List ℕ)
 values_named name fields = map (λ field. field.1) (filter (is_named name) fields)
 
--- what `field` answers, at the values of that name
+-- what `field` returns, given the values of the fields of that name
 abbrev pub IsLookup : List (List ℕ) → Lookup → Type 0
 IsLookup values Missing = values ≡ []
 IsLookup values (Once value) = values ≡ value.now ∷ []

@@ -14,16 +14,16 @@ front bytes = take max_head bytes
 abbrev pub BeginsWith : List ℕ → RequestHead → Type 0
 BeginsWith bytes head = (rest : List ℕ) × ReadsRequest (front bytes) head rest
 
--- no bytes can follow that give a head
+-- no continuation of the bytes begins with a head
 abbrev pub IsHopeless : List ℕ → Type 0
 IsHopeless bytes = NeverHasRequest (front bytes)
 
--- there is not a head yet; more bytes can make one, or the request's target is still being read
+-- not a head yet: more bytes can complete one, or the request's target is still being read
 pub record IsUnfinished (bytes : List ℕ) : Type 0 where
   pub none : HasNoRequest (front bytes)
   pub unfinished : MayBecomeRequest (front bytes)
 
--- what `read_head` answers
+-- what `read_head` returns
 abbrev pub IsHeading : List ℕ → List HeaderSpan → Heading → Type 0
 IsHeading bytes headers Waiting = IsUnfinished bytes × (length bytes < max_head)
 IsHeading bytes headers TooLong = IsUnfinished bytes × (max_head ≤ length bytes)

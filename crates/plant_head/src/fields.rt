@@ -1,10 +1,13 @@
+//! Looks up a header field by its name, ignoring ASCII case. A field that comes twice is reported as such, so that no
+//! caller picks one of the values silently.
+
 ghost use Rattle.std.specs.Prelude.{◌≡◌, ◌≤◌, ◌++◌, ◌∷◌, [], ℕ, List, length, map, All};
 ghost use Rattle.httparse.specs.Spans.{header_bytes, IsHeaderWithin};
 ghost use Rattle.plant_head.specs.Fields.{is_named, values_named, IsLookup};
 
 use httparse::spans::HeaderSpan;
 
-/// The value of a field that may come several times.
+/// The value of a field, which may be missing or come several times.
 #[derive(Clone, Copy, Debug)]
 pub enum Lookup<'b> {
     Missing,
@@ -39,7 +42,7 @@ impl<'b> Lookup<'b> {
     }
 }
 
-/// The value of the field of this name, whatever the case of its letters.
+/// The value of the field with this name, ignoring ASCII case.
 pub fn field<'b>(buf: &'b [u8], headers: &[HeaderSpan], name: &[u8]) -> Lookup<'b>
     requires { All (IsHeaderWithin (length buf.now)) headers.now }
     ensures { IsLookup (values_named name.now (map (header_bytes buf.now) headers.now)) result }

@@ -1,3 +1,6 @@
+//! Reads a request's head with httparse, within a limit of its length. It distinguishes a head that is not complete yet
+//! from one that is malformed or too long.
+
 ghost use Rattle.std.specs.Prelude.{◌≡◌, ◌≤◌, length};
 ghost use Rattle.plant_head.specs.{Head.{front, IsHeading}, declared.heading.TheConstants.{FIELD_ROOM}};
 ghost use Rattle.plant_types.specs.Results.{OnlyMemory};
@@ -11,7 +14,7 @@ use std::alloc::Global;
 /// More fields than `MAX_HEAD` bytes can hold, since a field takes three bytes at least.
 const FIELD_ROOM: usize = 5461;
 
-/// Room for the fields of any head, made once and used for one head after another.
+/// Space for the fields of any head, allocated once and used for one head after another.
 #[derive(Drop)]
 pub struct FieldRoom {
     pub spans: Vec<HeaderSpan>,
@@ -19,7 +22,7 @@ pub struct FieldRoom {
 }
 
 impl FieldRoom {
-    /// Empty room.
+    /// Allocates it.
     pub fn new(alloc: Global) -> Result<FieldRoom, Fault>
         ensures { OnlyMemory result }
     {
@@ -29,16 +32,16 @@ impl FieldRoom {
     }
 }
 
-/// What stands at the front of a buffer, as far as the head goes.
+/// What stands at the front of a buffer, up to the end of a head.
 #[derive(Clone, Copy, Debug)]
 pub enum Heading {
-    /// Less than a head.
+    /// An incomplete head; more bytes may complete it.
     Waiting,
-    /// Nothing that can become a head.
+    /// Bytes that cannot become a head.
     Malformed,
-    /// No head ends within the bytes that may hold one.
+    /// No head ends within the first `MAX_HEAD` bytes.
     TooLong,
-    /// A head, with the places of its parts.
+    /// A whole head, with the positions of its parts.
     Whole(RequestSpans),
 }
 
@@ -55,7 +58,7 @@ pub fn front_of(bytes: &[u8]) -> &[u8]
     }
 }
 
-/// Reads the head at the front of `bytes`. Of a whole head the fields are in `room`.
+/// Reads the head at the front of `bytes`. If it is whole, its fields are in `room`.
 pub fn read_head(bytes: &[u8], room: &mut FieldRoom) -> Heading
     ensures { IsHeading bytes.now room.new.spans.items result }
 {

@@ -1,4 +1,4 @@
-//! Events in rising number.
+//! The order of events by their numbers, and what putting them in order costs.
 
 use crate::fixtures::{event, sorted};
 use plant_alarm::{Event, EventKind};
@@ -7,7 +7,7 @@ use plant_types::Sorted;
 use std::alloc::Global;
 use std::process::Abort;
 
-/// The event of a number: PT-101 becomes active, that many seconds after the first moment.
+/// The event with this number: PT-101 becomes active, this many seconds after the first moment.
 pub(crate) fn active(rt: &impl Abort, alloc: Global, number: u64) -> Event {
     event(rt, alloc, number, number, b"PT-101", EventKind::Act)
 }
@@ -59,8 +59,8 @@ pub(crate) fn many_new(rt: &impl Abort, alloc: Global) -> Vec<Event> {
     file
 }
 
-/// Ten thousand rows in falling number between a hundred thousand kept events. A cost of the
-/// product would take minutes.
+/// Ten thousand rows in falling order between a hundred thousand kept events. A cost that grows with the product of the
+/// two would take minutes.
 #[test]
 fn puts_many_events(rt: HostRuntime) {
     let kept = many_kept(&rt, rt.alloc());

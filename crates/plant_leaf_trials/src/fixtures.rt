@@ -25,7 +25,7 @@ pub(crate) fn seconds(rt: &impl Abort, seconds: u64) -> Seconds {
     Seconds::new(seconds).expect(rt, "a length of time")
 }
 
-/// An event of an alarm, that many seconds after the first moment.
+/// An event of an alarm, this many seconds after the first moment.
 pub(crate) fn event(
     rt: &impl Abort,
     alloc: Global,
@@ -42,7 +42,7 @@ pub(crate) fn event(
     }
 }
 
-/// The events, which stand in rising number.
+/// The events, which must be in rising order of their numbers.
 pub(crate) fn sorted(rt: &impl Abort, events: Vec<Event>) -> Sorted<Event> {
     Sorted::from_list(List::from_vec(events)).expect(rt, "events in rising number")
 }

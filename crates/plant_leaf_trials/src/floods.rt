@@ -1,4 +1,4 @@
-//! Floods, and the activations of periods.
+//! Floods of alarms, and how the activations of a period are counted.
 
 use crate::fixtures::{event, moment};
 use plant_alarm::{Event, EventKind};
@@ -23,8 +23,8 @@ const EVENTS: [(u64, &[u8], u64, EventKind); 7] = [
     (7, b"LT-2", 1800, EventKind::Act),
 ];
 
-/// An alarm that annunciates again while it is active is not an activation; after a return it is. Each alarm counts
-/// for itself.
+/// An alarm that annunciates again while it is active is not activated again; after a return it is. Each alarm is
+/// counted separately.
 #[test]
 fn counts_activations_by_periods(rt: HostRuntime) {
     let alloc = rt.alloc();

@@ -1,5 +1,4 @@
-//! The lowest crates, as tests alone: moments, tables, roles and faults; copies of changes; floods; and what import
-//! files add.
+//! Tests of the lowest crates: moments, tables, roles and faults; copies of changes; floods; and what import files add.
 #![tactic(auto)]
 
 #[cfg(test)]

@@ -36,7 +36,7 @@ fn printed(rt: &impl Abort, alloc: Global, proposal: &Proposal) -> String {
     format!(in alloc; "{proposal:?}").expect(rt, "memory")
 }
 
-/// Whether a proposal's copy is printed as the proposal is.
+/// Whether a proposal's copy prints as the proposal does.
 fn is_copied(rt: &impl Abort, alloc: Global, kind: ChangeKind) -> bool {
     let proposal = Proposal { kind, base: 1 };
     let copy = proposal.copy(alloc).expect(rt, "memory");

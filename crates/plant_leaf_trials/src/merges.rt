@@ -29,7 +29,7 @@ fn two_tags(rt: &impl Abort, alloc: Global) -> Sorted<Tag> {
     tags
 }
 
-/// Rows whose numbers do not rise.
+/// Rows whose numbers are not in rising order.
 const ROWS: [Row; 3] = [
     (2, 32700, EventKind::Rtn),
     (1, 32400, EventKind::Act),
@@ -58,8 +58,8 @@ fn many_tags(rt: &impl Abort, alloc: Global) -> Sorted<Tag> {
     tags
 }
 
-/// Ten thousand rows in falling number between a hundred thousand kept events, with two
-/// thousand tags. A cost of the product would take minutes.
+/// Ten thousand rows in falling order between a hundred thousand kept events, with two thousand tags. A cost that grows
+/// with the product of the two would take minutes.
 #[test]
 fn merges_many_rows(rt: HostRuntime) {
     let kept = many_kept(&rt, rt.alloc());

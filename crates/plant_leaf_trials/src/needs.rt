@@ -1,4 +1,4 @@
-//! The kept events that a file is seen beside.
+//! Which of the kept events are needed to check a file.
 
 use crate::fixtures::{event, sorted};
 use plant_alarm::{Event, EventKind};

@@ -1,4 +1,4 @@
-//! Moments, tables, roles, and what is printed of faults and names.
+//! Moments, tables, roles, and the printed forms of faults and names.
 
 use crate::fixtures::tag;
 use plant_types::{Fault, List, Moment, Role};
@@ -21,7 +21,7 @@ const MOMENTS: [(&[u8], u64); 4] = [
     (b"2099-12-31T23:59:59Z", 3_155_759_999),
 ];
 
-/// The text's moment is that of the seconds, and it is written as the text.
+/// The text is read as this moment, and the moment is written as the text.
 fn is_moment(text: &[u8], seconds: u64) -> bool {
     let Some(moment) = Moment::read(text) else {
         return false;

@@ -46,7 +46,7 @@ IsTaskOf old db service (Migrate from to) = (old ≡ Some (string_bytes from)) �
 abbrev pub said : ArgMatches → List ℕ → Option (List ℕ)
 said options name = first_value (found_of options) name
 
--- the value of the option with this name, as `gives` reads its text: none where it was not given
+-- the value of the option with this name, as `gives` reads its text; `None` if it was not given
 pub record IsValueOf {A E : Type 0} (gives : List ℕ → Result A E → Type 0) (options : ArgMatches) (name : List ℕ)
     (value : Option A) : Type 0 where
   pub missing : one_text (found_of options) name ≡ None → value ≡ None
@@ -89,11 +89,11 @@ pub record IsLineOf {E : Type 0} (gives_port gives : List ℕ → Result ℕ E �
 abbrev pub text_rule : List ℕ → Rule
 text_rule name = record (new_rule name) { long = Some name; action = Some Set; value_names = 1 }
 
--- the same with a number from 1 on
+-- the same with a number from 1 to `most`
 abbrev pub number_rule : List ℕ → ℕ → Rule
 number_rule name most = record (text_rule name) { parser = Some (Unsigned 1 most) }
 
--- `--forever`, a flag that has rules on others
+-- `--forever`, a flag with rules about other options
 abbrev pub forever_rule : Rule
 forever_rule = record (new_rule (codes "forever")) { long = Some (codes "forever"); action = Some SetTrue; is_free = false }
 
@@ -115,11 +115,12 @@ with_version app = on_top (λ s. record s { has_version = true }) app
 abbrev pub office : App
 office = with_service (with_files (with_version (new_app (codes "shelfoffice"))))
 
--- these are the options that clap finds in the words
+-- these are the options that clap finds in the command line
 abbrev pub AreOptionsIn : List (List ℕ) → ArgMatches → Type 0
 AreOptionsIn words options = rows_of (found_of options) ≡ matches_of office words
 
--- why these are no line: the administrator's name is not a person's, or an older file is named and no file of the tables
+-- why these options are refused: the administrator's name is not a person's, or an older file is named but no file of
+-- the tables; or memory ran out
 abbrev pub IsNoLineOf : List ℕ → Option (List ℕ) → Option (List ℕ) → LineError → Type 0
 IsNoLineOf name old db NotAPerson = person_of name ≡ None
 IsNoLineOf name old db NoDb = IsSome old × (db ≡ None)
@@ -130,21 +131,21 @@ abbrev pub IsNoLine : ArgMatches → LineError → Type 0
 IsNoLine options error = IsNoLineOf (unwrap_or (said options (codes "admin")) []) (said options (codes "migrate"))
     (said options (codes "db")) error
 
--- The words are refused with this error: by clap, with its text, only where it does not take them.
+-- The command line is refused with this error: by clap, with its text, only if clap does not accept it.
 abbrev pub IsRefusedAs : List (List ℕ) → LineError → Type 0
 IsRefusedAs words (Text text is_error) = takes office words ≡ false
 IsRefusedAs words NotAPerson = (options : ArgMatches) × AreOptionsIn words options × IsNoLine options NotAPerson
 IsRefusedAs words NoDb = (options : ArgMatches) × AreOptionsIn words options × IsNoLine options NoDb
 IsRefusedAs words Memory = Unit {0}
 
--- the words are read as this line, or refused
+-- the command line is read as this line, or refused
 abbrev pub IsReadAs : {E : Type 0} → (List ℕ → Result ℕ E → Type 0) → (List ℕ → Result ℕ E → Type 0) → List (List ℕ)
     → Result Line LineError → Type 0
 IsReadAs gives_port gives words (Ok line) =
     (options : ArgMatches) × AreOptionsIn words options × IsLineOf gives_port gives options line
 IsReadAs gives_port gives words (Err error) = IsRefusedAs words error
 
--- an error of clap is told by its text, but that memory ran out
+-- an error of clap is reported by its text, unless memory ran out
 abbrev pub IsTold : Error → LineError → Type 0
 IsTold error (Text text is_error) = ¬ (kind_of error ≡ OutOfMemory)
 IsTold error NotAPerson = ⊥

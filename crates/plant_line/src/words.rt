@@ -1,3 +1,6 @@
+//! Reads the command line with clap: the administrator, the file, and the port with its options or the migration of an
+//! older file.
+
 ghost use Rattle.std.specs.Prelude.{◌≡◌, [], None, Some, Err, IfOk, IfErr, IfSome, IsSome, List, Option, codes, false, map, ℕ};
 ghost use Rattle.std.specs.Prelude.{option_copied, option_map, string_bytes, unwrap_or};
 ghost use Rattle.plant_line.specs.Lines.{IsLineOf, IsNoLine, IsNoLineOf, IsReadAs, IsServiceOf, IsTaskOf, IsTold, said};
@@ -16,11 +19,11 @@ use std::str::FromStr;
 /// Why the command line is refused.
 #[derive(Drop)]
 pub enum LineError {
-    /// The line is wrong, or asks for help: clap's text, and whether it is an error.
+    /// The line is wrong, or asks for help or the version: clap's text, and whether it is an error.
     Text { text: String, is_error: bool },
     /// The name is not a person's.
     NotAPerson,
-    /// A file is to be migrated, and no file to migrate it to is named.
+    /// A file is to be migrated, but the new file is not named.
     NoDb,
     /// Memory ran out.
     Memory,
@@ -61,9 +64,9 @@ pub struct Service {
 pub enum Task {
     /// It serves the office.
     Serve {
-        /// The file that keeps the tables, or none where memory keeps them.
+        /// The file that keeps the tables, or `None` for tables in memory.
         db: Option<String>,
-        /// The port to serve, or none for one session over the standard streams.
+        /// The port to serve, or `None` for one session over the standard streams.
         service: Option<Service>,
     },
     /// It copies the tables of a file of the older schema to a new file, and serves nothing.
@@ -75,7 +78,7 @@ pub enum Task {
     },
 }
 
-/// What the program's words ask for.
+/// What the program's command line asks for.
 #[derive(Drop)]
 pub struct Line {
     /// The administrator, who alone may open units.
@@ -98,7 +101,7 @@ fn person_of(alloc: Global, name: &[u8]) -> Result<Person, LineError>
     }
 }
 
-/// A copy of the path, if there is one.
+/// A copy of the path, if given.
 fn path_of(alloc: Global, path: Option<&str>) -> Result<Option<String>, LineError>
     ensures copied { IfOk result (λ copy. option_map string_bytes copy ≡ option_copied path.entry) }
     ensures memory { IfErr result (λ e. e ≡ LineError.Memory) }
@@ -139,7 +142,7 @@ const FOREVER_CLIENTS: u64 = 256;
 /// The default of `--idle` with `--forever`, in seconds.
 const FOREVER_IDLE: u64 = 30;
 
-/// How a port is served, from the values of its options; none without a port.
+/// How a port is served, from the values of its options; `None` without a port.
 fn service_from(
     port: Option<u16>,
     connections: Option<u64>,
@@ -211,7 +214,8 @@ fn file_arg<'a>(alloc: Global, name: &'a str, value_name: &'a str, help: &'a str
         .action(ArgAction::Set)
 }
 
-/// Each option is added as it is made: one that waited beside the others would be dropped at each failure between.
+/// Each option is added as soon as it is made: one that had to wait would have to be dropped at every failure in
+/// between.
 fn store_args<'a>(alloc: Global, command: Command<'a>) -> Result<Command<'a>, AllocError>
     ensures { IfOk result (λ r. app_of r ≡ lines.with_files (app_of command.entry)) }
 {
@@ -350,7 +354,7 @@ fn asked_of(alloc: Global, matches: &ArgMatches<'_>) -> Result<Line, LineError>
     )
 }
 
-/// What the program's words ask for, the program's own name first.
+/// What the program's command line asks for, the program's own name first.
 pub fn line_of<S: AsStr>(alloc: Global, words: &[S]) -> Result<Line, LineError>
     ensures { IsReadAs ⟦<u16 as FromStr>⟧.from_str_gives ⟦<u64 as FromStr>⟧.from_str_gives
         (map S.text words.now) result }

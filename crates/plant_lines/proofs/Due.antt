@@ -148,7 +148,7 @@ late_cause before k Closed is = tt
 late_cause before k BrokenInput is = tt
 late_cause before k Fault is = tt
 
--- A connection that is to end so is not to end for want of a read or a write.
+-- An end that needs no cause: no failed read or write, and no silence.
 abbrev IsPlain : End → Type 0
 IsPlain Closed = Unit {0}
 IsPlain BrokenInput = Unit {0}
@@ -226,7 +226,7 @@ plain_leads k s t (e ∷ es) (mid, goes, rest) plain = plain_leads k mid t es re
     one true is = plain_moves s mid e (goes.own (eqb-true (who e) k is)) plain
     one false is = to s mid (goes.other (eqb-false (who e) k is)) plain
 
--- why a line is closed so after these events
+-- why a line is closed with this end after these events
 pub line_cause : (l : Line) (end : End) (es fs : List Event) → Leads l.number fresh (es ++ fs) (stage_in l) → IsDueTo l end fs
     → HasCause (last_of None (es ++ fs)) l.number end
 line_cause l end es fs leads (inl is) =
@@ -236,7 +236,7 @@ line_cause l end es fs leads (inl is) =
 line_cause l end es fs leads (inr due) =
     subst (λ (before : Option Event). HasCause before l.number end) (sym (last_then None es fs)) (due (last_of None es))
 
--- it is to end so
+-- the line is to end with this end
 pub over_due : (l : Line) (es : List Event) (over : Option End) → IfSome over (λ end. l.end ≡ Some end) → IfSome over (λ end. IsDueTo l end es)
 over_due l es None is = tt
 over_due l es (Some end) is = inl is

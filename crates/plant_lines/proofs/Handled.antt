@@ -1,4 +1,4 @@
--- What one line does, and what that is among all.
+-- What one line does, and what that means among all lines.
 use Rattle.std.proofs.Common.{◌≡◌, ◌≢◌, ◌+◌, slice_get, slice_set, ℕ, List, [], ◌∷◌, ◌++◌, Option, Some, None, inl, inr, drop, refl, sym, ap, subst, ◌∙◌, append-nil}
 use Rattle.std.proofs.Common.{take, Bool, false, true, ◌≤◌, length, arith, eq-eqb, cond}
 use Rattle.std.specs.{Io.KnownBytes.{Appends}, List.{remove}, Prelude.{Err}}
@@ -78,7 +78,7 @@ module _ (seen seen' : Option (List Event)) (l l' : Line) (same : l'.number ≡ 
     lost = λ (no : true ≡ false). cc;
   }
 
-  -- there was no memory for the bytes that came
+  -- memory ran out for the bytes that arrived
   pub moved_lost : (bytes : List ℕ) → Logs seen seen' (came l.number bytes ∷ []) → IsOpen l.unread.items l.pending.text.items → l.end ≡ None
       → stage_in l' ≡ ending Fault [] → Moved seen seen' l l' true reading true
   moved_lost bytes logged idle is after = record {
@@ -212,7 +212,7 @@ module _ {B : Type 0} (b : books.Ghosts B) (x y : B) (honest : b.is_honest y →
   }
 
   module _ (is : l.end ≡ None) (empty : l.pending.text.items ≡ []) (before : List ℕ) (none_before : before ≡ []) where
-    -- one was
+    -- one request was answered
     pub made_answered : (n : ℕ) → AnswersOne l.unread.items (Some before) (Some l'.pending.text.items) (RanOn b x y) n
         → stage_in l' ≡ served (drop n l.unread.items) l'.pending.text.items → Made b x y l l' true
     made_answered n a now =
@@ -222,7 +222,7 @@ module _ {B : Type 0} (b : books.Ghosts B) (x y : B) (honest : b.is_honest y →
         (λ last later each offers.
         due_answered last l.number a.mark later (offers (λ gone_text. mark_some a.mark (sym text ∙ gone_text))) (each (Some (answered l.number a.mark))))
 
-    -- the cause was that breaks the stream
+    -- the cause that breaks the stream was answered
     pub made_broke : AnswersBroken l.unread.items (Some before) (Some l'.pending.text.items) (RanOn b x y)
         → stage_in l' ≡ ending BrokenInput l'.pending.text.items → Made b x y l l' true
     made_broke a now =

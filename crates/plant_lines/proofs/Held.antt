@@ -43,7 +43,7 @@ absent k (x ∷ ls) (suc at) l none is same = go (nat_eq x.number k) refl (λ h.
     go true e before = let h = here x k ls (eqb-true x.number k e) in cc
     go false e before = before (sym (later x k ls (eqb-false x.number k e)) ∙ none)
 
--- another line than an earlier one
+-- a line has another number than a later one
 differs : (count : ℕ) (x : Line) (ls : List Line) (at : ℕ) (l : Line) → AreOpenLines count (x ∷ ls) → slice_get ls at ≡ Some l
     → x.number ≢ l.number
 differs count x ls at l ok is same = absent x.number ls at l ok.1 is (sym same)
@@ -102,7 +102,7 @@ pub stage_at : (count : ℕ) (ls : List Line) (at : ℕ) (l : Line) → AreOpenL
     → stage_of l.number count ls ≡ stage_in l
 stage_at count ls at l ok is = stage_held_at l.number count ls (below count ls at l ok is) ∙ ap stage_held (found count ls at l ok is)
 
--- one line went on: so did its connection, and no other
+-- one line moved on by these events: so did its connection, and no other
 pub lifted : (count : ℕ) (ls : List Line) (at : ℕ) (l l' : Line) (events : List Event) → AreOpenLines count ls → slice_get ls at ≡ Some l
     → l'.number ≡ l.number
     → AreOf l.number events → Leads l.number (stage_in l) events (stage_in l') → (k : ℕ)
@@ -255,7 +255,7 @@ pub prompt_start : (ls : List Line) → ls ≡ [] → ArePrompt ls
 prompt_start [] e = tt
 prompt_start (x ∷ ls) e = cc
 
--- before any came
+-- before any connection was accepted
 pub none_yet : (k : ℕ) → stage_of k 0 [] ≡ fresh
 none_yet k = stage_fresh_at k 0 [] (omega arith)
 

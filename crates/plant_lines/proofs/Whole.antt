@@ -1,4 +1,4 @@
--- All of a service.
+-- A service from its start to its end.
 use Rattle.std.proofs.Common.{◌≡◌, ℕ, List, [], None, refl, subst}
 use Rattle.std.specs.Prelude.{Err}
 use Rattle.plant_books.specs.declared.books.Books as books
@@ -49,7 +49,7 @@ module _ {B : Type 0} {b : books.Ghosts B} {x y : B} {s t : Seen} {n turns count
         apart = λ m held w legal holds t. apart_from w h.events (all.ran.run m held w legal holds t).isolated;
       }
 
--- none came
+-- no connection was accepted
 module _ {B : Type 0} {b : books.Ghosts B} {x : B} {s : Seen} {n : ℕ} {r : Outcome} where
   pub served_none : HasOpened n 0 [] r → (r ≡ Err Ports → ⊥) → AreServed b x x s s n r
   served_none stops halts = served_from (way_start [] refl) stops (λ is. absurd (halts is))

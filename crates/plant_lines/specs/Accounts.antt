@@ -66,9 +66,9 @@ HasOpened n count held (Err Memory) = (count ≡ 0) × (held ≡ [])
 HasOpened n count held (Err Ports) = count ≤ n
 HasOpened n count held (Err Shut) = count ≤ n
 
--- Where n connections are to be served: one list of what happened at all of them, numbered as they came. `ran` is true
--- of the calls that the office made, one after another, whatever the connection. Each connection was sent the answers
--- to its own requests, goes by its own events alone, and ended as a session does.
+-- If n connections are to be served: one list of what happened at all of them, numbered as they came. `ran` is true of
+-- the calls that the office made, one after another, whatever the connection. Each connection was sent the answers to
+-- its own requests, goes by its own events only, and ended as a session does.
 pub record AreSent (ran : List Call → List Answer → Type 0) (n : ℕ) (r : Outcome) : Type 0 where
   pub events : List Event
   pub count : ℕ

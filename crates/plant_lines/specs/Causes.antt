@@ -46,7 +46,7 @@ pub record AreDue (before : Option Event) (es : List Event) : Type 0 where
   pub caused : AreCaused before es
   pub offered : AreOffered es
 
--- so many times the ports are asked at most
+-- the ports are asked at most this many times
 abbrev pub max_turns : ℕ
 max_turns = 2 ^ 64 - 1
 
@@ -54,7 +54,7 @@ max_turns = 2 ^ 64 - 1
 abbrev pub HaveFailed : List Event → Type 0
 HaveFailed es = (last_of None es ≡ Some (reported ready.Failed)) ⊎ (max_turns ≤ length (reports es))
 
--- whatever was before
+-- any event before
 abbrev pub Always : Option Event → Type 0
 Always before = Unit {0}
 
@@ -66,10 +66,11 @@ HasReported what before = before ≡ Some (reported what)
 abbrev pub ExpiredAt : List Line → ℕ → Option Event → Type 0
 ExpiredAt ls at before = (l : Line) → slice_get ls at ≡ Some l → HasReported (ready.Expired l.number) before
 
--- there is a cause to close it so
+-- there is a cause to close the line at this place with this end
 abbrev pub CausedAt : List Line → ℕ → End → Option Event → Type 0
 CausedAt ls at end before = (l : Line) → slice_get ls at ≡ Some l → HasCause before l.number end
 
--- why a line may be closed so after these events: it is to end so, or it has a cause, whatever was before them
+-- why a line may be closed with this end after these events: it is to end so, or it has a cause, whatever was before
+-- them
 abbrev pub IsDueTo : Line → End → List Event → Type 0
 IsDueTo l end es = (l.end ≡ Some end) ⊎ ((before : Option Event) → HasCause (last_of before es) l.number end)

@@ -14,10 +14,11 @@ pub data Trial : Type 0 where
   reading : Trial
   writing : Trial
 
--- A connection came; bytes of it were read; its end was read; one request of it was answered; the cause that breaks its
--- stream was answered, and nothing more is; memory ran out for its bytes or for what was begun, of which nothing
--- leaves, and nothing more is answered; bytes of its answers left; a read or a write of it failed; it was closed, and
--- this is how it ended. And the ports were asked what can be done next, and reported this.
+-- In the order of the variants: a connection was accepted; bytes of it were read; the end of its input was read; one of
+-- its requests was answered; the cause that breaks its stream was answered, and nothing more is; memory ran out for its
+-- bytes or for an answer that was begun, of which nothing is sent, and nothing more is answered; bytes of its answers
+-- were sent; a read or a write of it failed; it was closed, with how it ended. Last: the ports were asked what can be
+-- done next, and reported this.
 pub data Event : Type 0 where
   opened : ℕ → Event
   came : ℕ → List ℕ → Event
@@ -30,7 +31,7 @@ pub data Event : Type 0 where
   closed : ℕ → End → Event
   reported : Ready → Event
 
--- the connection's number; 0 for what the ports report, which is of all
+-- the connection's number; 0 for what the ports report, which concerns all
 abbrev pub who : Event → ℕ
 who (opened k) = k
 who (came k bytes) = k
@@ -43,11 +44,11 @@ who (failed k trial) = k
 who (closed k end) = k
 who (reported ready) = 0
 
--- these, of an event of the connection k
+-- these elements, if the event is of the connection k; otherwise none
 abbrev pub of : {A : Type 0} → ℕ → Event → List A → List A
 of k e xs = if nat_eq (who e) k then xs else []
 
--- all of them, of the events of the connection k
+-- the elements of all events of the connection k
 abbrev pub of_all : {A : Type 0} → (Event → List A) → ℕ → List Event → List A
 of_all f k es = flat_map (λ e. of k e (f e)) es
 
@@ -87,7 +88,7 @@ marks_in (failed k trial) = []
 marks_in (closed k end) = []
 marks_in (reported ready) = []
 
--- the text behind which nothing more is answered
+-- the text after which nothing more is answered
 abbrev pub cut_in : Event → List ℕ
 cut_in (opened k) = []
 cut_in (came k bytes) = []
@@ -219,14 +220,14 @@ at_ports es = flat_map port_in es
 abbrev pub Log : Type 0
 Log = Option (List Event)
 
--- it grows by these events
+-- the log grows by these events
 abbrev pub Logs : Log → Log → List Event → Type 0
 Logs None new es = ⊤
 Logs (Some xs) None es = ⊥
 Logs (Some xs) (Some ys) es = ys ≡ xs ++ es
 
--- What the log of lines says of an event: of a close a line, by the connection's place among all that came and by its
--- end, whole or, where it can't be written, a part from the front; of anything else nothing.
+-- What the log of lines gets for an event: for a close, a line with the connection's place among all that were accepted
+-- and with how it ended, whole or, if the write fails, a part from the front; for any other event nothing.
 abbrev pub IsToldBy : Event → List ℕ → Type 0
 IsToldBy (opened k) text = text ≡ []
 IsToldBy (came k bytes) text = text ≡ []

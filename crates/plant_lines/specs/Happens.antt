@@ -12,7 +12,7 @@ abbrev pub AreOf : ℕ → List Event → Type 0
 AreOf k [] = Unit {0}
 AreOf k (e ∷ es) = (who e ≡ k) × AreOf k es
 
--- if a request could be answered on the line, one was, or the line is served no more
+-- if a request could be answered on the line, one was, or the line is no longer served
 abbrev pub Answers : Line → List Event → Type 0
 Answers l events = (unread : List ℕ) → stage_in l ≡ served unread [] → (IsIdle unread → ⊥) → marks_of l.number events ≡ []
     → (v : List ℕ) → Leads l.number (stage_in l) events (served v []) → ⊥
@@ -22,7 +22,7 @@ pub record Arrives (reads : Bool) (events : List Event) : Type 0 where
   pub one : length (arrivals events) ≤ 1
   pub none : reads ≡ false → length (arrivals events) ≡ 0
 
--- it had one turn: at most one call was made, it was answered if it was to be, and else no call was made
+-- it had one turn: at most one call was made; a request was answered if `serves`, and otherwise no call was made
 pub record IsTurnOf (l : Line) (reads serves : Bool) (events : List Event) : Type 0 where
   pub own : AreOf l.number events
   pub once : length (all_calls events) ≤ 1
@@ -31,15 +31,15 @@ pub record IsTurnOf (l : Line) (reads serves : Bool) (events : List Event) : Typ
   pub arrives : Arrives reads events
   pub due : (before : Option Event) → AreDue before events
 
--- one line went by these events, none of which is in the log of lines
+-- these events, none of which is in the log of lines, lead the line from its stage before to that after
 pub record Went (events : List Event) (before after : Line) : Type 0 where
   pub own : AreOf before.number events
   pub same : after.number ≡ before.number
   pub untold : AreTold events []
   pub leads : Leads before.number (stage_in before) events (stage_in after)
 
--- Its ports were asked, and no call was made. Where a write was tried, what waits to leave was offered; if the line does
--- not go on, what was tried failed.
+-- A read or a write was tried, and no call was made. If a write was tried, what is still to be sent was offered; if the
+-- line does not go on, what was tried failed.
 pub record Moved (s t : Log) (before after : Line) (reads : Bool) (trial : Trial) (goes_on : Bool) : Type 0 where
   pub events : List Event
   pub quiet : AreQuiet events
@@ -50,7 +50,8 @@ pub record Moved (s t : Log) (before after : Line) (reads : Bool) (trial : Trial
   pub offers : trial ≡ writing → before.pending.text.items ≢ [] → OffersTo before.number events
   pub lost : goes_on ≡ false → (last : Option Event) → last_of last events ≡ Some (failed before.number trial)
 
--- The office was asked, and nothing came or left. Each answer is offered at once, if what it left to leave is.
+-- The office was asked; nothing was read or sent. Each answer is offered at once, if the text that it leaves to be sent
+-- is.
 pub record Made {B : Type 0} (b : Ghosts B) (from to : B) (before after : Line) (serves : Bool) : Type 0 where
   pub events : List Event
   pub unseen : at_ports events ≡ []
@@ -63,7 +64,7 @@ pub record Made {B : Type 0} (b : Ghosts B) (from to : B) (before after : Line) 
   pub due : (last : Option Event) (later : List Event) → ((each : Option Event) → AreDue each later)
       → (after.pending.text.items ≢ [] → OffersTo before.number later) → AreDue last (events ++ later)
 
--- both, one after another; it may then be closed so
+-- a read, an answer and a write of a line, one after another; the line may then be closed with this end
 pub record Turned {B : Type 0} (b : Ghosts B) (from to : B) (s t : Log) (before after : Line) (reads serves : Bool)
     (over : Option End) : Type 0 where
   pub events : List Event
@@ -73,16 +74,16 @@ pub record Turned {B : Type 0} (b : Ghosts B) (from to : B) (s t : Log) (before 
   pub one : IsTurnOf before reads serves events
   pub why : IfSome over (λ end. IsDueTo after end events)
 
--- All of it, where n had come and m have, and these lines were held and are: the events are what the ports saw and what
--- the office did, all calls one after another, whatever the connection, and each connection goes by its own events
--- alone.
+-- What happened in all, from n accepted connections with the lines ls to m with the lines ms: the events are what the
+-- ports saw and what the office did, all calls one after another, whatever the connection, and each connection goes by
+-- its own events alone.
 pub record Happened {B : Type 0} (b : Ghosts B) (x y : B) (s t : Seen) (n m : ℕ) (ls ms : List Line) : Type 0 where
   pub events : List Event
   pub shown : Shows s t events
   pub makes : MakesEach b x events y
   pub leads : (k : ℕ) → Leads k (stage_of k n ls) events (stage_of k m ms)
 
--- the same at one connection, where no call was made; there is a cause for it, if what was before gives it
+-- the same at one connection, without a call; it has its cause, if `cause` is true of the event before
 pub record Passed (cause : Option Event → Type 0) (comes : Bool) (s t : Seen) (n m : ℕ) (ls ms : List Line) : Type 0 where
   pub events : List Event
   pub quiet : AreQuiet events

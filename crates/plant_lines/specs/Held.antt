@@ -1,4 +1,4 @@
--- The lines that are held.
+-- The lines of the open connections.
 use Rattle.std.specs.Prelude.{Bool, false, true, ℕ, suc, length, List, [], Option, Some, slice_get, remove, ◌⊎◌, ◌≡◌, ◌≤◌}
 use Rattle.std.specs.declared.io.Write as write
 use Rattle.plant_books.specs.declared.books.Books.{Ghosts}
@@ -8,13 +8,13 @@ use Rattle.plant_lines.specs.{Stages.{AreOpenLines, stage_of}, declared.lines.Li
 use Rattle.plant_lines.specs.declared.ports.Ports as ports
 use Rattle.plant_lines.specs.declared.serving.{Held.{Held}, Reports.{Reports}}
 
--- lines of connections that came, in the order in which they came, and of these no more than are to be served
+-- the open lines, in the order in which they were accepted; no more were accepted than are to be served
 pub record IsHeld (held : Held) : Type 0 where
   pub lines : AreOpenLines held.count held.lines.items
   pub few : held.count ≤ held.n
   pub rising : AreRising (numbers held.lines.items)
 
--- what happened, and it keeps the turns going, from this bound on, if this is given of what was before
+-- what happened, and that it keeps the turns going from this bound on, if `given` is true of the event before
 pub record IsRound {B : Type 0} (given : Option Event → Type 0) (from : ℕ) (b : Ghosts B) (x y : B) (s t : Seen) (n m : ℕ) (ls ms : List Line) : Type 0 where
   pub happened : Happened b x y s t n m ls ms
   pub keeps : Keeps given from 0 (λ k. stage_of k n ls) happened.events
@@ -26,14 +26,14 @@ pub record IsWithinRound {B : Type 0} (b : Ghosts B) (x y : B) (s t : Seen) (n m
   pub splits : Splits bound at (numbers ms)
   pub keeps : Keeps Always n bound (λ k. stage_of k n ls) happened.events
 
--- a service so far, after so many turns
+-- a service so far, after this many turns
 pub record IsUnderWay {B : Type 0} (b : Ghosts B) (x y : B) (s t : Seen) (turns n : ℕ) (ls : List Line) : Type 0 where
   pub happened : Happened b x y s t 0 n [] ls
   pub kept : AreKept 0 happened.events
   pub asked : turns ≤ length (reports happened.events)
 
--- One turn, from one state of the books, of what is seen and of the lines to another. Where `left` is false, it leaves
--- no request that can be answered now, if there was none before. This is given of what was before.
+-- One turn, from one state of the books, of what is seen and of the lines to another. If `left` is false, it leaves no
+-- request that can be answered now, if there was none before. `given` is assumed of the event before.
 pub record IsTurn {B : Type 0} (given : Option Event → Type 0) (b : Ghosts B) (x y : B) (s t : Seen) (before after : Held)
     (serves left : Bool) : Type 0 where
   pub happened : Happened b x y s t before.count after.count before.lines.items after.lines.items
@@ -55,7 +55,7 @@ pub record IsTurnAt {B : Type 0} (b : Ghosts B) (x y : B) (s t : Seen) (before a
   pub others : (numbers after.lines.items ≡ numbers before.lines.items)
       ⊎ (numbers after.lines.items ≡ remove (numbers before.lines.items) at)
 
--- a turn, where what is seen is what these ports and this log of lines show
+-- a turn, with what these ports and this log of lines show as what is seen
 abbrev pub Turns : {B P W E : Type 0} → (Option Event → Type 0) → Ghosts B → ports.Ghosts P → write.Ghosts W → B → B → P → P
     → Reports W E → Reports W E → Held → Held → Bool → Bool → Type 0
 Turns given b p w x y from to told_before told_after before after serves left =

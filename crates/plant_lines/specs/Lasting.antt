@@ -6,15 +6,15 @@ use Rattle.plant_office.specs.{Enduring.{AreAfter, books_state}, Outcomes.{IsOut
 use Rattle.plant_wire.specs.Marks.{said}
 use Rattle.plant_lines.specs.{Events.{Event, all_answers, all_calls}, Order.{IsAmong, WasTold}}
 
--- The content is what the calls so far may leave, and each confirmed call of which a byte of the answer has left was
--- made in it, whatever its connection.
+-- The content is what the calls so far may leave, and it includes each confirmed call of which a byte of the answer was
+-- sent, whatever its connection.
 pub record HasTold (w : World) (earlier : List Call) (answers : List Answer) (es : List Event) (x : Content) : Type 0 where
   pub outcome : IsOutcome w (earlier ++ all_calls es) (answers ++ all_answers es) x
   pub told : (k : ℕ) (call : Call) (answer : Answer) → WasTold es es k (said call answer) → confirms call answer ≡ true
       → IsAmong call outcome.made
 
--- After these events whatever a crash leaves of the books has what was told, if the books were those after some calls as
--- the service began.
+-- After these events, whatever a crash leaves of the books holds what was confirmed, if the books at the start of the
+-- service were those after some calls.
 abbrev pub Lasts : {B : Type 0} → Ghosts B → B → B → List Event → Type 0
 Lasts b before now es = (w : World) (earlier : List Call) (answers : List Answer) → b.is_clean now
     → AreAfter w earlier answers (books_state b before) → (x : Content) → b.may_leave now x → HasTold w earlier answers es x

@@ -25,7 +25,7 @@ Splits bound at [] = Unit {0}
 Splits bound zero (n ∷ ns) = (bound ≤ n) × Splits bound zero ns
 Splits bound (suc at) (n ∷ ns) = (n < bound) × Splits bound at ns
 
--- How many calls were made for the connection j since k waits, where the connections from the bound on have had their
+-- How many calls were made for the connection j since k waits, if the connections from the bound on have had their
 -- turn: at most one. None, if j comes after k and neither has had its turn; if k has had its turn, and waits since
 -- then, and j has not; or if j had its turn before k.
 pub record Owes (bound k j n : ℕ) : Type 0 where
@@ -53,8 +53,8 @@ pub record AreKept (bound : ℕ) (events : List Event) : Type 0 where
   pub steady : AtEachMoment IsSteady events
   pub due : AreDue None events
 
--- whatever happened before, if each connection came so far by it, and if this is given of the last event: with these
--- events more the turns go on from one bound to the other
+-- Whatever happened before, if it led each connection to its stage and `given` is true of the last event: these further
+-- events carry the turns from one bound to the other.
 abbrev pub Keeps : (Option Event → Type 0) → ℕ → ℕ → (ℕ → Stage) → List Event → Type 0
 Keeps given from to stages events = (es : List Event) → given (last_of None es) → ((k : ℕ) → Leads k fresh es (stages k))
     → AreKept from es → AreKept to (es ++ events)

@@ -7,12 +7,12 @@ use Rattle.plant_lines.specs.declared.lines.Line.{Line}
 abbrev pub AreFew : List ℕ → ℕ → Type 0
 AreFew unread wanted = (unread ≡ []) ⊎ (length unread < wanted)
 
--- A line that is served and at which no answer waits to leave is known to hold no whole request: nothing is unread on
--- it, or fewer bytes than it wants. Such a line is read again. One that is not known to would never be read again.
+-- A line that is served and has no answer still to be sent surely holds no whole request: nothing is unread on it, or
+-- fewer bytes than it wants. Such a line is read again. A line without this property would never be read again.
 abbrev pub IsSettled : Line → Type 0
 IsSettled l = l.end ≡ None → l.pending.text.items ≡ [] → AreFew l.unread.items l.wanted
 
--- such a line holds no whole request, and is known to
+-- such a line holds no whole request, and this is known
 abbrev pub IsPrompt : Line → Type 0
 IsPrompt l = l.end ≡ None → l.pending.text.items ≡ [] → IsIdle l.unread.items × AreFew l.unread.items l.wanted
 

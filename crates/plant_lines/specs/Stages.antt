@@ -8,20 +8,20 @@ use Rattle.plant_wire.specs.declared.reads.End.{End, TheVariants.{BrokenInput, C
 use Rattle.plant_lines.specs.Events.{Event, opened, came, ended, answered, broke, stopped, left, failed, closed, reported, who}
 use Rattle.plant_lines.specs.declared.lines.Line.{Line}
 
--- It has not come; it is served, with these bytes unread and these to leave; it is to end so once these have left; it
--- is gone.
+-- The stages of a connection: not yet accepted; served, with these bytes unread and these still to be sent; ending in
+-- this way once these were sent; closed.
 pub data Stage : Type 0 where
   fresh : Stage
   served : List ℕ → List ℕ → Stage
   ending : End → List ℕ → Stage
   gone : Stage
 
--- how it ends where its input does
+-- how a connection ends if its input ends with these bytes unread
 abbrev pub end_for : List ℕ → End
 end_for [] = Closed
 end_for (x ∷ xs) = BrokenInput
 
--- it is read only where no answer waits to leave and no whole request is unread
+-- a connection is read only while no answer is still to be sent and no whole request is unread
 abbrev pub IsOpen : List ℕ → List ℕ → Type 0
 IsOpen unread pending = (pending ≡ []) × IsIdle unread
 
@@ -34,12 +34,13 @@ IsGivenUp unread pending Fault = ⊥
 IsGivenUp unread pending Closed = ⊥
 IsGivenUp unread pending BrokenInput = ⊥
 
--- it ends as it is to, once all has left, or what is left to leave can't
+-- it ends as intended once all was sent, or as WriteFailed if the rest could not be sent
 abbrev pub IsEndOf : End → List ℕ → End → Type 0
 IsEndOf end pending how = ((how ≡ end) × (pending ≡ [])) ⊎ ((how ≡ WriteFailed) × (pending ≢ []))
 
--- An event of this connection. A request is answered only where no answer waits to leave. At Fault, what was begun is
--- not the answer to a call that got a fault of the office: for that memory is kept.
+-- An event of this connection leads from one stage to the next. A request is answered only while no answer is still to
+-- be sent. At Fault, what was begun is not the answer to a call that got a fault of the office: memory for that is
+-- allocated before.
 abbrev pub Moves : Stage → Event → Stage → Type 0
 Moves fresh (opened k) s = s ≡ served [] []
 Moves (served unread pending) (came k bytes) s = IsOpen unread pending × (s ≡ served (unread ++ bytes) [])
@@ -86,7 +87,7 @@ Moves gone (left k bytes) s = ⊥
 Moves gone (failed k trial) s = ⊥
 Moves gone (closed k how) s = ⊥
 
--- an event: another connection's changes nothing
+-- an event; those of other connections change nothing
 pub record Goes (k : ℕ) (s : Stage) (e : Event) (s' : Stage) : Type 0 where
   pub own : who e ≡ k → Moves s e s'
   pub other : (who e ≡ k → ⊥) → s' ≡ s
@@ -112,11 +113,11 @@ abbrev pub stage_held : Option Line → Stage
 stage_held None = gone
 stage_held (Some l) = stage_in l
 
--- where the connection k is, where so many came and these are held
+-- the stage of the connection k, if `count` were accepted and these lines are open
 abbrev pub stage_of : ℕ → ℕ → List Line → Stage
 stage_of k count ls = if nat_lt k count then stage_held (line_with k ls) else fresh
 
--- lines of different numbers, of connections that came, each with what it waits for
+-- lines with different numbers, each of a connection that was accepted, and each with a true `wanted`
 abbrev pub AreOpenLines : ℕ → List Line → Type 0
 AreOpenLines count [] = Unit {0}
 AreOpenLines count (l ∷ ls) =

@@ -1,13 +1,16 @@
+//! The answer that is being composed for a connection. Its first bytes are allocated before the call is made, so that a
+//! fault can be answered even if memory has run out.
+
 ghost use Rattle.std.specs.Prelude.{◌≡◌, ◌≤◌, ◌<◌, ◌+◌, ◌++◌, [], true, Some, if◌then◌else◌, length, take as first, IfOk, vec_capacity, vec_len};
 ghost use Rattle.plant_lines.specs.Drafts.{least_room_of_answers};
 
 use plant_wire::{Failed, Outlet};
 use std::alloc::{AllocError, Global};
 
-/// How many bytes of an answer find memory before its call is made: more than the answer to a fault has.
+/// How many bytes are allocated for an answer before its call is made: more than the answer to a fault has.
 const ROOM: usize = 512;
 
-/// Answers that wait to leave.
+/// Answers that are still to be sent.
 #[derive(Drop)]
 pub struct Answers {
     pub text: Vec<u8>,
@@ -24,7 +27,7 @@ impl Answers {
     }
 }
 
-/// An answer that is put together. If memory runs out for it, it has at least its first 512 bytes.
+/// An answer that is being composed. If memory runs out for it, it has at least its first 512 bytes.
 #[derive(Drop)]
 pub(crate) struct Draft {
     text: Vec<u8>,
@@ -49,7 +52,7 @@ fn fill(text: &mut Vec<u8>, bytes: &[u8]) -> usize
 }
 
 impl Draft {
-    /// Nothing yet, and room for the first bytes.
+    /// An empty draft, with memory for its first bytes.
     pub fn new(alloc: Global) -> Result<Draft, AllocError>
         ensures { IfOk result (λ draft. draft.text.items ≡ []) }
     {

@@ -1,3 +1,6 @@
+//! What reading and answering need for any connection: the routes, room for the fields of a head, and a read buffer. It
+//! is allocated once, before the first connection.
+
 ghost use Rattle.std.specs.Prelude.{◌≤◌, length};
 ghost use Rattle.plant_wire.specs.Limits.{least_room};
 
@@ -6,16 +9,16 @@ use plant_route::Routes;
 use plant_types::Fault;
 use std::alloc::Global;
 
-/// The room that each read is offered, in bytes.
+/// The size of the read buffer, in bytes.
 const CHUNK: usize = 65536;
 
-/// What reading and answering take, allocated once for all connections.
+/// What reading and answering need, allocated once for all connections.
 #[derive(Drop)]
 pub(crate) struct Desk {
     pub alloc: Global,
     pub routes: Routes,
     pub room: FieldRoom,
-    /// Where the bytes of a read are put.
+    /// The read buffer.
     pub chunk: Vec<u8>,
     ghost offers: { least_room ≤ length chunk.items },
 }

@@ -1,3 +1,5 @@
+//! One connection of many: its unread bytes and its unsent answer, and the steps that read, answer and write on it.
+
 ghost use Rattle.std.specs.Prelude.{◌≡◌, ◌≤◌, ◌<◌, [], None, Some, length, drop, false, true, IfSome};
 ghost use Rattle.std.specs.Bool.{OnTrue};
 ghost use Rattle.plant_call.specs.{Cut.{WaitsBelow}, Front.{StandsAtFront, waits}};
@@ -24,9 +26,9 @@ const NO_FAULTS: Faults = Faults {
     store: false,
 };
 
-/// A connection: the bytes that came and are not answered yet, and how many there must be before they are looked at
-/// again; the answer that waits to leave; if nothing more is read or answered, how it is to end; and which faults that
-/// it was answered were reported.
+/// A connection: the received bytes that are not answered yet (`unread`), and how many there must be before they are
+/// parsed again; the answer that is still to be sent; how the connection is to end, once nothing more is read or
+/// answered; and which of the faults that it was answered were reported.
 #[derive(Drop)]
 pub struct Line {
     pub number: u64,
@@ -56,7 +58,7 @@ impl Line {
         }
     }
 
-    /// Whether it is known to hold no whole request: nothing is unread, or fewer bytes than it wants.
+    /// Whether it surely holds no whole request: nothing is unread, or fewer bytes than `wanted`.
     pub fn is_idle(&self) -> bool
         ensures idle { WaitsBelow self.now.unread.items self.now.wanted → OnTrue result (IsIdle self.now.unread.items) }
         ensures few { OnTrue result (AreFew self.now.unread.items self.now.wanted) }
@@ -64,7 +66,8 @@ impl Line {
         self.unread.is_empty() || self.unread.len() < self.wanted
     }
 
-    /// Whether more may be read: it is served, no answer waits to leave, and no whole request is unread.
+    /// Whether more may be read: the connection is served, no answer is still to be sent, and no whole request is
+    /// unread.
     pub fn is_open(&self) -> bool
         ensures served { result ≡ true → self.now.end ≡ None }
         ensures open { WaitsBelow self.now.unread.items self.now.wanted
@@ -79,7 +82,7 @@ impl Line {
         self.is_idle()
     }
 
-    /// Whether no request is left on it that can be answered now.
+    /// Whether it has no request that can be answered now.
     pub fn is_prompt(&self) -> bool
         ensures prompt { WaitsBelow self.now.unread.items self.now.wanted → OnTrue result (IsPrompt self.now) }
         ensures settled { OnTrue result (IsSettled self.now) }
@@ -89,7 +92,7 @@ impl Line {
         self.end.is_some() || !self.pending.text.is_empty() || self.is_idle()
     }
 
-    /// How it ends, if nothing more is read or answered and all answers have left.
+    /// How it ends, if nothing more is read or answered and all answers were sent; otherwise `None`.
     pub fn over(&self) -> Option<End>
         ensures may { IfSome result (λ end. MayClose self.now end) }
         ensures named { IfSome result (λ end. self.now.end ≡ Some end) }
@@ -100,7 +103,7 @@ impl Line {
         None
     }
 
-    /// How it ends if it is given up now, or `None` while a request on it can be answered.
+    /// How it ends if it is given up now, or `None` while it has a request that can be answered.
     pub fn given_up(&self) -> Option<End>
         ensures { WaitsBelow self.now.unread.items self.now.wanted → IfSome result (λ end. MayClose self.now end) }
     {
@@ -114,7 +117,7 @@ impl Line {
     }
 }
 
-/// Takes so many bytes off the front. A buffer that is then empty keeps no memory.
+/// Removes the first `n` bytes. A buffer that becomes empty releases its memory.
 pub(crate) fn drop_front(alloc: Global, buffer: &mut Vec<u8>, n: usize)
     requires { n ≤ length buffer.old.items }
     ensures { buffer.new.items ≡ drop n buffer.old.items }
@@ -128,7 +131,7 @@ pub(crate) fn drop_front(alloc: Global, buffer: &mut Vec<u8>, n: usize)
     buffer.truncate(rest);
 }
 
-/// How a line with these bytes unread ends where its input does.
+/// How a connection ends if its input ends with these bytes unread.
 fn end_of(unread: &[u8]) -> End
     ensures { result ≡ end_for unread.now }
 {
@@ -138,8 +141,7 @@ fn end_of(unread: &[u8]) -> End
     End::BrokenInput
 }
 
-/// One read of a line, if it is served, no answer waits to leave on it and no whole request is unread. Whether it goes
-/// on.
+/// One read of a line, if more may be read of it. Returns false if the read failed.
 pub(crate) fn read_line<P: Ports>(ports: &mut P, chunk: &mut [u8], line: &mut Line) -> bool
     requires room { least_room ≤ length chunk.old }
     requires waits { WaitsBelow line.old.unread.items line.old.wanted }
@@ -167,7 +169,7 @@ pub(crate) fn read_line<P: Ports>(ports: &mut P, chunk: &mut [u8], line: &mut Li
     true
 }
 
-/// One write of the answer that waits to leave. Whether the line goes on.
+/// One write of the answer that is still to be sent, if any. Returns false if the write failed.
 pub(crate) fn write_line<P: Ports>(alloc: Global, ports: &mut P, line: &mut Line) -> bool
     requires waits { WaitsBelow line.old.unread.items line.old.wanted }
     ensures moved { Moved (P.seen ports.old) (P.seen ports.new) line.old line.new false writing result }
@@ -186,7 +188,7 @@ pub(crate) fn write_line<P: Ports>(alloc: Global, ports: &mut P, line: &mut Line
     }
 }
 
-/// How many bytes a line must have before it is looked at again, if these are less than a request: at least one more.
+/// How many bytes a line must have before it is parsed again, if these are an incomplete request: at least one more.
 fn wanted_next(unread: &[u8], more: usize) -> usize
     requires waiting { StandsAtFront unread.now waits }
     requires below { WaitsBelow unread.now more }
@@ -199,9 +201,10 @@ fn wanted_next(unread: &[u8], more: usize) -> usize
     unread.len() + 1
 }
 
-/// Answers the request at the front of a line that is served, if it is whole and no answer waits to leave on it. After
-/// that nothing can be answered before more bytes come or the answer has left. If memory runs out for the answer,
-/// nothing of it leaves; for the answer to a fault it never does, since that much was taken before the call.
+/// Answers the request at the front of a line, if it is whole and no earlier answer is still to be sent. After that,
+/// nothing can be answered on the line before more bytes arrive or the answer was sent. If memory runs out for the
+/// answer, nothing of it is sent; this never happens to the answer to a fault, whose memory is allocated before the
+/// call.
 pub(crate) fn serve_line<B: Books>(
     alloc: Global,
     routes: &Routes,
@@ -274,7 +277,7 @@ fn serve_if<B: Books>(
     }
 }
 
-/// What a turn of a line asks for beside a write of what waits to leave.
+/// What a turn of a line does, in addition to writing what is still to be sent.
 #[derive(Clone, Copy, Debug)]
 pub(crate) struct Asked {
     /// Whether more is read.
@@ -283,8 +286,8 @@ pub(crate) struct Asked {
     pub serves: bool,
 }
 
-/// One turn of a line: a read and an answer, each if it is asked for, and a write of what waits to leave. How the line
-/// is to be closed, if it is.
+/// One turn of a line: a read and an answer, each if it is asked for, and a write of what is still to be sent. Returns
+/// how the line is to be closed, if it is.
 pub(crate) fn turn_line<P: Ports, B: Books>(
     desk: &mut Desk,
     ports: &mut P,
@@ -336,8 +339,8 @@ fn added(faults: Faults, those: Faults) -> Faults
     }
 }
 
-/// Writes a line for each kind of fault that the office has answered since it was last asked, unless one was written
-/// for this line. What can't be written is passed over.
+/// Reports each kind of fault that the office has answered since it was last asked, unless it was already reported for
+/// this connection. A failed write is ignored.
 fn report_faults<B: Books, E: Write>(errors: &mut E, line: &mut Line, office: &mut Office<B>)
     ensures same { line.new ≡ reporting line.old line.new.faults }
     ensures books { office.new.books ≡ office.old.books }
@@ -347,7 +350,7 @@ fn report_faults<B: Books, E: Write>(errors: &mut E, line: &mut Line, office: &m
     line.faults = added(line.faults, faults);
 }
 
-/// One turn of a line as `turn_line` makes it, and a report of the faults that it was answered, if it is asked for.
+/// One turn of a line, as `turn_line` makes it, and a report of the faults that it was answered, if `reports`.
 pub(crate) fn turn_and_report<P: Ports, B: Books, E: Write>(
     desk: &mut Desk,
     ports: &mut P,

@@ -1,3 +1,6 @@
+//! The service loop over many connections on one thread: does what is ready, and answers at most one request of each
+//! connection per turn, so that none starves the others.
+
 ghost use Rattle.std.specs.Prelude.{◌≡◌, ◌<◌, ℕ, List, Option, Err, IfSome, IsTrue, length, remove, slice_get, Some, true, false};
 ghost use Rattle.std.specs.Bool.{OnTrue};
 ghost use Rattle.plant_books.specs.Books.{WasHonest};
@@ -14,40 +17,40 @@ use plant_wire::End;
 use std::alloc::Global;
 use std::io::Write;
 
-/// Why fewer connections were served than were to be.
+/// Why a service served fewer connections than it was asked for.
 #[derive(Clone, Copy, Debug, PartialEq, Eq)]
 pub enum Halted {
     /// Memory ran out before any could be accepted.
     Memory,
-    /// Nothing can be waited for any more, or 2^64 turns were made.
+    /// Waiting for events has failed, or 2^64 - 1 turns were made.
     Ports,
     /// A failure shut the store, and the service was to go on only while it is open.
     Shut,
 }
 
-/// What a service writes beside its answers. What can't be written is passed over.
+/// What a service writes in addition to its answers. A failed write is ignored.
 #[derive(Drop)]
 pub struct Reports<W, E> {
-    /// Gets a line for each connection that has ended, and how.
+    /// Gets a line for each connection that has ended, with how it ended.
     pub log: W,
-    /// If the service goes on only while its store is open, it gets a line for each kind of fault that a connection is
-    /// answered.
+    /// Gets a line for each kind of fault that a connection was answered, if the service goes on only while its store
+    /// is open.
     pub errors: E,
 }
 
-/// The lines of the connections that are open, of those that came.
+/// The open connections, and how many were accepted so far.
 #[derive(Drop)]
 pub(crate) struct Held {
     pub lines: Vec<Line>,
-    /// How many connections came.
+    /// How many connections were accepted so far.
     pub count: u64,
-    /// How many are served in all.
+    /// How many are to be served in all.
     pub n: u64,
     /// Whether faults are reported.
     pub reports: bool,
 }
 
-/// The place of the line with this number.
+/// The index of the line with this number.
 fn place_of(lines: &[Line], number: u64) -> Option<usize>
     ensures within { IfSome result (λ at. at < length lines.now) }
     ensures named { IfSome result (λ at. (line : Line) → slice_get lines.now at ≡ Some line → line.number ≡ number) }
@@ -64,7 +67,7 @@ fn place_of(lines: &[Line], number: u64) -> Option<usize>
     Some(at)
 }
 
-/// Closes a line, which ended so, and writes that to the log.
+/// Closes a line that ended in this way, and writes that to the log.
 fn close_line<P: Ports, W: Write>(
     alloc: Global,
     ports: &mut P,
@@ -90,8 +93,8 @@ fn close_line<P: Ports, W: Write>(
     drop(held.lines.remove(at));
 }
 
-/// One turn of the line at this place, which is closed if it is over. Whether a request may be left on it that can be
-/// answered.
+/// One turn of the line at this index, which is closed if it is over. Returns whether it may still have a request that
+/// can be answered.
 fn turn_at<P: Ports, B: Books, W: Write, E: Write>(
     desk: &mut Desk,
     ports: &mut P,
@@ -116,7 +119,7 @@ fn turn_at<P: Ports, B: Books, W: Write, E: Write>(
     !held.lines[at].is_prompt()
 }
 
-/// Gives up the line at this place, whose time is over, unless a request is left on it that can be answered.
+/// Gives up the line at this index, whose time is over, unless it has a request that can be answered.
 fn give_up<P: Ports, W: Write>(
     alloc: Global,
     ports: &mut P,
@@ -138,7 +141,7 @@ fn give_up<P: Ports, W: Write>(
     }
 }
 
-/// Accepts a connection, and counts it. Without memory for it, it goes on waiting.
+/// Accepts a connection, and counts it. If memory runs out, the connection goes on waiting.
 fn accept<P: Ports>(alloc: Global, ports: &mut P, held: &mut Held)
     requires { IsHeld held.old }
     ensures passed { (log : Option (List ℕ)) → Passed Always true (seen_by (P.seen ports.old) log)
@@ -162,7 +165,8 @@ fn accept<P: Ports>(alloc: Global, ports: &mut P, held: &mut Held)
     held.count = number + 1;
 }
 
-/// One turn of each line on which a request is left, from the last line to the first.
+/// One turn of each line, from the last to the first: a request is answered, if the line has one, and what is still to
+/// be sent is written.
 fn serve_turn<P: Ports, B: Books, W: Write, E: Write>(
     desk: &mut Desk,
     ports: &mut P,
@@ -190,7 +194,8 @@ fn serve_turn<P: Ports, B: Books, W: Write, E: Write>(
     }
 }
 
-/// One turn of the line with this number, if it is held. Whether a request may be left on it that can be answered.
+/// One turn of the line with this number, if it is open. Returns whether it may still have a request that can be
+/// answered.
 fn turn_of<P: Ports, B: Books, W: Write, E: Write>(
     desk: &mut Desk,
     ports: &mut P,
@@ -210,8 +215,8 @@ fn turn_of<P: Ports, B: Books, W: Write, E: Write>(
     }
 }
 
-/// Does what one thing that is ready asks for. Its line is answered at once only if `serves` says so: while others wait
-/// for their turns, it waits with them. Whether a request may be left on it that can be answered.
+/// Handles one event. A request of its line is answered at once only if `serves`: while others wait for their turns, it
+/// waits with them. Returns whether the line may still have a request that can be answered.
 fn step<P: Ports, B: Books, W: Write, E: Write>(
     desk: &mut Desk,
     ports: &mut P,
@@ -254,7 +259,7 @@ fn step<P: Ports, B: Books, W: Write, E: Write>(
     }
 }
 
-/// Whether no request is left on any line that can be answered now.
+/// Whether no line has a request that can be answered now.
 fn all_prompt(lines: &[Line], count: u64) -> bool
     requires lines { AreOpenLines count lines.now }
     ensures { OnTrue result (ArePrompt lines.now) }
@@ -267,8 +272,8 @@ fn all_prompt(lines: &[Line], count: u64) -> bool
     true
 }
 
-/// One turn of all lines: does what is ready, and, if requests are left, answers one of each line that has any. Whether
-/// some are left.
+/// One turn of the service: handles one event and, if requests were left (`busy`), answers one of each line that has
+/// any. Returns whether some may be left.
 fn turn<P: Ports, B: Books, W: Write, E: Write>(
     desk: &mut Desk,
     ports: &mut P,
@@ -295,23 +300,23 @@ fn turn<P: Ports, B: Books, W: Write, E: Write>(
     !all_prompt(&held.lines, held.count)
 }
 
-/// Whether a service that goes on only while its store is open is over.
+/// Whether the service ends now because it goes on only while its store is open, and the store has shut.
 fn is_over<B: Books>(while_open: bool, office: &Office<B>) -> bool
     ensures { IsTrue result → IsTrue while_open × (¬ B.is_honest office.now.books) }
 {
     while_open && office.is_shut()
 }
 
-/// Serves n connections, as many at once as the ports accept, and writes to the log how each ended. All calls, whatever
-/// their connection, are made one after another; each connection is sent the answers to its own requests, in their
-/// order, and no byte of an answer before its call was made; and what one connection sends changes nothing of another's
-/// but through the office. Each answer is offered to its connection at once. A connection is given up only as a read or
-/// a write of it has failed, or the ports have just said that its time is over; and the service halts with `Ports` only
-/// after the ports failed.
+/// Serves `n` connections, as many at once as the ports accept, and writes to the log how each ended. All calls,
+/// whatever their connection, are made one after another. Each connection is sent the answers to its own requests, in
+/// their order, and no byte of an answer before its call was made; what one connection sends affects another only
+/// through the office. Each answer is offered to its connection at once. A connection is given up only if a read or a
+/// write of it has failed, or the ports have just reported that its time is over; and the service halts with `Ports`
+/// only after the ports failed.
 ///
-/// If it is to go on only `while_open`, it halts once a failure has shut the store: after the turn in which that was
-/// answered, and in which the ports took what they could of the answer. Then it also writes to the errors which kinds
-/// of faults each connection was answered.
+/// If `while_open`, it halts once a failure has shut the store: after the turn in which that was answered, and in which
+/// the ports took what they could of the answer. In this mode it also writes to the errors which kinds of faults each
+/// connection was answered.
 pub fn serve_lines<P: Ports, B: Books, W: Write, E: Write>(
     alloc: Global,
     ports: &mut P,

@@ -3,7 +3,7 @@
 use std::alloc::Global;
 use std::process::Abort;
 
-/// What a client does once all its bytes were read.
+/// What a client does after all its bytes were read.
 #[derive(Clone, Copy, Debug, PartialEq, Eq)]
 pub(crate) enum Manner {
     /// It sends no more, and reads all its answers.
@@ -23,7 +23,7 @@ pub(crate) struct Client {
     pub(crate) takes: usize,
 }
 
-/// The next of a row of numbers that look like chance.
+/// The next pseudo-random number.
 pub(crate) fn next_number(seed: &mut u64) -> u64 {
     *seed = seed
         .wrapping_mul(6_364_136_223_846_793_005)
@@ -66,7 +66,7 @@ fn requests(rt: &impl Abort, alloc: Global, unit: u64, out: &mut Vec<u8>) {
     }
 }
 
-/// A client by chance: its requests whole, cut, or with something behind them that cannot be read.
+/// A random client: its requests whole, cut, or followed by something that cannot be read.
 pub(crate) fn client_of(rt: &impl Abort, alloc: Global, seed: &mut u64, unit: u64) -> Client {
     let mut bytes = Vec::new(alloc);
     requests(rt, alloc, unit, &mut bytes);

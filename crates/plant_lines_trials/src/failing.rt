@@ -8,8 +8,8 @@ use plant_model::{Call, Changes, UnitPart, UnitRows};
 use plant_types::{Fault, List, Moment, Person, Sorted, UnitCode};
 use std::alloc::Global;
 
-/// The first lists of units are empty, then the store shuts. A list of shelves runs out of memory. Everything else fails
-/// as on a full disk.
+/// The first lists of units are empty, then the store shuts. A list of shelves runs out of memory. Everything else
+/// fails as on a full disk.
 #[derive(Drop)]
 pub struct Failing {
     administrator: Person,
@@ -20,7 +20,7 @@ pub struct Failing {
 }
 
 impl Failing {
-    /// Such books, with so many lists of units before the store shuts.
+    /// Such books, with this many lists of units before the store shuts.
     pub fn new(alloc: Global, administrator: Person, lists: u64) -> Failing {
         Failing {
             administrator,

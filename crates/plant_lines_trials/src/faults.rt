@@ -41,7 +41,7 @@ fn served_of(rt: &impl Abort, alloc: Global, requests: &[&str]) -> Served {
     }
 }
 
-/// A script of so many such clients, whose ports take whole answers.
+/// A script of this many such clients, whose ports take whole answers.
 fn script_of(rt: &impl Abort, alloc: Global, requests: &[&str], clients: u64) -> Script {
     let mut served = Vec::new(alloc);
     for _ in 0..clients {
@@ -59,7 +59,7 @@ fn script_of(rt: &impl Abort, alloc: Global, requests: &[&str], clients: u64) ->
     }
 }
 
-/// How often this stands in the bytes.
+/// How often this text occurs in the bytes.
 fn count_of(bytes: &[u8], part: &[u8]) -> u32 {
     let mut count = 0u32;
     for window in bytes.windows(part.len().max(1)) {
@@ -70,7 +70,7 @@ fn count_of(bytes: &[u8], part: &[u8]) -> u32 {
     count
 }
 
-/// How many faults of the store the first client was answered, behind how many lists of units.
+/// How many faults of the store the first client was answered, after how many lists of units.
 fn answers_of(script: &Script) -> (u32, u32) {
     match script.served.first() {
         Some(one) => (
@@ -92,7 +92,7 @@ struct Told {
     reported: usize,
 }
 
-/// Serves so many clients, each with these requests, over books that shut after so many lists of units.
+/// Serves this many clients, each with these requests, over books that shut after this many lists of units.
 fn serve_failing(
     rt: &impl Abort,
     alloc: Global,

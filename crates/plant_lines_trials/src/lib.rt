@@ -1,6 +1,5 @@
-//! Many connections at once over an office in lists, as tests alone: each is sent what a session of its own writes, or
-//! its part of what one session over all their requests writes. And books that fail, for tests of what a service does
-//! then.
+//! Tests of many connections at once over an office in lists: each is sent what a session of its own writes, or its
+//! part of what one session over all their requests writes. And books that fail, for tests of what a service does then.
 #![tactic(auto)]
 
 #[cfg(test)]

@@ -1,4 +1,4 @@
-//! Connections whose calls do not commute: what they are sent is what one session writes that is asked their requests in
+//! Connections whose calls do not commute: together they are sent what one session writes that gets their requests in
 //! the order in which they were answered.
 
 use crate::clients::{Client, Manner, next_number};
@@ -119,7 +119,7 @@ fn client_of(bytes: Vec<u8>) -> Client {
     }
 }
 
-/// What one client asks, by chance: one to eight requests, the last first.
+/// The random requests of one client: one to eight, the last first.
 fn numbers_of(rt: &impl Abort, alloc: Global, seed: &mut u64) -> Vec<u64> {
     let mut numbers = Vec::new(alloc);
     let count = 1u64.saturating_add(next_number(seed) % 8);
@@ -129,7 +129,7 @@ fn numbers_of(rt: &impl Abort, alloc: Global, seed: &mut u64) -> Vec<u64> {
     numbers
 }
 
-/// A client that asks this.
+/// A client with these requests.
 fn served_of(rt: &impl Abort, alloc: Global, numbers: &[u64]) -> Served {
     let mut bytes = Vec::new(alloc);
     for number in numbers.iter().rev() {
@@ -143,7 +143,7 @@ fn served_of(rt: &impl Abort, alloc: Global, numbers: &[u64]) -> Served {
     }
 }
 
-/// Ports of clients that ask this; each sends and takes at most so many bytes at once.
+/// Ports of clients with these requests; each sends and takes at most this many bytes at once.
 fn recorded_of(
     rt: &impl Abort,
     alloc: Global,
@@ -185,7 +185,7 @@ fn serve(rt: &impl Abort, alloc: Global, ports: &mut Recorded, office: &mut Offi
     assert!(rt; over.is_ok());
 }
 
-/// The same requests in the order in which they were answered, behind those that open the unit.
+/// The same requests in the order in which they were answered, after those that open the unit.
 fn in_order(rt: &impl Abort, alloc: Global, asked: &mut Vec<Vec<u64>>, made: &[Made]) -> Vec<u8> {
     let mut bytes = opening_bytes(rt, alloc);
     for it in made {
@@ -205,7 +205,7 @@ fn are_asked(rt: &impl Abort, asked: &[Vec<u64>], seed: u64) {
     }
 }
 
-/// Of these bytes, from a place on, the answers to the connection with this number.
+/// Of these bytes, from a position on, the answers to the connection with this number.
 fn answers_to(
     rt: &impl Abort,
     alloc: Global,
@@ -236,7 +236,7 @@ fn length_of(made: &[Made]) -> usize {
     length
 }
 
-/// Each client was sent its part of these bytes, from a place on.
+/// Each client was sent its part of these bytes, from a position on.
 fn are_parts(
     rt: &impl Abort,
     alloc: Global,
@@ -255,7 +255,7 @@ fn are_parts(
     }
 }
 
-/// What each client of a script asks.
+/// The requests of each client of a script.
 fn asked_of(rt: &impl Abort, alloc: Global, seed: &mut u64) -> Vec<Vec<u64>> {
     let mut asked = Vec::new(alloc);
     let clients = 2u64.saturating_add(next_number(seed) % 11);
@@ -266,7 +266,7 @@ fn asked_of(rt: &impl Abort, alloc: Global, seed: &mut u64) -> Vec<Vec<u64>> {
     asked
 }
 
-/// Opens the unit and serves all clients. How many bytes the opening was answered.
+/// Opens the unit and serves all clients. Returns how many bytes the answers to the opening have.
 fn serve_all(rt: &impl Abort, alloc: Global, ports: &mut Recorded) -> usize {
     let mut office = office_of(rt, alloc);
     let opening = client_of(opening_bytes(rt, alloc));

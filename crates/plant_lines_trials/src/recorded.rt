@@ -1,4 +1,4 @@
-//! Ports by chance that record in which order the answers were made.
+//! Random ports that record in which order the answers were made.
 
 ghost use Rattle.std.specs.Prelude.{None};
 
@@ -13,13 +13,13 @@ pub(crate) struct Made {
     pub(crate) length: usize,
 }
 
-/// Ports by chance, and the answers in the order in which they were made. An answer is first offered whole, in the turn
-/// in which it was made, and only once all of the one before has left.
+/// Random ports, and the answers in the order in which they were made. An answer is first offered whole, in the turn in
+/// which it was made, and only once all of the one before was sent.
 #[derive(Drop)]
 pub(crate) struct Recorded {
     pub(crate) script: Script,
     pub(crate) made: Vec<Made>,
-    /// How much of the last answer of each connection is still to leave.
+    /// How much of the last answer of each connection is still to be sent.
     pub(crate) left: Vec<usize>,
 }
 
@@ -34,7 +34,7 @@ impl Recorded {
         }
     }
 
-    /// Notes that so many bytes of an answer left.
+    /// Notes that this many bytes of an answer were sent.
     fn note_left(&mut self, number: u64, n: usize) {
         if let Some(left) = self.left.get_mut(number as usize) {
             *left = left.saturating_sub(n);

@@ -1,4 +1,4 @@
-//! Ports in memory that go by chance: which connection is ready next, and how many bytes it gives or takes.
+//! Random ports in memory: which connection is ready next, and how many bytes it gives or takes.
 
 ghost use Rattle.std.specs.Prelude.{None};
 
@@ -7,7 +7,7 @@ use crate::sessions::portion;
 use plant_lines::{Line, Ports, Ready, Sent, Taken};
 use plant_wire::End;
 
-/// After so many turns the ports fail, so that a test ends.
+/// After this many turns the ports fail, so that a test ends.
 const TURNS: u64 = 200_000;
 
 /// A client whose connection is served.
@@ -20,13 +20,13 @@ pub(crate) struct Served {
 }
 
 impl Served {
-    /// Whether its client says nothing any more.
+    /// Whether its client has fallen silent.
     fn is_silent(&self) -> bool {
         self.client.manner == Manner::Waits && self.at >= self.client.bytes.len()
     }
 }
 
-/// Whether the connection with this number is held, and all its answers have left.
+/// Whether the connection with this number is open, and all its answers were sent.
 fn has_all(lines: &[Line], number: u64) -> bool {
     for line in lines {
         if line.number == number {
@@ -36,7 +36,7 @@ fn has_all(lines: &[Line], number: u64) -> bool {
     false
 }
 
-/// Ports by chance.
+/// Random ports.
 #[derive(Drop)]
 pub(crate) struct Script {
     pub(crate) served: Vec<Served>,
@@ -44,12 +44,12 @@ pub(crate) struct Script {
     pub(crate) seed: u64,
     pub(crate) most: u64,
     pub(crate) turns: u64,
-    /// How many were held at once at most.
+    /// How many were open at once at most.
     pub(crate) held: usize,
 }
 
 impl Script {
-    /// So many bytes, or fewer, by chance.
+    /// A random number of bytes, at most this many.
     fn count(&mut self) -> usize {
         let most = self.most.max(1);
         1usize.saturating_add((next_number(&mut self.seed) % most) as usize)

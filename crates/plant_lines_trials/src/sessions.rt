@@ -10,7 +10,7 @@ use plant_wire::{End, Failed, Inlet, Outlet, session};
 use std::alloc::Global;
 use std::process::Abort;
 
-/// Copies bytes from a place on, as many as there is room for, and returns how many.
+/// Copies bytes from a position on, as many as there is room for, and returns how many.
 pub(crate) fn portion(bytes: &[u8], at: usize, most: usize, buf: &mut [u8]) -> usize
     ensures { result ≤ length buf.old }
 {
@@ -61,7 +61,7 @@ impl Inlet for Feed<'_> {
     }
 }
 
-/// What it takes.
+/// What a client takes.
 #[derive(Drop)]
 struct Sink {
     bytes: Vec<u8>,
@@ -92,7 +92,7 @@ impl Outlet for Sink {
     }
 }
 
-/// An office of root's that has no unit.
+/// An office of the administrator `root` without a unit.
 pub(crate) fn office_of(rt: &impl Abort, alloc: Global) -> Office<Plain> {
     let root = Person::read(alloc, b"root")
         .expect(rt, "memory")

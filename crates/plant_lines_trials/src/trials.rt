@@ -8,7 +8,7 @@ use std::alloc::Global;
 use std::ops::Range;
 use std::process::Abort;
 
-/// A script of so many clients.
+/// A script of this many clients.
 fn script_of(rt: &impl Abort, alloc: Global, mut seed: u64, clients: u64, most: u64) -> Script {
     let mut served = Vec::new(alloc);
     for unit in 0..clients {
@@ -53,7 +53,7 @@ fn are_as_alone(rt: &impl Abort, alloc: Global, script: &Script, seed: u64) {
     }
 }
 
-/// So many lines stand in the log.
+/// The log has this many lines.
 fn has_lines(rt: &impl Abort, log: &[u8], count: u64) {
     let mut lines = 0u64;
     for &byte in log {

@@ -1,3 +1,6 @@
+//! One client's socket, with what is known of its readiness and its deadlines, and how it is closed so that the last
+//! answer still arrives.
+
 ghost use Rattle.std.specs.Prelude.{None, ℕ};
 ghost use Rattle.plant_lines.specs.PortSteps.{IsSent, IsTaken};
 
@@ -8,36 +11,36 @@ use plant_wire::End;
 use std::io::{ErrorKind, Read, Write};
 use std::net::Shutdown;
 
-/// At most how many reads are made of what a client still sends after its last answer.
+/// How many reads at most are made of what a client still sends after its last answer.
 const LAST_READS: u32 = 256;
 
-/// At most how many of them one after another, before others have their turns.
+/// How many of these at most are made in one turn, before others have theirs.
 const READS_A_TURN: u32 = 4;
 
-/// A connection that is held, or whose client may still be sending after its last answer. Times are in milliseconds
+/// A connection that is open, or whose client may still be sending after its last answer. Times are in milliseconds
 /// since the port was opened.
 #[derive(Drop)]
 pub(crate) struct Client {
     stream: TcpStream,
     /// When it will have been silent for too long.
     pub until: u64,
-    /// When bytes of it last came or left.
+    /// When bytes of it were last read or written.
     pub heard: u64,
-    /// When it came, or its last answer left.
+    /// When it was accepted, or its last answer was sent.
     pub since: u64,
-    /// By when the request that is coming in must be whole, if one is.
+    /// By when the request that is arriving must be whole, if there is one.
     pub whole: Option<u64>,
     /// Whether bytes, or its end, may wait to be read.
     pub readable: bool,
-    /// Whether bytes of it wait unread because there is no room.
+    /// Whether it was not read because too many bytes of requests are held.
     pub crowded: bool,
-    /// Whether nothing will come but what waits.
+    /// Whether nothing more will arrive than what is already waiting.
     closing: bool,
     /// Whether it may take bytes.
     writable: bool,
-    /// Whether it waits for its turn.
+    /// Whether it is queued for its turn.
     pub queued: bool,
-    /// After its last answer: how many reads are still made of what it sends.
+    /// After its last answer: how many more reads are made of what it still sends.
     pub lingers: Option<u32>,
 }
 
@@ -72,7 +75,7 @@ impl Client {
         }
     }
 
-    /// Reads at most so many bytes, once. If fewer came than there is room for, nothing more waits.
+    /// Reads once, at most `most` bytes. If fewer were read than there is room for, nothing more is waiting.
     pub fn take(&mut self, buf: &mut [u8], most: usize) -> Taken
         ensures { (k : ℕ) → IsTaken None None k buf.new result }
     {
@@ -110,9 +113,9 @@ impl Client {
         }
     }
 
-    /// Ends the sending side alone, if the client may still be sending: to close a socket with bytes unread would break
-    /// the connection, and the client might lose the answers that are on their way. Whether what it still sends is to
-    /// be read out, until it is quiet.
+    /// Shuts down the sending side only, if the client may still be sending: closing a socket with unread bytes would
+    /// break the connection, and the client might lose the answers that are on their way. Returns whether what it still
+    /// sends is to be read, until it is quiet.
     pub fn linger(&mut self, end: End, quiet: u64) -> bool {
         let may_send = match end {
             End::BrokenInput | End::Fault => true,
@@ -126,8 +129,8 @@ impl Client {
         true
     }
 
-    /// Reads some of what a client still sends after its last answer, and throws it away. Whether more may wait; if
-    /// nothing more is to be read, `lingers` is at 0 after it.
+    /// Reads some of what a client still sends after its last answer, and throws it away. Returns whether more may be
+    /// waiting; if nothing more is to be read, `lingers` is 0 afterwards.
     pub fn read_out(&mut self, scratch: &mut [u8], quiet: u64) -> bool {
         for _ in 0..READS_A_TURN {
             let left = match self.lingers {
@@ -153,7 +156,7 @@ impl Client {
         true
     }
 
-    /// Moves all its times on by so many milliseconds.
+    /// Moves all its times on by `passed` milliseconds.
     pub fn move_on(&mut self, passed: u64) {
         self.until = self.until.saturating_add(passed);
         self.heard = self.heard.saturating_add(passed);
@@ -164,7 +167,7 @@ impl Client {
         };
     }
 
-    /// Whether what it still sends after its last answer is read out.
+    /// Whether what it still sends after its last answer is still to be read.
     pub fn is_read_out(&self, now: u64) -> bool {
         match self.lingers {
             Some(left) => left > 0 && now < self.until,
@@ -172,13 +175,13 @@ impl Client {
         }
     }
 
-    /// Whether a write may succeed that its line waits for.
+    /// Whether its line has an answer to send and a write may succeed.
     pub fn may_write(&self, line: &Line) -> bool {
         self.writable && !line.pending.text.is_empty()
     }
 }
 
-/// Whether the request that is coming of a line may be whole with so many bytes more.
+/// Whether the request that is arriving on a line may be whole with `more` bytes more.
 pub(crate) fn may_finish(line: &Line, more: usize) -> bool {
     line.wanted <= line.unread.len().saturating_add(more)
 }

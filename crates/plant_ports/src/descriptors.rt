@@ -1,7 +1,10 @@
+//! Whether the limit of open file descriptors allows the wanted number of clients. It is checked at the start, for a
+//! warning.
+
 use libc::types::rlimit;
 use libc::{RLIMIT_NOFILE, getrlimit};
 
-/// How many file descriptors a service needs beside one for each client.
+/// How many file descriptors a service needs in addition to one for each client.
 const BESIDE_CLIENTS: u64 = 64;
 
 /// How many file descriptors the program may have, if the system says so.
@@ -16,7 +19,7 @@ fn most_descriptors() -> Option<u64> {
     Some(limit.rlim_cur)
 }
 
-/// Whether the program may have too few file descriptors to serve so many clients at once.
+/// Whether the limit of file descriptors is too low to serve this many clients at once. False if the limit is unknown.
 pub fn has_few_descriptors(clients: usize) -> bool {
     match most_descriptors() {
         Some(most) => most < BESIDE_CLIENTS.saturating_add(clients as u64),

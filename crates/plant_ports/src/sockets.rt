@@ -1,3 +1,6 @@
+//! The sockets of a port with epoll: which client goes on next, which deadlines have passed, who is given up while
+//! others wait for a place, and how much memory unread requests may take.
+
 ghost use Rattle.std.specs.Prelude.{None};
 
 use crate::clients::{Client, may_finish};
@@ -16,13 +19,13 @@ const LISTENER: Token = Token(usize::MAX);
 /// How many events one wait may report.
 const EVENTS_A_WAIT: usize = 256;
 
-/// After at most how many turns the system is asked for new events while no requests are left from turn to turn.
+/// After how many turns at most the system is asked for new events, while no requests are left from turn to turn.
 const TURNS: u32 = 64;
 
 /// The same while requests of the only client are left.
 const TURNS_OF_ONE: u32 = 16;
 
-/// After how many others a client of which requests were left is read before more of them.
+/// How many others may go before a client that has more requests to be read, but still has some to be answered.
 const MOST_AHEAD: u32 = 16;
 
 /// How many milliseconds a second has.
@@ -34,21 +37,22 @@ const LONGEST_WAIT_MS: u64 = 1000;
 /// How often deadlines are looked at, in milliseconds.
 const DEADLINES_EVERY_MS: u64 = 1000;
 
-/// How long none is accepted, in milliseconds, after the system refused to or memory ran out.
+/// For how long no connection is accepted, in milliseconds, after accepting failed or memory ran out.
 const PAUSE_MS: u64 = 1000;
 
-/// If more time passes between two looks at the clock, in milliseconds, the program was stopped: all deadlines then
-/// move on by that time.
+/// If more time than this passes between two looks at the clock, in milliseconds, the program was suspended: all
+/// deadlines then move on by that time.
 const STOPPED_MS: u64 = 3000;
 
-/// How often a client that gives up its place or its room is looked for, in milliseconds, while others wait for one.
+/// How often to look for a client that is to give up its place or its memory, in milliseconds, while others wait for
+/// one.
 const LOOK_EVERY_MS: u64 = 10;
 
-/// How long a client keeps its place after its last answer, and its room after its last byte, in milliseconds, while
+/// How long a client keeps its place after its last answer, and its memory after its last byte, in milliseconds, while
 /// others wait for one.
 const KEPT_MS: u64 = 2000;
 
-/// How many times the silence that is allowed a request may take from its first byte to its last.
+/// A request may take at most this many times the allowed silence, from its first byte to its last.
 const REQUEST_SILENCES: u64 = 4;
 
 /// How many bytes of requests all connections together may hold before only some are read: 64 MiB.
@@ -57,27 +61,27 @@ const HELD_BYTES: usize = 67_108_864;
 /// How many bytes of a request are read of each connection, even then.
 const FREE_BYTES: usize = 65_536;
 
-/// How many bytes a connection may be read of then if its request can be whole with them.
+/// How many bytes are read of a connection, even then, if they may complete its request.
 const LAST_BYTES: usize = 4096;
 
-/// The room that each read of what comes after a last answer is offered, in bytes.
+/// The size in bytes of the buffer for what clients send after their last answers.
 const SCRATCH_BYTES: usize = 65_536;
 
 /// How long a client may be quiet after its last answer before it is closed, in milliseconds.
 const QUIET_MS: u64 = 1000;
 
-/// The same once the service is over.
+/// The same, once the service is over.
 const LAST_QUIET_MS: u64 = 50;
 
-/// At most how many waits are made for what comes after last answers, once the service is over.
+/// How many waits at most are made for what clients still send, once the service is over.
 const LAST_WAITS: u32 = 25_600;
 
-/// What a port allows.
+/// The limits of a port.
 #[derive(Clone, Copy, Debug)]
 pub struct Limits {
-    /// How many connections are held at once.
+    /// How many connections may be open at once.
     pub clients: usize,
-    /// How long a client may send nothing, or take nothing of its answer.
+    /// How long a client may send nothing, or take nothing of its answer; `None` for no limit.
     pub idle: Option<Duration>,
 }
 
@@ -92,9 +96,9 @@ pub struct Sockets<'a> {
     clients: BTreeMap<u64, Client>,
     /// Clients that may go on, in the order of their turns.
     ready: VecDeque<u64>,
-    /// Clients that may be read, but of which requests are left that were read.
+    /// Clients that may be read, but still have requests to be answered.
     aside: VecDeque<u64>,
-    /// How many went on before these.
+    /// How many other clients went on since the last of these.
     ahead: u32,
     /// Clients that are to be given up.
     expired: VecDeque<u64>,
@@ -102,25 +106,25 @@ pub struct Sockets<'a> {
     accepted: Option<TcpStream>,
     /// Whether others may wait to be accepted.
     may_accept: bool,
-    /// Until when none is accepted, after the system refused to.
+    /// Until when no connection is accepted, after accepting failed.
     paused: u64,
     start: Instant,
     now: u64,
     /// When deadlines are looked at next.
     check: u64,
-    /// When a client that gives up its place or its room is looked for next.
+    /// When a client that is to give up its place or its memory is looked for next.
     look: u64,
     /// Whether the last turn accepted first.
     accepts_first: bool,
-    /// Whether a connection was offered that waits for a place.
+    /// Whether the connection that waits for a place was offered to the service.
     offered: bool,
-    /// Whether a client was not read because there is no room.
+    /// Whether a client was not read because too many bytes of requests are held.
     crowded: bool,
     /// How long a client may be quiet after its last answer.
     quiet: u64,
-    /// How many turns went since the last wait.
+    /// How many turns were made since the last wait.
     turns: u32,
-    /// At least so many bytes of requests are held.
+    /// How many bytes of requests are held, estimated from what was read; counted anew when it is above the limit.
     held: usize,
     /// How many bytes the next read may take at most.
     most: usize,
@@ -142,7 +146,7 @@ fn line_at(lines: &[Line], number: u64) -> Option<&Line> {
     }
 }
 
-/// How many bytes of requests are held.
+/// How many bytes are allocated for requests.
 fn held_of(lines: &[Line]) -> usize {
     let mut held = 0usize;
     for line in lines {
@@ -221,7 +225,8 @@ impl<'a> Sockets<'a> {
         self.listener.local_addr()
     }
 
-    /// Ends the sending to all clients that are still served. What the system took of their answers is to reach them.
+    /// Shuts down the sending side to all clients that are still served. What the system took of their answers must
+    /// still reach them.
     fn end_all(&mut self) {
         let quiet = self.now.saturating_add(self.quiet);
         for (number, client) in self.clients.iter_mut() {
@@ -232,7 +237,7 @@ impl<'a> Sockets<'a> {
         }
     }
 
-    /// Once the service is over: reads out what clients still send after their last answers, so that these reach them,
+    /// Once the service is over: reads what clients still send after their last answers, so that these reach them,
     /// until each has been quiet for a moment.
     pub fn finish(&mut self) {
         self.quiet = LAST_QUIET_MS;
@@ -247,7 +252,7 @@ impl<'a> Sockets<'a> {
         }
     }
 
-    /// When a client that was heard of now will have been silent for too long.
+    /// When a client that sends or takes bytes now will have been silent for too long.
     fn until(&self) -> u64 {
         match self.limits.idle {
             Some(idle) => self.now.saturating_add(millis(idle)),
@@ -275,8 +280,8 @@ impl<'a> Sockets<'a> {
         }
     }
 
-    /// Marks the clients that the last wait reported, and queues them. One that can't be queued, for lack of memory, is
-    /// queued when deadlines are looked at next.
+    /// Marks the clients that the last wait reported, and queues them. One that can't be queued, because memory ran
+    /// out, is queued when deadlines are looked at next.
     fn note_events(&mut self) {
         for event in &self.events {
             if event.token() == LISTENER {
@@ -294,7 +299,7 @@ impl<'a> Sockets<'a> {
         }
     }
 
-    /// Looks at the clock. If the program was stopped, all deadlines move on.
+    /// Looks at the clock. If the program was suspended, all deadlines move on.
     fn tick(&mut self) -> io::Result<()> {
         let now = millis(self.start.elapsed(self.rt)?);
         let passed = now.saturating_sub(self.now);
@@ -307,7 +312,7 @@ impl<'a> Sockets<'a> {
         Ok(())
     }
 
-    /// Waits for at most so many milliseconds until something is ready, and marks it.
+    /// Waits until something is ready, at most `longest` milliseconds, and marks it.
     fn wait(&mut self, longest: u64) -> io::Result<()> {
         self.turns = 0;
         self.poll
@@ -317,7 +322,7 @@ impl<'a> Sockets<'a> {
         Ok(())
     }
 
-    /// The longest wait, if it may wait.
+    /// How long to wait at most, in milliseconds; 0 if it may not wait.
     fn longest(&self, may_wait: bool) -> u64 {
         if !may_wait {
             return 0;
@@ -328,7 +333,7 @@ impl<'a> Sockets<'a> {
         LONGEST_WAIT_MS
     }
 
-    /// Accepts the next connection, if one waits. Whether there is one, and a place for it.
+    /// Accepts the next connection, if one is waiting. Returns whether there is one and a place for it.
     fn has_next(&mut self, accepts: bool) -> bool {
         if self.accepted.is_none() && accepts && self.may_accept && self.paused <= self.now {
             match self.listener.accept() {
@@ -386,8 +391,8 @@ impl<'a> Sockets<'a> {
         self.accepted.is_some() && self.clients.len() >= self.limits.clients
     }
 
-    /// The connection that gives its place up: of those that have neither a whole request nor an answer on its way, the
-    /// one whose last answer left longest ago, or that came longest ago, if that is at least two seconds.
+    /// The connection that gives its place up: of those that have neither a whole request nor an answer to be sent, the
+    /// one whose last answer was sent, or that was accepted, longest ago, if that is at least two seconds.
     fn gives_place(&self, lines: &[Line]) -> Option<u64> {
         let mut first = u64::MAX;
         let mut number = None;
@@ -404,8 +409,8 @@ impl<'a> Sockets<'a> {
         number
     }
 
-    /// The connection that gives its room up: of those that hold more than each may, the one of which a byte came
-    /// longest ago, if that is at least two seconds and none waits unread.
+    /// The connection that gives its memory up: of those that hold more than each may, the one that was silent longest,
+    /// if that is at least two seconds and none of its bytes wait unread.
     fn gives_room(&self, lines: &[Line]) -> Option<u64> {
         let mut first = u64::MAX;
         let mut number = None;
@@ -423,8 +428,8 @@ impl<'a> Sockets<'a> {
         number
     }
 
-    /// The connection that is closed for others that wait for a place or for room, if any. Connections that only linger
-    /// are closed first.
+    /// The connection that is closed for others that wait for a place or for memory, if any. Connections that only
+    /// linger are closed first.
     fn gives_way(&mut self, lines: &[Line]) -> Option<u64> {
         let wants_place = self.wants_place();
         if !(wants_place || self.crowded) || self.now < self.look {
@@ -447,7 +452,7 @@ impl<'a> Sockets<'a> {
         self.gives_room(lines)
     }
 
-    /// Whether more bytes are held than may be.
+    /// Whether more bytes of requests are held than the limit.
     fn is_full(&mut self, lines: &[Line]) -> bool {
         if self.held <= HELD_BYTES {
             self.crowded = false;
@@ -458,8 +463,8 @@ impl<'a> Sockets<'a> {
         self.held > HELD_BYTES
     }
 
-    /// Looks at a client that waited for its turn: what can be done for it, if anything. It waits again if more may be
-    /// done later: behind the others if it can go on, and aside while requests of it are left that were read.
+    /// Looks at a client whose turn it is: what can be done for it, if anything. It is queued again if more may be done
+    /// later: behind the others if it can go on, and aside while it has requests to be answered.
     fn look_at(
         &mut self,
         number: u64,
@@ -512,7 +517,7 @@ impl<'a> Sockets<'a> {
         None
     }
 
-    /// The same, of those of which requests were left.
+    /// The same, of those that still have requests to be answered.
     fn next_aside(&mut self, lines: &[Line], full: bool, first: Option<u64>) -> Option<Ready> {
         for _ in 0..self.aside.len() {
             let number = self.aside.pop_front()?;
@@ -523,8 +528,8 @@ impl<'a> Sockets<'a> {
         None
     }
 
-    /// What can be done next for a client. One of which requests were left is read only if no other can go on, or after
-    /// some others.
+    /// What can be done next for a client. One that still has requests to be answered is read only if no other can go
+    /// on, or after some others.
     fn next_ready(&mut self, lines: &[Line]) -> Option<Ready> {
         let full = self.is_full(lines);
         let first = if full { fullest(lines) } else { None };
@@ -552,7 +557,7 @@ impl Sockets<'_> {
     }
 
     /// Whether the system is asked for new events before the next turn. While requests are left from turn to turn it is
-    /// asked in each, so that one that arrives is read in the next, but for the only client's.
+    /// asked in each, so that one that arrives is read in the next; but less often if there is only one client.
     fn is_to_ask(&self, may_wait: bool) -> bool {
         let most = if may_wait {
             TURNS
@@ -564,7 +569,7 @@ impl Sockets<'_> {
         self.turns >= most
     }
 
-    /// Looks for connections whose time is over, and for one that gives way to others. The first of these.
+    /// Looks for connections whose time is over, and for one that gives way to others. Returns the first of these.
     fn given_up(&mut self, lines: &[Line]) -> Option<u64> {
         self.look_at_deadlines(lines);
         if let Some(number) = self.expired.pop_front() {
@@ -573,7 +578,7 @@ impl Sockets<'_> {
         self.gives_way(lines)
     }
 
-    /// What can be done next: of each two turns one accepts first, the other reads or writes first.
+    /// What can be done next. Turns alternate: one accepts first, the next reads or writes first.
     fn next_of_all(&mut self, lines: &[Line], accepts: bool) -> Option<Ready> {
         self.accepts_first = !self.accepts_first;
         if self.accepts_first && self.has_next(accepts) {

@@ -9,19 +9,19 @@ pub record Date : Type 0 where
   pub month : ℕ
   pub day : ℕ
 
--- the day after it
+-- the next day
 abbrev pub next_day : Date → Date
 next_day t =
     if nat_lt t.day (days_in_month (pos t.year) t.month) then record t { day = t.day + 1 }
     else if nat_lt t.month 12 then record { year = t.year; month = t.month + 1; day = 1 }
     else record { year = t.year + 1; month = 1; day = 1 }
 
--- the day that many days after 2000-01-01
+-- the date n days after 2000-01-01
 unfoldable pub date_after : ℕ → Date
 date_after zero = record { year = 2000; month = 1; day = 1 }
 date_after (suc n) = next_day (date_after n)
 
--- YYYY-MM-DDTHH:MM:SSZ, of the moment so many seconds after 2000-01-01T00:00:00Z
+-- the moment n seconds after 2000-01-01T00:00:00Z, as YYYY-MM-DDTHH:MM:SSZ
 unfoldable pub moment_text : ℕ → List ℕ
 moment_text n =
     let date = date_after (n / 86400) in

@@ -1,4 +1,4 @@
--- The printed texts: a heading, and a line for each row.
+-- The printed lists: a heading, and a line for each row.
 use Rattle.std.specs.Prelude.{ℕ, Bool, if◌then◌else◌, List, [], ◌∷◌, ◌++◌, length, Option, Some, None, decimal, codes, flat_map}
 use Rattle.plant_types.specs.Names.{Name}
 use Rattle.plant_alarm.specs.declared.summary.AlarmState.{AlarmState}
@@ -8,7 +8,7 @@ use Rattle.plant_model.specs.declared.reply.{AlarmLine.{AlarmLine}, FloodLine.{F
 use Rattle.plant_model.specs.declared.reply.StandingLine.{StandingLine}
 use Rattle.plant_report.specs.{Columns.{left, right, line}, Moments.{moment_text}}
 
--- the first line: what it lists, whose, at which moment, and how many lines follow
+-- the heading: what is listed, of which unit or person, at which moment, and how many lines follow
 abbrev pub heading : List ℕ → Name → ℕ → ℕ → List ℕ
 heading what whose at count = line (what ∷ whose ∷ codes "AT" ∷ moment_text at ∷ codes "COUNT" ∷ decimal count ∷ [])
 
@@ -16,7 +16,7 @@ heading what whose at count = line (what ∷ whose ∷ codes "AT" ∷ moment_tex
 abbrev pub shelf_kind : Bool → List ℕ
 shelf_kind one_shot = if one_shot then codes "one-shot" else codes "timed"
 
--- a shelf: its alarm, its kind, its start, the seconds that are left, who shelved, and why
+-- a shelf: its alarm, its kind, its start, how many seconds are left, who shelved, and why
 abbrev pub shelf_columns : ShelfLine → List (List ℕ)
 shelf_columns l =
     left 24 l.tag
@@ -50,7 +50,7 @@ state_name ReturnedUnack = codes "ReturnedUnack"
 state_name LatchedUnack = codes "LatchedUnack"
 state_name LatchedAck = codes "LatchedAck"
 
--- a priority, or N where no alarm is needed
+-- a priority, or N if no alarm is needed
 abbrev pub cell_name : Cell → List ℕ
 cell_name P1 = codes "P1"
 cell_name P2 = codes "P2"
@@ -58,7 +58,7 @@ cell_name P3 = codes "P3"
 cell_name P4 = codes "P4"
 cell_name N = codes "N"
 
--- the priority of an alarm, or a hyphen where it has no record
+-- the priority of an alarm, or a hyphen if it has no record
 abbrev pub priority_name : Option Cell → List ℕ
 priority_name None = codes "-"
 priority_name (Some cell) = cell_name cell
@@ -66,7 +66,7 @@ priority_name (Some cell) = cell_name cell
 abbrev pub mark_if : Bool → ℕ → ℕ
 mark_if holds mark = if holds then mark else 45
 
--- S shelved, D suppressed by design, O out of service, each a hyphen where it doesn't hold
+-- S if shelved, D if suppressed by design, O if out of service, and a hyphen for each that is false
 abbrev pub flags : Bool → Bool → Bool → List ℕ
 flags shelved by_design out_of_service = mark_if shelved 83 ∷ mark_if by_design 68 ∷ mark_if out_of_service 79 ∷ []
 

@@ -1,3 +1,6 @@
+//! The two printed lists of a unit's alarms, all of them and the active ones only, and the names of an alarm's state
+//! and of a priority, which the JSON answers use too.
+
 ghost use Rattle.std.specs.Prelude.{◌≡◌, ◌++◌, IfOk};
 ghost use Rattle.plant_types.specs.{Adding.{Adds}, Results.{OnlyMemory}};
 ghost use Rattle.plant_report.specs.{Columns.{line as line_of}, Texts.{alarm_columns, standing_columns}};
@@ -94,7 +97,7 @@ pub fn state_name(state: AlarmState) -> &'static [u8]
     }
 }
 
-/// The name of a cell of a matrix: a priority, or that no alarm is needed.
+/// The name of a cell of a matrix: a priority, or N if no alarm is needed.
 pub fn cell_name(cell: Cell) -> &'static [u8]
     ensures { result.now ≡ texts.cell_name cell }
 {

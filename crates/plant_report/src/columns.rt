@@ -1,3 +1,6 @@
+//! Appends one column to a line of a printed list, padded with spaces to a fixed width where the list is to be read as
+//! a table, or ends the line.
+
 ghost use Rattle.std.specs.Prelude.{◌≡◌, [], ◌∷◌, ◌++◌, ◌-◌, ◌≤◌, length, replicate};
 ghost use Rattle.plant_types.specs.{Adding.{Adds}, Results.{OnlyMemory}};
 ghost use Rattle.plant_report.specs.{Columns.{left, right, line as line_of}, Moments.{moment_text}, declared.columns.TheConstants.{WIDEST}};
@@ -8,7 +11,7 @@ use plant_types::{Fault, Moment};
 /// The width of the widest column.
 const WIDEST: usize = 32;
 
-/// As many spaces as fill it up.
+/// Spaces to pad a column with.
 const SPACES: [u8; WIDEST] = [b' '; WIDEST];
 
 /// Adds a column and the space after it.
@@ -20,7 +23,7 @@ pub fn push_column(text: &mut Vec<u8>, column: &[u8]) -> Result<(), Fault>
     Ok(text.push(b' ')?)
 }
 
-/// Adds a column, filled up with spaces on the right, and the space after it.
+/// Adds a column, padded with spaces on the right, and the space after it.
 pub fn push_left(text: &mut Vec<u8>, width: usize, column: &[u8]) -> Result<(), Fault>
     requires { width ≤ WIDEST }
     ensures value { Adds result text.old.items text.new.items (left width column.now ++ 32 ∷ []) }
@@ -31,7 +34,7 @@ pub fn push_left(text: &mut Vec<u8>, width: usize, column: &[u8]) -> Result<(), 
     Ok(text.push(b' ')?)
 }
 
-/// Adds a column, filled up with spaces on the left, and the space after it.
+/// Adds a column, padded with spaces on the left, and the space after it.
 pub fn push_right(text: &mut Vec<u8>, width: usize, column: &[u8]) -> Result<(), Fault>
     requires { width ≤ WIDEST }
     ensures value { Adds result text.old.items text.new.items (right width column.now ++ 32 ∷ []) }
@@ -58,7 +61,7 @@ pub fn push_last(text: &mut Vec<u8>, column: &[u8]) -> Result<(), Fault>
     Ok(text.push(b'\n')?)
 }
 
-/// Adds the last column, filled up with spaces on the left, and ends the line.
+/// Adds the last column, padded with spaces on the left, and ends the line.
 pub fn push_last_right(text: &mut Vec<u8>, width: usize, column: &[u8]) -> Result<(), Fault>
     requires { width ≤ WIDEST }
     ensures value { Adds result text.old.items text.new.items
@@ -69,7 +72,7 @@ pub fn push_last_right(text: &mut Vec<u8>, width: usize, column: &[u8]) -> Resul
     push_last(text, column)
 }
 
-/// Adds the spaces that fill a column up.
+/// Adds the spaces that pad a column to its width.
 fn push_padding(text: &mut Vec<u8>, width: usize, column: &[u8]) -> Result<(), Fault>
     requires { width ≤ WIDEST }
     ensures value { Adds result text.old.items text.new.items

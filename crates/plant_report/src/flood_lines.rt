@@ -1,3 +1,6 @@
+//! The printed list of a unit's alarm floods: for each from when to when it lasted, the number of its alarms, and the
+//! most alarms in one period.
+
 ghost use Rattle.std.specs.Prelude.{◌≡◌, ◌++◌, IfOk};
 ghost use Rattle.plant_types.specs.{Adding.{Adds}, Results.{OnlyMemory}};
 ghost use Rattle.plant_report.specs.{Columns.{line as line_of}, Texts.{flood_columns, flood_heading}};

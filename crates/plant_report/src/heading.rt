@@ -1,3 +1,6 @@
+//! The first line that the lists of alarms and of shelves share, and an estimate of how much memory a printed list
+//! takes.
+
 ghost use Rattle.std.specs.Prelude.{◌≡◌, ◌++◌};
 ghost use Rattle.plant_types.specs.{Adding.{Adds}, Results.{OnlyMemory}};
 ghost use Rattle.plant_report.specs.Texts.{heading};
@@ -6,15 +9,15 @@ use crate::columns::{push_column, push_last, push_moment};
 use itoa::Buffer;
 use plant_types::{Fault, Moment};
 
-/// Bytes of room for a line: most lines take fewer.
+/// How many bytes are allocated for a line at first; most lines take fewer.
 const LINE_ROOM: usize = 128;
 
-/// Bytes of room for a text of so many lines, and its heading.
+/// How many bytes to allocate at first for a list of this many lines and its heading.
 pub fn room_for(lines: usize) -> usize {
     lines.saturating_add(1).saturating_mul(LINE_ROOM)
 }
 
-/// Adds the first line of a text: what it lists, whose, at which moment, and how many lines follow.
+/// Adds the heading of a list: what is listed, of which unit or person, at which moment, and how many lines follow.
 pub fn push_heading(
     text: &mut Vec<u8>,
     what: &[u8],

@@ -1,3 +1,5 @@
+//! A moment as text in UTC, for the printed lists and the JSON answers.
+
 ghost use Rattle.std.specs.Prelude.{◌≡◌};
 ghost use Rattle.plant_report.specs.Moments.{moment_text};
 

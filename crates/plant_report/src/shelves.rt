@@ -1,3 +1,5 @@
+//! The two printed lists of shelved alarms: those of one unit, and those of all units in which a person holds a role.
+
 ghost use Rattle.std.specs.Prelude.{◌≡◌, ◌++◌, IfOk};
 ghost use Rattle.plant_types.specs.{Adding.{Adds}, Results.{OnlyMemory}};
 ghost use Rattle.plant_report.specs.{Columns.{line as line_of}, Texts.{shelf_columns, mine_columns}};

@@ -1,4 +1,4 @@
-//! What is read of requests, as tests alone: the few targets and bodies that no request shows.
+//! Tests of how requests are read: the few targets and bodies that no request of the examples shows.
 #![tactic(auto)]
 
 #[cfg(test)]

@@ -1,4 +1,4 @@
-//! The largest base of a proposal. A unit that has it has no room for another change.
+//! The largest base of a proposal. No exchange shows it: a unit with so many changes has no room for another.
 
 use plant_body::read_proposal;
 

@@ -1,5 +1,5 @@
--- Which route a method and a target name: a definition over the bytes. `insert` puts a path into the rows of a
--- router as matchit does, and `first` is matchit's search.
+-- Which route a method and a target select: a definition over the bytes. `insert` puts a path into the rows of a router
+-- as matchit does, and `first` is matchit's search.
 use Rattle.std.specs.List.{list_all}
 use Rattle.std.specs.Prelude.{ℕ, List, [], ◌∷◌, codes, Result, Ok, Err, Option, None, option_map, Bool, ◌&&◌, ◌||◌, not, nat_le, ◌==◌, if◌then◌else◌, slice_index, bytes_eq}
 use Rattle.matchit.specs.{Order.{placed}, Route.{Scan, parse_route}, Router.{RouteOf, route_from}, Rows.{RowsOf}, Seek.{first}}
@@ -48,7 +48,7 @@ service_posts =
     ∷ (codes "/units/{unit}/alarms/{tag}/place-in-service", PlaceInService)
     ∷ []
 
--- POST: a change, and how it is decided
+-- POST: a change, and the decisions on it
 unfoldable pub change_posts : List (List ℕ × CallKind)
 change_posts =
     (codes "/units/{unit}/changes", Propose)
@@ -65,7 +65,7 @@ alarm_gets =
     ∷ (codes "/units/{unit}/changes/{n}", ChangeOf)
     ∷ []
 
--- GET: what a unit lists
+-- GET: the lists of a unit
 unfoldable pub unit_gets : List (List ℕ × CallKind)
 unit_gets =
     (codes "/units/{unit}/alarms", Alarms)

@@ -1,3 +1,6 @@
+//! The table of all routes, as two routers of matchit, one for GET and one for POST, and the look-up of the kind of
+//! call by method and target.
+
 ghost use Rattle.std.specs.{List.{list_all}, Prelude.{◌≡◌, IfOk, OnOk, IsTrue}};
 ghost use Rattle.plant_types.specs.Results.{OnlyMemory};
 ghost use Rattle.plant_route.specs.Routes.{insert, unit_posts, alarm_posts, service_posts, change_posts, alarm_gets, unit_gets, own_gets, post_rows, get_rows, with_routes, route_in, route_of, is_path_byte, is_path};
@@ -7,7 +10,7 @@ use plant_model::CallKind;
 use plant_types::Fault;
 use std::alloc::Global;
 
-/// Adds a route. A router without room for it is short of memory.
+/// Adds a route. If that fails, it is reported as out of memory.
 fn add(router: &mut Router<CallKind>, path: &str, kind: CallKind) -> Result<(), Fault>
     ensures ok { OnOk result (router.new ≡ insert router.old path.now kind) }
     ensures err { OnlyMemory result }
@@ -158,7 +161,7 @@ fn get_routes(alloc: Global) -> Result<Router<CallKind>, Fault>
     Ok(router)
 }
 
-/// The routers of both methods, made once and used for one request after another.
+/// The routers of POST and GET, built once and used for one request after another.
 #[derive(Drop)]
 pub struct Routes {
     post: Router<CallKind>,
@@ -168,7 +171,7 @@ pub struct Routes {
 }
 
 impl Routes {
-    /// All routes.
+    /// Builds the routers of all routes.
     pub fn new(alloc: Global) -> Result<Routes, Fault>
         ensures { OnlyMemory result }
     {
@@ -178,7 +181,7 @@ impl Routes {
         })
     }
 
-    /// The kind of call that a method and a target ask for.
+    /// The kind of call for a method and a target, or `None` if no route fits.
     pub fn of(&self, method: &[u8], target: &[u8]) -> Option<CallKind>
         ensures { result ≡ route_of method.now target.now }
     {

@@ -1,4 +1,5 @@
--- What an office over a keeper did, said of another keeper that holds as much before it and as much after it.
+-- What an office over one keeper did, carried over to another keeper: it holds what the first one holds, and a crash
+-- leaves no more of it.
 use Rattle.std.proofs.Common.{List, sym, subst, ℕ, ◌+◌, ◌<◌, ◌^◌, ◌≡◌}
 use Rattle.plant_books.specs.Contents.{Content}
 use Rattle.plant_model.specs.declared.{call.Call.{Call}, reply.Answer.{Answer}}
@@ -6,7 +7,7 @@ use Rattle.plant_model.specs.Worlds.{World}
 use Rattle.plant_office.specs.{Enduring.{AreAfter, BooksState}, Runs.{stores_in}}
 use Rattle.plant_wire.specs.Ran.{Ran}
 
--- what holds of a run up to some books holds up to others that hold as much, where a crash leaves no more
+-- the lower books hold whatever the upper ones hold, and a crash leaves no more of them
 pub record Hands (upper lower : BooksState) : Type 0 where
   pub held : (m : Content) → upper.held m → lower.held m
   pub leaves : (x : Content) → lower.leaves x → upper.leaves x

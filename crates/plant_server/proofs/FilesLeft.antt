@@ -1,4 +1,4 @@
--- What files that a crash leaves hold.
+-- What the files hold that a crash leaves.
 use Rattle.std.proofs.Common.{◌≡◌, Err, IfErr, IfOk, IfSome, IsErr, IsTrue, List, None, Ok, Option, Result, Some, [], ap, sym, subst, true≢false, ◌∙◌}
 use Rattle.std.proofs.Math.Logic.{∥∥₁_map}
 use Rattle.sqlite.specs.{Effect.{Database, IsDatabase}, Files.{HoldsDatabase, file_state}, Held.{Held}, State.{HasCleanDisk, IsLive}, Tree.{Trees}}
@@ -34,7 +34,7 @@ outcome_held image w calls answers db it holds = record {
 }
 
 module _ {D : Type 0} {g : Ghosts D} where
-  -- a store that leaves no more than a connection did leaves what it did
+  -- a store of which a crash leaves no more than of a connection leaves the same outcomes
   pub outcomes_left : (c : Held (FileStore D g)) (it : FileStore D g) → IsWhole it → ((db : Trees) → recovers it db → recovers c.store db)
       → LeavesBooks (file_state c) → (w : World) (calls : List Call) (answers : List Answer)
       → ((x : Content) → LeavesContent (file_state c) x → IsOutcome w calls answers x) → LeavesOutcomes it w calls answers
@@ -72,14 +72,14 @@ module _ {D : Type 0} {g : Ghosts D} where
         ∥∥₁_map alone.alone (held_by (record image { log = [] }) (file_state c).now m _ same now k),
       )
 
--- what was closed was made of what there was, on the same premises
+-- what was closed has the property if what was made has it, on the same premises
 pub closed_of : {A B E F : Type 0} (P Q : Type 0) (R : A → Type 0) (S : B → Type 0) (made : Result A E) (closed : Result B F)
     → IfOk made (λ a. P → Q → R a) → IfOk made (λ a. R a → IfOk closed S) → IfErr made (λ _. IsErr closed) → IfOk closed (λ b. P → Q → S b)
 closed_of P Q R S made (Err e) was whole unmade = tt
 closed_of P Q R S (Ok a) (Ok b) was whole unmade = λ p q. whole (was p q)
 closed_of P Q R S (Err e) (Ok b) was whole unmade = absurd (true≢false (sym unmade))
 
--- what got its name is what was made
+-- what was renamed is what was made
 pub placed_of : {A E F : Type 0} (P : A → Type 0) (made : Result A E) (placed : Result A F) → IfOk placed (λ a. made ≡ Ok a) → IfOk made P
     → IfOk placed P
 placed_of P made (Err e) is was = tt

@@ -1,4 +1,4 @@
--- What a connection over files shows, where the files held a database.
+-- What a connection over files shows, if the files held a database.
 use Rattle.std.proofs.Common.{◌≡◌, ◌⊎◌, inl, inr, ap, map, refl, subst, sym, ◌∙◌, ◌∷◌, [], Some, ℕ}
 use Rattle.sqlite.specs.{Effect.{Database}, Opening.{FailsAs}, Start.{FindsIn}, State.{HasCleanDisk, IsLive, Opens, State, store_error}, Table.{Table}}
 use Rattle.sqlite.specs.declared.error.{Error.{Error, TheVariants.{SqliteFailure}}, ErrorCode.TheVariants.{DiskFull, OutOfMemory}}

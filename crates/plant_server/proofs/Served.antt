@@ -1,4 +1,4 @@
--- What was served, from what was at hand as it began.
+-- What was served, from what the books held when it began.
 use Rattle.std.proofs.Common.{ℕ, ◌≡◌, ◌⊎◌, inl, inr, refl, ◌∷◌, IfSome, IsTrue, List, None, Option, Some, [], subst, sym}
 use Rattle.sqlite.specs.{Effect.{Database}, declared.file.Leftover.{Leftover}}
 use Rattle.sqlite_disk.specs.declared.Disk.{Ghosts}
@@ -65,7 +65,7 @@ module _ {D N : Type 0} {g : Ghosts D} (before end : BooksState) (admin : Name) 
       let k = is.endures.goes_on w [] [] (tidy clean) (at.after own (is.endures.clean (tidy clean))) in
       leaves w calls answers clean k.sound k.outcomes
 
-  -- where no call was confirmed, nothing is said; else the store was open as it was opened
+  -- if no call was confirmed, there is nothing to show; otherwise the store was open when it was opened
   before_failure : (calls : List Call) (answers : List Answer) → Ran before end count counted_to calls answers → (w : World) → IsAtHand before admin w
       → end.clean → AreAnsweredBeforeFailure w calls answers
   before_failure calls answers is w at clean = elim (none_or_some (confirmed calls answers)) [

@@ -11,7 +11,7 @@ use Rattle.plant_office.specs.Outcomes.{IsOutcome}
 use Rattle.plant_server.specs.Files.{HoldBooks}
 use Rattle.plant_statements.specs.Keeping.{AreBooksOf, LeavesBooks, LeavesContent}
 
--- on a clean disk a crash leaves books that are alike to this content, and nothing else
+-- on a clean disk a crash leaves books whose content is alike to this one, and nothing else
 abbrev pub LeavesOnly : State → Content → Type 0
 LeavesOnly s m = HasCleanDisk s → LeavesBooks s × ((x : Content) → LeavesContent s x → Alike x m)
 
@@ -36,7 +36,7 @@ pub record LeavesOutcomes {D : Type 0} {g : Ghosts D} (it : FileStore D g) (w : 
   pub databases : (db : Trees) → recovers it db → IsOutcomeIn w calls answers db
   pub files : (image : Image) → (state it).may_leave image → ∥ HoldOutcome w calls answers image ∥₁
 
--- nothing that the store leaves is half of a database
+-- whatever a crash leaves of the store is a whole database
 pub record IsWhole {D : Type 0} {g : Ghosts D} (it : FileStore D g) : Type 0 where
   pub numbered : IsTrue (view it).is_numbered
   pub sound : AreDatabases (recovers it)
@@ -53,7 +53,7 @@ abbrev pub HoldWholeBooks : {D : Type 0} → (g : Ghosts D) → Files D → Cont
 HoldWholeBooks g files m = (image : Image) → outcomes g files.log files.db image
     → ∥ HoldBooks image m ∥₁ × ∥ HoldBooks (record image { log = [] }) m ∥₁
 
--- the same, with such books as a crash may leave of an office
+-- the same, with books that a crash may leave of an office
 abbrev pub HoldWholeOutcome : {D : Type 0} → (g : Ghosts D) → Files D → World → List Call → List Answer → Type 0
 HoldWholeOutcome g files w calls answers =
     (image : Image) → outcomes g files.log files.db image

@@ -16,8 +16,8 @@ use Rattle.plant_statements.specs.Changes.{IsHonest}
 use Rattle.plant_store.specs.{Opening.{IsThisOffice}, declared.tables.StoreFault.{StoreFault, TheVariants.{NotThisStore}}}
 use Rattle.plant_types.specs.Names.{Name}
 
--- A path; what the file there and its log hold as they are opened; and what is true of files that were opened there and
--- not touched.
+-- A path; what the file there and its log hold on opening; and what is true of files that were opened there and not
+-- touched.
 pub record Place (D : Type 0) : Type 1 where
   pub path : List ℕ
   pub files : Image
@@ -40,16 +40,16 @@ pub record Begins {D : Type 0} (place : Place D) (path : List ℕ) (w : World) :
   pub holds : Holds content w
 
 module _ {D : Type 0} {g : Ghosts D} where
-  -- Files that were not opened as a database are as they were. They are refused as not this store only where they hold
-  -- no database.
+  -- Files that were not opened as a database are as they were. They are refused as not this store only if they hold no
+  -- database.
   pub record IsUnopened (place : Place D) (path : List ℕ) (fault : StoreFault) (rest : Leftover D g) : Type 0 where
     pub opened : Files D
     pub fresh : path ≡ place.path → place.fresh opened
     pub still : IsCleanLeft rest → LeavesFiles opened rest
     pub cause : IsCleanLeft rest → fault ≡ NotThisStore → (db : Trees) → ¬ HoldsDatabase (image_of g opened) db
 
-  -- A database that was refused as books is as it was. It is refused as not this store only where it is not the office
-  -- of this administrator.
+  -- A database that was refused as books is as it was. It is refused as not this store only if it is not the office of
+  -- this administrator.
   pub record IsDeclined (place : Place D) (path : List ℕ) (admin : Name) (fault : StoreFault) (conn : Held (FileStore D g))
       : Type 0 where
     pub still : path ≡ place.path → (db : Database) → HoldDatabase place.files db → HoldsStill (file_state conn) db
@@ -69,27 +69,27 @@ module _ {D N : Type 0} {g : Ghosts D} where
   IsCleanAfter (left.Unclosed store) = IsClean (view store)
   IsCleanAfter _ = ⊥
 
-  -- It has, and no failure has shut the store.
+  -- The disk has returned what was written, and no failure has shut the store.
   abbrev pub IsHonestAfter : Left D N g → Type 0
   IsHonestAfter (left.Closed files) = AreClean g files.log files.db
   IsHonestAfter (left.Unclosed store) = IsClean (view store) × IsTrue (view store).is_open
   IsHonestAfter _ = ⊥
 
-  -- Whatever a crash leaves from now on is books after the confirmed calls, or after these and one in doubt: of closed
+  -- Whatever a crash leaves from now on is books after the confirmed calls, or after these and one in doubt; for closed
   -- files also without the log.
   abbrev pub LeavesAfter : Left D N g → World → List Call → List Answer → Type 0
   LeavesAfter (left.Closed files) w calls answers = HoldWholeOutcome g files w calls answers
   LeavesAfter (left.Unclosed store) w calls answers = (db : Trees) → recovers store db → IsOutcomeIn w calls answers db
   LeavesAfter _ w calls answers = ⊥
 
-  -- what standard error says of their closing
+  -- what is printed to standard error on closing
   abbrev pub closing_text : Left D N g → List ℕ
   closing_text (left.Unclosed store) = not_copied_text
   closing_text _ = []
 
   -- The calls that were made on the books of files, from any world that `begins` there. `store` is what serving left
   -- before it was closed; a crash within the serving is read as its end over a disk that fails from then on. What a
-  -- crash leaves is said of a world of the administrator: the store may have shut while the books were opened.
+  -- crash leaves is stated for a world of the administrator: the store may have shut while the books were opened.
   pub record RanOnFiles (begins : World → Type 0) (admin : Name) (store : FileStore D g) (after : Left D N g)
       (calls : List Call) (answers : List Answer) : Type 0 where
     pub answered : (w : World) → begins w → IsHonestAfter after → AreAnsweredBy w calls answers
@@ -97,8 +97,8 @@ module _ {D N : Type 0} {g : Ghosts D} where
     pub meanwhile : (w : World) → begins w → w.admin ≡ admin → IsCleanAfter after → LeavesOutcomes store w calls answers
     pub afterwards : (w : World) → begins w → w.admin ≡ admin → IsCleanAfter after → LeavesAfter after w calls answers
 
-  -- No books were opened, for this fault, and the files are as they were. Where they did not come to be opened, what the
-  -- names of the files said is not known here.
+  -- No books were opened, for this fault, and the files are as they were. If they were not even opened, nothing is
+  -- stated about the cause.
   abbrev pub IsRefusal : Place D → List ℕ → Name → StoreFault → Left D N g → Type 0
   IsRefusal place path admin fault left.Nothing = Unit {0}
   IsRefusal place path admin fault (left.Unopened rest) = IsUnopened place path fault rest

@@ -1,4 +1,4 @@
--- What the parts of the command leave to one another.
+-- What the parts of the command establish for one another.
 use Rattle.std.specs.Prelude.{◌≡◌, IsTrue, List, [], None, Option, Some}
 use Rattle.sqlite.specs.declared.file.Leftover.{Leftover}
 use Rattle.sqlite_disk.specs.declared.Disk.{Ghosts}
@@ -12,14 +12,14 @@ use Rattle.plant_server.specs.{Services.{HasServed}, Statuses.{no_rows_text}, St
 use Rattle.plant_server.specs.declared.remains.Left.TheVariants as left
 use Rattle.plant_types.specs.Names.{Name}
 
--- Books, while they are honest, hold the rows of this world; and of a world of this administrator a crash leaves
+-- While the books are honest they hold the rows of this world; and for a world of this administrator a crash leaves
 -- nothing else.
 pub record IsAtHand (books : BooksState) (admin : Name) (w : World) : Type 0 where
   pub now : books.honest → HoldsWorld w books
   pub after : w.admin ≡ admin → books.clean → AreAfter w [] [] books
 
 module _ {D N : Type 0} {g : Ghosts D} where
-  -- this is left of the store that serving left
+  -- what closing leaves of a store after serving
   pub record IsClosing (store : FileStore D g) (after : Left D N g) : Type 0 where
     pub were : AreServed after
     pub clean : IsCleanAfter after → IsClean (view store)

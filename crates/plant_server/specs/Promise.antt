@@ -1,4 +1,4 @@
--- What the program promises: of its words, its streams, and the files at the path that its words name.
+-- What the program promises of its command line, its streams, and the files at the path that its command line names.
 use Rattle.std.specs.Prelude.{◌≡◌, ◌≢◌, ◌⊎◌, IfOk, IfSome, IsErr, IsSomeAnd, List, ℕ, None, Option, Some, Result, Ok, Err, string_bytes}
 use Rattle.sqlite.specs.{Effect.{Database}, Files.{file_state}, Held.{Held}}
 use Rattle.sqlite_disk.specs.declared.{Disk.{Ghosts}, Files.{Files}}
@@ -19,7 +19,7 @@ use Rattle.plant_statements.specs.Changes.{IsHonest}
 use Rattle.plant_store.specs.{Opening.{IsThisOffice}, declared.tables.StoreFault.{StoreFault, TheVariants.{NotThisStore}}}
 use Rattle.plant_types.specs.Names.{Name}
 
--- Nothing was served, for this fault: no byte was read, none was answered, and no port is said to be listened on.
+-- Nothing was served, for this fault: no byte was read, none was answered, and no port was announced.
 pub record IsUnserved (fault : StoreFault) (s : Streams) (n : ExitStatus) : Type 0 where
   pub status : n ≡ NoBooks
   pub unread : s.unread_after ≡ s.unread
@@ -33,13 +33,14 @@ pub record IsServedInMemory (admin : Name) (service : Option Service) (s : Strea
   pub said : IsSaid s.lines.reported first no_rows_text
   pub served : HasServed (AreAnsweredBy (empty_world admin)) ⊥ service (within s first s.lines.reported_after) n
 
--- it did, or memory ran out before
+-- it was served in memory, or books could not be made and nothing was served
 abbrev pub IsDoneInMemory : Name → Option Service → Streams → ExitStatus → Type 0
 IsDoneInMemory admin service s n =
     ((fault : StoreFault) × IsUnserved fault s n × (fault ≢ NotThisStore)) ⊎ IsServedInMemory admin service s n
 
 module _ {D N : Type 0} {g : Ghosts D} where
-  -- Files were served, those of the administrator. If a service ended because a failure had shut the store, it is shut.
+  -- The files of the administrator's office were served. If a service ended because a failure had shut the store, the
+  -- store is indeed shut.
   pub record FilesServed (place : Place D) (path : List ℕ) (admin : Name) (service : Option Service) (s : Streams)
       (n : ExitStatus) (after : Left D N g) : Type 0 where
     pub were : AreServed after
@@ -52,13 +53,14 @@ module _ {D N : Type 0} {g : Ghosts D} where
     pub served : HasServed (RanOnFiles (Begins place path) admin store after) (¬ IsHonestAfter after) service
         (within s first last) n
 
-  -- they were, or for this fault no books were opened
+  -- files were served, or no books were opened, for this fault
   abbrev pub IsDoneOnFile : Place D → List ℕ → Name → Option Service → Streams → ExitStatus → Left D N g → Type 0
   IsDoneOnFile place path admin service s n after =
       ((fault : StoreFault) × IsUnserved fault s n × IsRefusal place path admin fault after)
       ⊎ FilesServed place path admin service s n after
 
-  -- An older file was migrated, or not: what it held of schema 1 its new file holds, and what it held it still holds.
+  -- An older file was migrated, or not. The new file holds what the older one held in schema 1, and the older one still
+  -- holds what it held.
   pub record AreMigrated (h : Ghosts N) (place : Place D) (path : List ℕ) (admin : Name) (lines : Lines) (n : ExitStatus)
       (old : Option (Held (FileStore D g))) (made : Result (Files N) StoreFault) : Type 0 where
     pub status : n ≡ status_of_migration made
@@ -74,7 +76,7 @@ module _ {D N : Type 0} {g : Ghosts D} where
   IsMigration h place path admin lines n (left.Migrated old made) = AreMigrated h place path admin lines n old made
   IsMigration h place path admin lines n _ = ⊥
 
-  -- what a task asks for was done, or why it was not is said
+  -- a task was done, or the reason why it was not was reported
   abbrev pub IsDone : Ghosts N → Place D → Name → Task → Streams → ExitStatus → Left D N g → Type 0
   IsDone h place admin (Serve None service) s n after = IsDoneInMemory admin service s n
   IsDone h place admin (Serve (Some path) service) s n after =
@@ -82,15 +84,15 @@ module _ {D N : Type 0} {g : Ghosts D} where
   IsDone h place admin (Migrate old new) s n after =
       (s.unread_after ≡ s.unread) × IsMigration h place (string_bytes old) admin s.lines n after
 
-  -- What a line asks for was done, or the words were refused or asked for help, which was printed.
+  -- What the command line asks for was done, or it was refused, or it asked for help, which was printed.
   abbrev pub IsObeyed : Ghosts N → Place D → Result Line LineError → Streams → ExitStatus → Left D N g → Type 0
   IsObeyed h place (Ok line) s n after = IsDone h place line.admin line.task s n after
   IsObeyed h place (Err error) s n after = (n ≡ status_of_line error) × (s.unread_after ≡ s.unread)
       × IsSaid s.lines.printed s.lines.printed_after (help_text error)
       × IsSaid s.lines.reported s.lines.reported_after (refusal_text error)
 
-  -- The promise: the words are read as a line, what it asks for is done, and the number tells how it ended. `gives_port`
-  -- and `gives` read the numbers of options.
+  -- The promise: the command line is read, what it asks for is done, and the exit status shows how it ended.
+  -- `gives_port` and `gives` read the numbers of options.
   pub record IsKept {E : Type 0} (gives_port gives : List ℕ → Result ℕ E → Type 0) (h : Ghosts N) (place : Place D)
       (words : List (List ℕ)) (s : Streams) (number : ℕ) (after : Left D N g) : Type 0 where
     pub line : Result Line LineError

@@ -16,7 +16,7 @@ use Rattle.plant_wire.specs.{Session.{IsSession}, declared.reads.End.{End}}
 abbrev pub OfCalls : Type 1
 OfCalls = List Call → List Answer → Type 0
 
--- One session over the input and the output, and its end, which standard error and the status say.
+-- One session over the input and the output, and its end, which standard error and the status show.
 pub record IsStreamed (ran : OfCalls) (s : Streams) (n : ExitStatus) : Type 0 where
   pub end : End
   pub ended : Bool
@@ -30,8 +30,8 @@ AreAsMany n count (Ok u) = count ≡ n
 AreAsMany n count (Err e) = count ≤ n
 
 -- The connections of a port were served one after the other: each is a session of its own, and the office's calls are
--- those of all of them, in turn. That the store shut ends only a service that goes on while it is open, and then `lost`
--- is true of the store.
+-- those of all of them, in turn. Only a service that goes on while its store is open ends because the store has shut,
+-- and then `lost` is true.
 pub record AreInTurn (ran : OfCalls) (lost : Type 0) (service : Service) (n : ExitStatus) : Type 0 where
   pub exchanges : List Exchange
   pub each : AreExchanges exchanges
@@ -41,8 +41,8 @@ pub record AreInTurn (ran : OfCalls) (lost : Type 0) (service : Service) (n : Ex
   pub status : n ≡ served result
   pub shut : result ≡ Err stopped.Shut → IsTrue service.while_open × lost
 
--- They were served many at once, as many in all as the service asks for, or fewer where the port failed, or where the
--- store shut and the service goes on only while it is open: of what happened at all of them the office's calls are one
+-- They were served many at once: as many in all as the service asks for, or fewer if the port failed, or if the store
+-- has shut and the service goes on only while it is open. Of what happened at all of them the office's calls are one
 -- list, and each was sent the answers to its own requests.
 pub record AreAtOnce (ran : OfCalls) (lost : Type 0) (service : Service) (n : ExitStatus) : Type 0 where
   pub result : Outcome
@@ -60,7 +60,7 @@ AreOfPort false ran lost service n = AreInTurn ran lost service n
 AreOfPort true ran lost service n = AreAtOnce ran lost service n
 
 -- Over an office of which `ran` is true: one session ended, or the connections of a port were served. If a service
--- ended because a failure had shut the store, `lost` is true of it.
+-- ended because a failure had shut the store, `lost` is true.
 abbrev pub HasServed : OfCalls → Type 0 → Option Service → Streams → ExitStatus → Type 0
 HasServed ran lost None s n = IsStreamed ran s n
 HasServed ran lost (Some service) s n = AreOfPort (is_at_once service) ran lost service n

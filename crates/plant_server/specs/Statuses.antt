@@ -1,4 +1,4 @@
--- The exit statuses of the program, and what it says of them.
+-- The exit statuses of the program, and the lines that it prints about them.
 use Rattle.std.specs.Prelude.{if◌then◌else◌, true, false, codes, string_bytes, List, [], ℕ, Err, Ok, Result}
 use Rattle.plant_wire.specs.declared.reads.End.{End}
 use Rattle.plant_wire.specs.declared.reads.End.TheVariants.{BrokenInput, Closed, Fault, ReadFailed, WriteFailed}
@@ -23,7 +23,7 @@ code statuses.WriteFailed = 6
 code statuses.NoMemory = 7
 code statuses.NetFailed = 8
 
--- how a session ended: done where all was answered
+-- for the end of a session: done if all was answered
 abbrev pub exit_status_of : End → ExitStatus
 exit_status_of Closed = statuses.Done
 exit_status_of BrokenInput = statuses.BrokenInput
@@ -31,32 +31,33 @@ exit_status_of ReadFailed = statuses.ReadFailed
 exit_status_of WriteFailed = statuses.WriteFailed
 exit_status_of Fault = statuses.NoMemory
 
--- why the words can't be followed: done where they ask for help
+-- for a command line that is refused: done if it asks for help or the version
 abbrev pub status_of_line : LineError → ExitStatus
 status_of_line (Text text is_error) = if is_error then statuses.WrongLine else statuses.Done
 status_of_line NotAPerson = statuses.WrongLine
 status_of_line NoDb = statuses.WrongLine
 status_of_line Memory = statuses.NoMemory
 
--- one connection after the other: all were served, or listening or accepting failed, or a failure shut the store
+-- for connections one after the other: all were served, or listening or accepting failed, or a failure shut the store
 abbrev pub served : Result (Unit {0}) Stopped → ExitStatus
 served (Ok u) = statuses.Done
 served (Err stopped.Failed) = statuses.NetFailed
 served (Err stopped.Shut) = statuses.NoBooks
 
--- many at once: all were served, or memory ran out before any, or the port failed, or a failure shut the store
+-- for many connections at once: all were served, or memory ran out before any, or the port failed, or a failure shut
+-- the store
 abbrev pub served_at_once : Outcome → ExitStatus
 served_at_once (Ok u) = statuses.Done
 served_at_once (Err halted.Memory) = statuses.NoMemory
 served_at_once (Err halted.Ports) = statuses.NetFailed
 served_at_once (Err halted.Shut) = statuses.NoBooks
 
--- an older file was migrated, or not
+-- for a migration: the older file was migrated, or not
 abbrev pub status_of_migration : {A : Type 0} → Result A StoreFault → ExitStatus
 status_of_migration (Ok made) = statuses.Done
 status_of_migration (Err e) = statuses.NoBooks
 
--- ---- what is said of it
+-- ---- what is printed about it
 
 -- on the output: the help, or the version, that the words ask for
 abbrev pub help_text : LineError → List ℕ
@@ -96,7 +97,7 @@ abbrev pub unmigrated_text : {A : Type 0} → Result A StoreFault → List ℕ
 unmigrated_text (Ok made) = []
 unmigrated_text (Err e) = unopened_text e
 
--- that there was no memory for rows at hand, and that the log stays beside the file
+-- that there was no memory for cached rows; and that the log stays beside the file
 abbrev pub no_rows_text : List ℕ
 no_rows_text = codes "memory: no rows at hand\n"
 

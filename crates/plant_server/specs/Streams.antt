@@ -1,4 +1,4 @@
--- What the program's streams held, before and after, where that is known.
+-- What the program's streams held, before and after, if that is known.
 use Rattle.std.specs.{Io.KnownBytes.{Appends}, Prelude.{List, Option, ℕ, take}}
 use Rattle.std.specs.declared.io.Write as write
 use Rattle.plant_wire.specs.declared.streams.Inlet as inlet
@@ -8,14 +8,14 @@ use Rattle.plant_wire.specs.declared.streams.Outlet as outlet
 abbrev pub Bytes : Type 0
 Bytes = Option (List ℕ)
 
--- What the program's own lines come to: on the output, and on standard error.
+-- The program's own lines, on the output and on standard error.
 pub record Lines : Type 0 where
   pub printed : Bytes
   pub printed_after : Bytes
   pub reported : Bytes
   pub reported_after : Bytes
 
--- What the input had left, what the output held of answers, and the program's own lines.
+-- The bytes left in the input, the answers in the output, and the program's own lines.
 pub record Streams : Type 0 where
   pub unread : Bytes
   pub unread_after : Bytes

@@ -1,3 +1,5 @@
+//! Makes new books in memory, for a service that is not given a file.
+
 ghost use Rattle.std.specs.Prelude.{◌≡◌, ◌≢◌, IfErr, IfOk};
 ghost use Rattle.sqlite.specs.{Held.{state}, Steps.{over_memory}};
 ghost use Rattle.plant_books.specs.Contents.{no_units};

@@ -1,3 +1,6 @@
+//! The program's command in full: reads the command line, opens the books, serves or migrates, closes the files, and
+//! returns the exit status.
+
 ghost use Rattle.std.specs.{Duration.{as_nanos}, Prelude.{◌≡◌, ◌+◌, ◌*◌, [], List, Result, length, map, option_map}};
 ghost use Rattle.std.specs.Prelude.{Err, IsTrue, OnOk, true, false};
 ghost use Rattle.sqlite_std_file.specs.File.{IsFresh};
@@ -69,7 +72,7 @@ fn end_text(end: End) -> &'static [u8]
     }
 }
 
-/// Says how the session ended, and gives the status.
+/// Writes to standard error how the session ended, and returns the status.
 fn report_end<E: Write>(errors: &mut E, end: End) -> ExitStatus
     ensures status { result ≡ statuses.exit_status_of end }
     ensures said { IsSaid (E.contents errors.old) (E.contents errors.new) (statuses.end_text end) }
@@ -78,7 +81,7 @@ fn report_end<E: Write>(errors: &mut E, end: End) -> ExitStatus
     status_of(end)
 }
 
-/// Says that the store failed, and gives the status.
+/// Writes to standard error that the store failed, and returns the status.
 fn report_store(errors: &mut impl Write) -> ExitStatus
     ensures { result ≡ NoBooks }
 {
@@ -86,7 +89,7 @@ fn report_store(errors: &mut impl Write) -> ExitStatus
     ExitStatus::NoBooks
 }
 
-/// Says if listening or accepting failed, or the store, and gives the status.
+/// Reports on standard error if listening, accepting or the store failed, and returns the status.
 fn report_service(errors: &mut impl Write, outcome: Result<(), Stopped>) -> ExitStatus
     ensures { result ≡ statuses.served outcome }
 {
@@ -100,7 +103,7 @@ fn report_service(errors: &mut impl Write, outcome: Result<(), Stopped>) -> Exit
     }
 }
 
-/// Says if the port of many connections at once failed, or the store, and gives the status.
+/// Reports on standard error if the port of many connections at once or the store failed, and returns the status.
 fn report_at_once(errors: &mut impl Write, outcome: Result<(), Halted>) -> ExitStatus
     ensures { result ≡ statuses.served_at_once outcome }
 {
@@ -125,7 +128,7 @@ fn unopened_text(fault: &StoreFault) -> &'static [u8]
     }
 }
 
-/// Says why no books were opened, and gives the status.
+/// Writes to standard error why no books were opened, and returns the status.
 fn report_unopened<E: Write>(errors: &mut E, fault: &StoreFault) -> ExitStatus
     ensures status { result ≡ NoBooks }
     ensures said { IsSaid (E.contents errors.old) (E.contents errors.new) (statuses.unopened_text fault.now) }
@@ -134,7 +137,7 @@ fn report_unopened<E: Write>(errors: &mut E, fault: &StoreFault) -> ExitStatus
     ExitStatus::NoBooks
 }
 
-/// One session; the status says how it ended.
+/// Runs one session over the streams. The status shows how it ended.
 fn serve_streams<B: Books, I: Inlet, O: Outlet + Write, E: Write>(
     alloc: Global,
     office: &mut Office<B>,
@@ -150,7 +153,7 @@ fn serve_streams<B: Books, I: Inlet, O: Outlet + Write, E: Write>(
     report_end(errors, end)
 }
 
-/// Says on which address a port listens.
+/// Prints the address on which a port listens. A failed write is ignored.
 fn say_address(alloc: Global, output: &mut impl Write, address: SocketAddr) {
     if let Ok(line) = format!(in alloc; "listening on {address}\n") {
         say(output, line.as_bytes());
@@ -167,8 +170,8 @@ fn idle_time(service: Service) -> Option<Duration>
     }
 }
 
-/// Serves as many connections of a listener as the service is to have, or fewer where accepting fails, or where a
-/// failure shuts the store of a service that goes on only while it is open.
+/// Serves as many connections of a listener as the service asks for; fewer if accepting fails, or if a failure shuts
+/// the store of a service that goes on only while it is open.
 fn serve_listener<L: Listener, B: Books, W: Write, E: Write>(
     alloc: Global,
     listener: &mut L,
@@ -195,7 +198,7 @@ fn serve_listener<L: Listener, B: Books, W: Write, E: Write>(
     }
 }
 
-/// Listens on the port of a service of one connection after the other, and says where.
+/// Listens on the port of a service of one connection after the other, and prints its address.
 fn listen_in_turn(
     rt: &HostRuntime,
     service: Service,
@@ -227,7 +230,7 @@ fn serve_in_turn<B: Books, W: Write, E: Write>(
     serve_listener(rt.alloc(), &mut port, office, service, output, errors)
 }
 
-/// What a port of many connections at once allows.
+/// The limits of a port of many connections at once.
 fn limits_of(service: Service) -> Limits
     ensures clients { result.clients ≡ service.clients }
     ensures idle { option_map as_nanos result.idle ≡ option_map (λ s. s * 1_000_000_000) service.idle }
@@ -281,7 +284,7 @@ fn serve_at_once<B: Books, W: Write, E: Write>(
     outcome
 }
 
-/// Serves the connections of a port, many at once if the service asks for it; the status says whether all of them were
+/// Serves the connections of a port, many at once if the service asks for it. The status shows whether all of them were
 /// served.
 pub fn serve_port<B: Books, W: Write, E: Write>(
     rt: &HostRuntime,
@@ -301,7 +304,7 @@ pub fn serve_port<B: Books, W: Write, E: Write>(
     report_service(errors, outcome)
 }
 
-/// Serves a port or the streams by an office, and gives the status.
+/// Serves the port, or the streams if no service is given, by an office, and returns the status.
 fn serve_office<B: Books, I: Inlet, O: Outlet + Write, E: Write>(
     rt: &HostRuntime,
     office: &mut Office<B>,
@@ -320,7 +323,8 @@ fn serve_office<B: Books, I: Inlet, O: Outlet + Write, E: Write>(
     }
 }
 
-/// Serves a port or the streams over these books, and gives the status and the books after it.
+/// Serves the port, or the streams if no service is given, over these books, and returns the status and the books after
+/// it.
 fn serve_over<B: Books + Drop, I: Inlet, O: Outlet + Write, E: Write>(
     rt: &HostRuntime,
     books: B,
@@ -339,7 +343,7 @@ fn serve_over<B: Books + Drop, I: Inlet, O: Outlet + Write, E: Write>(
     (status, left)
 }
 
-/// The same over tables, with rows at hand.
+/// The same over tables, with cached rows.
 fn serve_at_hand<S: Alter + Drop, I: Inlet, O: Outlet + Write, E: Write>(
     rt: &HostRuntime,
     copies: Copies,
@@ -361,8 +365,8 @@ fn serve_at_hand<S: Alter + Drop, I: Inlet, O: Outlet + Write, E: Write>(
     (status, below)
 }
 
-/// Serves a port or the streams over these books, with rows at hand if there is memory for them, and gives the status
-/// and the books after it. If there is none, standard error says so first.
+/// Serves the port, or the streams if no service is given, over these tables, with cached rows if there is memory for
+/// the cache; if there is not, standard error gets a line first. Returns the status and the tables after it.
 fn serve_books<S: Alter + Drop, I: Inlet, O: Outlet + Write, E: Write>(
     rt: &HostRuntime,
     books: Tables<S>,
@@ -386,7 +390,7 @@ fn serve_books<S: Alter + Drop, I: Inlet, O: Outlet + Write, E: Write>(
     }
 }
 
-/// Serves new books in memory, and gives the status.
+/// Serves new books in memory, and returns the status.
 fn serve_memory<I: Inlet, O: Outlet + Write, E: Write>(
     rt: &HostRuntime,
     admin: Person,
@@ -408,8 +412,8 @@ fn serve_memory<I: Inlet, O: Outlet + Write, E: Write>(
     }
 }
 
-/// Closes the files that serving left, and says if the log stays beside the file. Where it does not, the file alone
-/// holds what a crash could leave before.
+/// Closes the files after serving, and reports on standard error if the log could not be copied and stays beside the
+/// file. After a copy, the file alone holds what a crash could leave before.
 fn close_and_say<D: Disk + Drop, N: Disk + Drop, E: Write>(
     store: FileStore<D>,
     errors: &mut E,
@@ -427,8 +431,8 @@ fn close_and_say<D: Disk + Drop, N: Disk + Drop, E: Write>(
     }
 }
 
-/// Serves the books of files, closes these, and gives the status and what is left. If the service ended because a
-/// failure had shut the store, the store is shut.
+/// Serves the books of files, closes these, and returns the status and what is left of the files. If the service ended
+/// because a failure had shut the store, the store is indeed shut.
 fn serve_kept<D: Disk + Drop, N: Disk + Drop, I: Inlet, O: Outlet + Write, E: Write>(
     rt: &HostRuntime,
     books: Tables<FileStore<D>>,
@@ -446,11 +450,11 @@ fn serve_kept<D: Disk + Drop, N: Disk + Drop, I: Inlet, O: Outlet + Write, E: Wr
     (status, left)
 }
 
-/// Serves the books of a file, and gives the status and what is left of the file. Where it held the rows of a world,
-/// and the disk has returned what was written, whatever a crash now leaves of it is books: those after all calls that
-/// were confirmed, or after these and one that was answered by a fault. The same is true at each moment of the serving,
-/// read as the end of the serving over a disk that fails from then on. Where no books are opened, it looks no further: a
-/// port is listened on only for books that are there, and the file is as it was.
+/// Serves the books of a file, and returns the status and what is left of the file. If the file held the rows of a
+/// world, and the disk has returned what was written, then whatever a crash now leaves of it is books: those after all
+/// confirmed calls, or after these and one that was answered by a fault. The same is true at each moment of the
+/// serving, read as the end of the serving over a disk that fails from then on. If no books are opened, no port is
+/// listened on, and the file is as it was.
 pub fn serve_file<F: Start + Located, I: Inlet, O: Outlet + Write, E: Write>(
     rt: &HostRuntime,
     path: &str,
@@ -473,7 +477,7 @@ pub fn serve_file<F: Start + Located, I: Inlet, O: Outlet + Write, E: Write>(
     }
 }
 
-/// Serves the books of a file, or new books in memory, and gives the status and what is left of the file.
+/// Serves the books of a file, or new books in memory, and returns the status and what is left of the file.
 fn serve<F: Start + Located, I: Inlet, O: Outlet + Write, E: Write>(
     rt: &HostRuntime,
     admin: Person,
@@ -508,7 +512,7 @@ fn serve<F: Start + Located, I: Inlet, O: Outlet + Write, E: Write>(
     }
 }
 
-/// Says whether the older file was migrated, and gives the status.
+/// Reports whether the older file was migrated, and returns the status.
 fn report_migration<T, W: Write, E: Write>(
     output: &mut W,
     errors: &mut E,
@@ -527,7 +531,7 @@ fn report_migration<T, W: Write, E: Write>(
     }
 }
 
-/// Migrates an older file to a new one, and gives the status and what is left of both.
+/// Migrates an older file to a new one, and returns the status and what is left of both.
 fn migrate_and_say<F: Start + Located, W: Write, E: Write>(
     rt: &HostRuntime,
     admin: Person,
@@ -548,7 +552,7 @@ fn migrate_and_say<F: Start + Located, W: Write, E: Write>(
     (status, Left::Migrated(old, made))
 }
 
-/// Does what the command line asks for, and gives the status and what is left of files.
+/// Does what the command line asks for, and returns the status and what is left of the files.
 fn run<F: Start + Located, I: Inlet, O: Outlet + Write, E: Write>(
     rt: &HostRuntime,
     line: Line,
@@ -604,7 +608,8 @@ fn report_line_error<W: Write, E: Write>(
     }
 }
 
-/// Does what the words ask for, or says why they are refused, and gives the status and what is left of files.
+/// Reads the command line and does what it asks for, or reports why it is refused. Returns the status and what is left
+/// of the files.
 fn obey<S: AsStr, F: Start + Located, I: Inlet, O: Outlet + Write, E: Write>(
     rt: &HostRuntime,
     words: &[S],
@@ -628,15 +633,15 @@ fn obey<S: AsStr, F: Start + Located, I: Inlet, O: Outlet + Write, E: Write>(
     }
 }
 
-/// Does what the words ask for, the program's own name first, and answers the exit status: 0 where the input ended
-/// and every request was answered, where all connections of the port were served, where the older file was migrated,
-/// or for help; 2 where the command line is wrong; 3 where the file keeps no books of this administrator or can't be
-/// opened, or can't be migrated, or memory ran out as books were opened, or a failure shut the store of a service that
-/// was to serve all connections that come; 4, 5, 6 or 7 where the session over the streams ended by broken input, a
-/// failed read, a failed write, or for lack of memory, and 7 where memory ran out as the command line was read or
-/// before any of many connections was accepted; 8 where listening on the port or accepting a connection failed.
+/// Does what the command line asks for, the program's own name first, and returns the exit status: 0 if the input ended
+/// and every request was answered, if all connections of the port were served, if the older file was migrated, or for
+/// help; 2 if the command line is wrong; 3 if the file keeps no books of this administrator or can't be opened, or
+/// can't be migrated, or memory ran out as books were opened, or a failure shut the store of a service that was to
+/// serve all connections that come; 4, 5, 6 or 7 if the session over the streams ended by broken input, a failed read,
+/// a failed write, or because memory ran out, and 7 also if memory ran out as the command line was read or before any
+/// of many connections was accepted; 8 if listening on the port or accepting a connection failed.
 ///
-/// `Promise` says in full what is answered, and what the files hold then and after a crash at any moment. For that,
+/// `Promise` states in full what is answered, and what the files hold then and after a crash at any moment. For that,
 /// `start` stands for what the files at a path hold as they are opened, and what is left of them is handed back.
 pub fn command<S: AsStr, F: Start + Located, I: Inlet, O: Outlet + Write, E: Write>(
     rt: &HostRuntime,

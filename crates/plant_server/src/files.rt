@@ -1,4 +1,5 @@
-//! Books that a file keeps.
+//! Opens the books that a file keeps, or creates the file if neither it nor its log exists. A new file is made under
+//! another name and renamed once it is whole, so that a start that is cut off leaves no half file.
 
 ghost use Rattle.std.specs.Prelude.{◌≡◌, false, true, IsTrue, IfErr, IfOk, IfSome};
 ghost use Rattle.sqlite.specs.{Effect.{Database}, Files.{file_state, IsBlankAs, IsOpened}, Start.{FindsIn}};
@@ -36,7 +37,7 @@ pub const STORE: StoreFault = StoreFault::Fault(Fault::Store);
 /// Memory ran out.
 const MEMORY: StoreFault = StoreFault::Fault(Fault::Memory);
 
-/// What an error of the engine is reported as.
+/// The fault that an error of the engine is reported as.
 fn fault_of(error: &Error) -> StoreFault
     ensures { result ≡ files.fault_by_error error.now }
 {
@@ -47,15 +48,15 @@ fn fault_of(error: &Error) -> StoreFault
     }
 }
 
-/// Why no database was opened, and what the engine's opening left of the file and its log, where it came to these.
+/// Why no database was opened, and what the engine left of the file and its log, if it got as far as opening them.
 pub type NotConnected<S> = (StoreFault, Option<Leftover<FileFrom<S>>>);
 
 /// Why no books were opened, and what is left of the file and its log.
 pub type NotOpened<S> = (StoreFault, Left<FileFrom<S>, File>);
 
-/// The database at this path. If there is none, a new one is made, with a checksum in each page in the form of SQLite's
-/// extension cksumvfs. A database that is there keeps its form. Where it is not opened, its files are not written over:
-/// a crash leaves of them what it could leave before, in the engine's words `LeavesFiles`.
+/// Opens the database at this path. If there is none, a new one is made, with a checksum in each page, in the form of
+/// SQLite's extension cksumvfs; an existing database keeps its form. If opening fails, the files are not overwritten: a
+/// crash leaves of them what it could leave before (the engine's `LeavesFiles`).
 pub fn connect<S: Start + Located>(
     rt: &HostRuntime,
     path: &str,
@@ -77,8 +78,8 @@ pub fn connect<S: Start + Located>(
     }
 }
 
-/// The books of a database, or why it is refused as books, and the database, which was only read. In words of any
-/// store, since each call in those of two files takes the prover long.
+/// Opens the books of a database. If it is refused as books, the database is handed back; it was only read. Generic
+/// over the store: the prover is slow on the concrete one.
 fn open_books<S: Alter + Drop>(
     alloc: Global,
     conn: Connection<S>,
@@ -110,8 +111,8 @@ fn unopened<D: Disk, N: Disk>(rest: Option<Leftover<D>>) -> Left<D, N>
     }
 }
 
-/// The books of a database that is there. Where its files held books with some content, that is what these hold; of any
-/// other database none are opened but where it is this person's office. One that is refused was only read.
+/// Opens the books of an existing database. If its files held books with some content, that is what these hold; any
+/// other database is opened only if it is this person's office. A database that is refused was only read.
 fn open_file<S: Start + Located>(
     rt: &HostRuntime,
     path: &str,
@@ -133,7 +134,7 @@ fn open_file<S: Start + Located>(
         Ok(conn) => conn,
         Err((fault, rest)) => return Err((fault, unopened(rest))),
     };
-    // Tells the proof what a crash leaves of it; it does nothing.
+    // Gives the proof what a crash leaves of it; does nothing at run time.
     note_settled(&conn);
     match open_books(rt.alloc(), conn, admin) {
         Ok(books) => Ok(books),
@@ -141,7 +142,7 @@ fn open_file<S: Start + Located>(
     }
 }
 
-/// Whether something has this name, be it a link to nothing.
+/// Whether anything has this name, even a link to a missing file.
 fn is_named(rt: &HostRuntime, path: &str) -> Result<bool, StoreFault> {
     match fs::symlink_metadata(rt, path) {
         Ok(_) => Ok(true),
@@ -150,8 +151,8 @@ fn is_named(rt: &HostRuntime, path: &str) -> Result<bool, StoreFault> {
     }
 }
 
-/// The length in bytes of the file of this name or that it is a link to, or none if nothing has the name. A link to
-/// nothing counts as an empty file.
+/// The length in bytes of the file of this name, following links, or `None` if nothing has the name. A link to a
+/// missing file counts as an empty file.
 pub fn length_of(rt: &HostRuntime, path: &str) -> Result<Option<u64>, StoreFault> {
     match fs::metadata(rt, path) {
         Ok(found) => Ok(Some(found.len())),
@@ -162,8 +163,8 @@ pub fn length_of(rt: &HostRuntime, path: &str) -> Result<Option<u64>, StoreFault
     }
 }
 
-/// Whether there is a file of this name. An empty file, or a log without its file, keeps no books:
-/// this is reported before the engine would write to it. No file has an empty name.
+/// Whether a file of this name exists. An empty file, or a log without its file, keeps no books: this is reported
+/// before the engine would write to it. An empty name is an error.
 pub fn is_there(rt: &HostRuntime, path: &str) -> Result<bool, StoreFault> {
     if path.is_empty() {
         return Err(STORE);
@@ -176,12 +177,12 @@ pub fn is_there(rt: &HostRuntime, path: &str) -> Result<bool, StoreFault> {
     }
 }
 
-/// The name of a file beside this one.
+/// The name of a file beside this one, with this ending added.
 pub fn beside(rt: &HostRuntime, path: &str, ending: &str) -> Result<String, StoreFault> {
     format!(in rt.alloc(); "{path}{ending}").map_err(|_| MEMORY)
 }
 
-/// Removes a file, if it is there.
+/// Removes a file, if it exists.
 pub fn remove(rt: &HostRuntime, path: &str) -> Result<(), StoreFault> {
     match fs::remove_file(rt, path) {
         Ok(()) => Ok(()),
@@ -190,7 +191,7 @@ pub fn remove(rt: &HostRuntime, path: &str) -> Result<(), StoreFault> {
     }
 }
 
-/// Makes new books in a new database, in words of any store.
+/// Makes new books in a new database. Generic over the store: the prover is slow on the concrete one.
 fn create_books<S: Alter + Drop>(
     alloc: Global,
     conn: Connection<S>,
@@ -221,8 +222,8 @@ fn make_over<D: Disk + Drop>(
     }
 }
 
-/// Makes new books in a file that is not there, and closes it: whatever a crash leaves of it from then on holds them,
-/// also without the log.
+/// Makes new books in a file that does not exist, and closes it: whatever a crash leaves of it from then on holds the
+/// books, also without the log.
 fn make_whole(rt: &HostRuntime, path: &str, admin: Person) -> Result<Files<File>, StoreFault>
     ensures { IfOk result (λ files. AreClean ⟦<File as Disk>⟧ files.log files.db
         → HoldWholeBooks ⟦<File as Disk>⟧ files (no_units admin)) }
@@ -233,7 +234,7 @@ fn make_whole(rt: &HostRuntime, path: &str, admin: Person) -> Result<Files<File>
     }
 }
 
-/// Closes a new file, which is whole then.
+/// Closes a new file, which then holds the books also without its log.
 pub fn close_new<D: Disk + Drop>(books: Tables<FileStore<D>>) -> Result<Files<D>, StoreFault>
     ensures { (m : Content) → Represents (file_state books.0.0) m
         → IfOk result (λ files. AreClean D.Disk files.log files.db
@@ -248,7 +249,7 @@ pub fn close_new<D: Disk + Drop>(books: Tables<FileStore<D>>) -> Result<Files<D>
     }
 }
 
-/// What an error of the store at its closing is reported as.
+/// The fault that an error of the store on closing is reported as.
 fn closing_fault(error: StoreError) -> StoreFault
     ensures { result ≡ files.closing_fault_of error }
 {
@@ -273,8 +274,8 @@ pub fn new_names(rt: &HostRuntime, path: &str) -> Result<NewNames, StoreFault> {
     })
 }
 
-/// Gives a new file, which is whole and closed, the name that it is for. A file of that name is not replaced, unless it
-/// is made between the look at the name and the renaming.
+/// Renames a new file, which is whole and closed, to its final name. An existing file of that name is not replaced,
+/// unless it appears between the check and the renaming.
 pub fn put_in_place(rt: &HostRuntime, new: &NewNames, path: &str) -> Result<(), StoreFault> {
     remove(rt, &new.log)?;
     if length_of(rt, path)?.is_some() {
@@ -283,8 +284,8 @@ pub fn put_in_place(rt: &HostRuntime, new: &NewNames, path: &str) -> Result<(), 
     fs::rename(rt, &new.file, path).map_err(|_| STORE)
 }
 
-/// Makes new books in a file of this name: whole under a name beside it, then renamed. What a start that was cut off
-/// left under that name goes first.
+/// Makes new books in a file of this name: first whole under a temporary name, then renamed. What an interrupted start
+/// left under the temporary name is removed first.
 fn make_file(rt: &HostRuntime, path: &str, admin: Person) -> Result<(), StoreFault> {
     let new = new_names(rt, path)?;
     remove(rt, &new.file)?;
@@ -293,7 +294,7 @@ fn make_file(rt: &HostRuntime, path: &str, admin: Person) -> Result<(), StoreFau
     put_in_place(rt, &new, path)
 }
 
-/// Makes new books in a file of this name where neither it nor its log is there.
+/// Makes new books in a file of this name, if neither it nor its log exists.
 fn make_if_missing(rt: &HostRuntime, path: &str, admin: &Person) -> Result<(), StoreFault> {
     if !is_there(rt, path)? {
         let founder = admin.copy(rt.alloc()).map_err(|_| MEMORY)?;
@@ -302,10 +303,10 @@ fn make_if_missing(rt: &HostRuntime, path: &str, admin: &Person) -> Result<(), S
     Ok(())
 }
 
-/// The books of the file at this path, which is made where neither it nor its log is there. A start that is cut off
-/// leaves nothing of this name or a file that the next start opens. Where no books are opened, the file is as it was. It
-/// is refused as not this store where the names of the file and its log say so (an empty file, or a log alone), or it
-/// holds no database, or one that is not this administrator's office.
+/// Opens the books of the file at this path, which is created if neither it nor its log exists. An interrupted start
+/// leaves nothing under this name, or a file that the next start opens. If no books are opened, the file is as it was.
+/// It is refused as not this store if it is empty, if only its log exists, if it holds no database, or if the database
+/// is not this administrator's office.
 pub fn in_file<S: Start + Located>(
     rt: &HostRuntime,
     path: &str,

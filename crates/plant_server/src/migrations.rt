@@ -1,4 +1,4 @@
-//! The migration of a file of the older schema: its tables are copied to a new file.
+//! The migration of a file of the older schema: its tables are copied to a new file, and the older file is only read.
 
 ghost use Rattle.std.specs.Prelude.{◌≡◌, IfErr, IfOk, IfSome, IsErr, IsSomeAnd, Ok, false};
 ghost use Rattle.sqlite.specs.{Effect.{Database}, Files.{file_state, IsOpened}, Held.{state}, Start.{FindsIn}};
@@ -24,7 +24,7 @@ use std::fs;
 use std::io::ErrorKind;
 use std::os::unix::fs::MetadataExt;
 
-/// Whether there is a file of this name, or a log of it.
+/// Whether a file of this name exists, or a log of it.
 fn is_taken(rt: &HostRuntime, path: &str) -> Result<bool, StoreFault> {
     let log = beside(rt, path, "-wal")?;
     Ok(length_of(rt, path)?.is_some() || length_of(rt, &log)?.is_some())
@@ -42,8 +42,8 @@ fn is_same_file(rt: &HostRuntime, path: &str, name: &str) -> Result<bool, StoreF
     }
 }
 
-/// Removes what a start or a migration that was cut off left of a new file. Where that is the older file itself,
-/// nothing is removed.
+/// Removes what an interrupted start or migration left of a new file. If that is the older file itself, nothing is
+/// removed, and this fails.
 fn clear(rt: &HostRuntime, old_path: &str, new: &NewNames) -> Result<(), StoreFault> {
     if is_same_file(rt, old_path, &new.file)? || is_same_file(rt, old_path, &new.log)? {
         return Err(STORE);
@@ -52,14 +52,14 @@ fn clear(rt: &HostRuntime, old_path: &str, new: &NewNames) -> Result<(), StoreFa
     remove(rt, &new.log)
 }
 
-/// Removes what was made of a new file that can't be finished. What can't be removed is removed by the next try.
+/// Removes an unfinished new file. What can't be removed is removed by the next attempt.
 fn discard(rt: &HostRuntime, new: &NewNames) {
     let _ = remove(rt, &new.file);
     let _ = remove(rt, &new.log);
 }
 
-/// Copies the tables of the older database to the new one, and hands the older one back, which was only read. What the
-/// older tables had, the new books hold.
+/// Copies the tables of the older database to the new one, and hands the older one back, which was only read. The new
+/// books hold what the older tables held.
 fn copy_tables<D: Disk + Drop, N: Alter + Drop>(
     alloc: Global,
     old: Connection<FileStore<D>>,
@@ -79,8 +79,8 @@ fn copy_tables<D: Disk + Drop, N: Alter + Drop>(
     }
 }
 
-/// Makes the new file under this name, and hands the older database back, which was only read. What the older tables
-/// had, the new books hold.
+/// Makes the new file under this name, and hands the older database back, which was only read. The new books hold what
+/// the older tables held.
 #[tactic(auto, using(crate::proofs::OlderRead::not_read))]
 fn copy_to_file<D: Disk + Drop>(
     rt: &HostRuntime,
@@ -117,7 +117,7 @@ fn close_made(made: Result<Tables<FileStore<File>>, StoreFault>) -> Result<Files
     }
 }
 
-/// The same. Where the new file was not made, or closing fails, nothing of it is left.
+/// The same. If the new file was not made, or closing fails, its remains are removed.
 fn finish(
     rt: &HostRuntime,
     made: Result<Tables<FileStore<File>>, StoreFault>,
@@ -135,8 +135,8 @@ fn finish(
     closed
 }
 
-/// Makes the new file under the name beside it, closed, and hands the older database back, which was only read. What
-/// the older tables had, the new file holds. Where it can't be made, nothing of it is left.
+/// Makes the new file under its temporary name, closes it, and hands the older database back, which was only read. The
+/// new file holds what the older tables held. If it can't be made, its remains are removed.
 #[tactic(auto, using(crate::proofs::OlderRead::not_read))]
 fn make_new<D: Disk + Drop>(
     rt: &HostRuntime,
@@ -159,7 +159,7 @@ fn make_new<D: Disk + Drop>(
     (old, finish(rt, made, new))
 }
 
-/// The name of the log of the file at this path. Where the path is a link, the log is beside the file that it leads to.
+/// The name of the log of the file at this path. If the path is a link, the log is beside the file that it points to.
 fn log_of(rt: &HostRuntime, path: &str) -> Result<String, StoreFault> {
     let Ok(file) = fs::canonicalize(rt, path) else {
         return Err(STORE);
@@ -196,13 +196,13 @@ fn make_from<S: Start + Located>(
     ensures read { old_path.now ≡ S.Located.path → (db : Database)
         → HoldDatabase (image_at S.Start) db → HoldsStill (file_state result.0) db }
 {
-    // Tells the proof what a crash leaves of it; it does nothing.
+    // Gives the proof what a crash leaves of it; does nothing at run time.
     note_settled(&old);
     make_new(rt, old, old_path, new, admin)
 }
 
-/// Opens the older file and makes the new one from it. The older one is only read, and stays locked as long as its
-/// connection is there. The engine makes a log if there is none; it is removed before the lock is given up.
+/// Opens the older file and makes the new one from it. The older one is only read, and stays locked while its
+/// connection exists. The engine makes a log if there is none; that log is removed before the lock is released.
 fn open_and_make<S: Start + Located>(
     rt: &HostRuntime,
     old_path: &str,
@@ -236,7 +236,7 @@ fn open_and_make<S: Start + Located>(
     Ok(migrated)
 }
 
-/// Makes sure that the name of the file at this path is on the disk.
+/// Syncs the folder of the file at this path, so that the file's name is on the disk.
 fn sync_folder(rt: &HostRuntime, path: &str) -> Result<(), StoreFault> {
     let Ok(mut folder) = fs::canonicalize(rt, path) else {
         return Err(STORE);
@@ -248,7 +248,7 @@ fn sync_folder(rt: &HostRuntime, path: &str) -> Result<(), StoreFault> {
     }
 }
 
-/// The names under which the new file is made, where the older one is there and the new one's name is free.
+/// The names under which the new file is made. Fails if the older file does not exist, or the new file's name is taken.
 fn names_for(rt: &HostRuntime, old_path: &str, new_path: &str) -> Result<NewNames, StoreFault> {
     if !is_there(rt, old_path)? {
         return Err(StoreFault::NotThisStore);
@@ -259,7 +259,7 @@ fn names_for(rt: &HostRuntime, old_path: &str, new_path: &str) -> Result<NewName
     new_names(rt, new_path)
 }
 
-/// Gives the new file its name, if it was made.
+/// Renames the new file to its final name, if it was made.
 fn place(
     rt: &HostRuntime,
     made: Result<Files<File>, StoreFault>,
@@ -278,9 +278,9 @@ fn place(
 }
 
 /// Copies the tables of the older file to a new one, whose name must be free. The older file is only read, whatever it
-/// holds: on a disk that returns what was written, what it held it holds. The new one is there once it is whole, or not
-/// at all; where its folder can't be synced, it is there and the store's fault is given. What the older one held of
-/// schema 1, the new one holds.
+/// holds: on a disk that returns what was written, it still holds what it held. The new file appears once it is whole,
+/// or not at all; if its folder can't be synced, it exists and a fault of the store is returned. The new file holds
+/// what the older one held in schema 1.
 pub fn migrate_file<S: Start + Located>(
     rt: &HostRuntime,
     old_path: &str,

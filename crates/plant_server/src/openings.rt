@@ -1,4 +1,4 @@
-//! The engine over the files at a path, with a log that is copied into the file soon.
+//! Opens the database engine over the file at a path and its write-ahead log, with a limit of the log's length.
 
 ghost use Rattle.std.specs.Prelude.{◌≡◌, false, true, IfErr, IfOk, IfSome, IsTrue};
 ghost use Rattle.sqlite.specs.Files.{FailsToOpenFiles, file_state, IsBlankAs, IsCleanLeft, IsOpened, LeavesFiles};
@@ -14,12 +14,12 @@ use sqlite_std_file::OpenError;
 use std::hash::{BuildHasher, RandomState};
 use std::io::ErrorKind;
 
-/// After how many pages the log is copied into the file: it stays below 256 KiB, but for a call that alone writes more.
+/// After how many pages the log is copied into the file: it stays below 256 KiB, unless a single call writes more.
 const PAGES_IN_LOG: usize = 56;
 
 const CANNOT_OPEN: Error = Error::SqliteFailure(ErrorCode::CannotOpen);
 
-/// What failed as the files were opened, in the engine's words.
+/// The engine's error for a failure to open the files.
 fn error_of(error: &OpenError) -> Error
     ensures { IsTrue (is_open_error result) }
 {
@@ -33,8 +33,8 @@ fn error_of(error: &OpenError) -> Error
     }
 }
 
-/// The file at this path and its log, each made if it is missing. The engine's words for a database in memory and for a
-/// URI are no paths.
+/// Opens the file at this path and its log, each created if missing. The engine's names for a database in memory and
+/// for a URI are not paths, and are refused.
 fn open_pair<S: Start + Located>(
     rt: &HostRuntime,
     path: &str,
@@ -55,7 +55,7 @@ fn open_pair<S: Start + Located>(
     }
 }
 
-/// The engine's options: a random number for the log, and how long it grows.
+/// The engine's options: a random number for the log, and the limit of the log's length.
 fn options(rt: &HostRuntime) -> Result<Options, Error>
     ensures { IfErr result (λ e. IsTrue (is_open_error e)) }
 {
@@ -67,8 +67,9 @@ fn options(rt: &HostRuntime) -> Result<Options, Error>
     Ok(options)
 }
 
-/// The database at this path. If there is none, a new one is made, with a checksum in each page in the form of SQLite's
-/// extension cksumvfs. Where it is not opened, the error has what is left of its files, where it came to these.
+/// Opens the database at this path. If there is none, a new one is made, with a checksum in each page, in the form of
+/// SQLite's extension cksumvfs. If opening fails, the error has what is left of the files, if it got as far as opening
+/// them.
 pub fn open_at<S: Start + Located>(
     rt: &HostRuntime,
     path: &str,

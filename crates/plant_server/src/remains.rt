@@ -1,4 +1,5 @@
-//! What serving leaves of the files of books.
+//! Closes the files after serving, with the log copied into the main file, and hands back what is left of them, so that
+//! the command's contract can state what they hold.
 
 ghost use Rattle.std.specs.Prelude.{◌≡◌, IfErr, IfOk, IsTrue, List};
 ghost use Rattle.sqlite.specs.{Files.{file_state}, Held.{AreDatabases, state}, State.{HasCleanDisk, IsLive}};
@@ -18,9 +19,9 @@ use sqlite_disk::{Disk, Files};
 use sqlite_trees::error::StoreError;
 use sqlite_trees::store::Store;
 
-/// What the command leaves of files, for its contract to speak of.
+/// What the command leaves of the files, for its contract to refer to.
 pub enum Left<D: Disk, N: Disk> {
-    /// No files came to be opened.
+    /// No files were opened.
     Nothing,
     /// Files that were not opened as a database: what the engine left of them.
     Unopened(Leftover<D>),
@@ -28,13 +29,13 @@ pub enum Left<D: Disk, N: Disk> {
     Refused(Connection<FileStore<D>>),
     /// Files that were served and closed, with the log copied into the file.
     Closed(Files<D>),
-    /// Files that were served, where the log could not be copied.
+    /// Files that were served, but whose log could not be copied.
     Unclosed(FileStore<D>),
     /// The older file, if it was opened, and the closed files of the new one, or why there are none.
     Migrated(Option<Connection<FileStore<D>>>, Result<Files<N>, StoreFault>),
 }
 
-// It is written out, so that a caller does not prove again how each part is dropped.
+// Written by hand, so that callers need not prove again how each part is dropped.
 impl<D: Disk + Drop, N: Disk + Drop> Drop for Left<D, N> {
     fn drop(self) {
         match self {
@@ -48,7 +49,7 @@ impl<D: Disk + Drop, N: Disk + Drop> Drop for Left<D, N> {
     }
 }
 
-/// Gives the store of the books back. In words of any store, since each call in those of two files takes the prover long.
+/// Hands the store of the books back. Generic over the store: the prover is slow on the concrete one.
 fn store_of<S: Alter + Drop>(books: Tables<S>) -> S
     ensures numbered { IsClean (S.Store.view result) → IsTrue (S.Store.view result).is_numbered }
     ensures sound { IsClean (S.Store.view result) → AreDatabases (S.Store.recovers result) }
@@ -60,13 +61,14 @@ fn store_of<S: Alter + Drop>(books: Tables<S>) -> S
         → (state S.Store books.0.0).now ≡ (state S.Store books.0.0).committed }
 {
     let conn = books.close();
-    // Tell the proof that there is a database, and that all of it is committed; the values are not used.
+    // For the proof only: there is a database, and all of it is committed. The values are not used.
     let _live = conn.schema();
     let _settled = conn.is_autocommit();
     conn.into_store()
 }
 
-/// Gives the store of the books back, as serving left it. Whatever a crash leaves of it now, these books may leave.
+/// Hands the store of the books back, as serving left it. Whatever a crash now leaves of the store could also be left
+/// of the books.
 pub fn leave<D: Disk + Drop>(books: Tables<FileStore<D>>) -> FileStore<D>
     ensures clean { IsClean (view result) → HasCleanDisk (file_state books.0.0) }
     ensures whole { IsClean (view result) → IsWhole result }
@@ -84,7 +86,7 @@ pub fn leave<D: Disk + Drop>(books: Tables<FileStore<D>>) -> FileStore<D>
     store_of(books)
 }
 
-/// Copies the log into the file, and gives the two files back, or the store as it is where that fails.
+/// Copies the log into the file, and hands the two files back, or the store as it is if that fails.
 fn copy_log<D: Disk>(mut store: FileStore<D>) -> Result<Files<D>, (StoreError, FileStore<D>)>
     requires { IsClean (view store) → IsWhole store }
     ensures copied { IfOk result (λ files. AreClean D.Disk files.log files.db
@@ -102,8 +104,8 @@ fn copy_log<D: Disk>(mut store: FileStore<D>) -> Result<Files<D>, (StoreError, F
     }
 }
 
-/// Closes the files that serving left, with the log copied into the file; where that fails, the log stays beside the
-/// file. After success the file alone holds what a crash could leave before.
+/// Closes the files after serving, with the log copied into the file; if copying fails, the log stays beside the file.
+/// After success the file alone holds what a crash could leave before.
 pub fn close_left<D: Disk>(store: FileStore<D>) -> Result<Files<D>, (StoreError, FileStore<D>)>
     requires { IsClean (view store) → IsWhole store }
     ensures whole { (w : World) (calls : List Call) (answers : List Answer)

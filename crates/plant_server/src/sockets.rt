@@ -1,3 +1,5 @@
+//! The port of a service of one connection after the other, with blocking sockets and, if given, a limit of silence.
+
 ghost use Rattle.std.specs.Prelude.{false, if◌then◌else◌};
 ghost use Rattle.plant_connections.specs.Connections.{unseen};
 
@@ -8,16 +10,16 @@ use std::io::{ErrorKind, Read};
 use std::net::{Ipv4Addr, Shutdown, SocketAddr, TcpListener, TcpStream};
 use std::time::Duration;
 
-/// How many connections in a row may fail before they can be served, until the port counts as failed.
+/// How many connections in a row may fail, before they can be served, until the port counts as failed.
 const ATTEMPTS: u32 = 100;
 
-/// At most how many reads are made of what a client still sends after its last answer.
+/// How many reads at most are made of what a client still sends after its last answer.
 const LAST_READS: u32 = 256;
 
-/// At most how many seconds each of them waits.
+/// How long each of these reads waits at most, in seconds.
 const LAST_WAIT: u64 = 1;
 
-/// The room that each of them is offered, in bytes.
+/// The size of the buffer of these reads, in bytes.
 const LAST_ROOM: usize = 65536;
 
 /// Reads what is still sent and throws it away, until it ends, a read fails or waits too long, or `LAST_READS` were
@@ -33,7 +35,7 @@ fn read_out(reader: &mut impl Read) {
     }
 }
 
-/// Ends the sending side alone and reads out what is still sent.
+/// Shuts down the sending side only, and reads what the client still sends.
 fn linger(mut stream: TcpStream) {
     let wait = Some(Duration::from_secs(LAST_WAIT));
     if stream.shutdown(Shutdown::Write).is_ok() && stream.set_read_timeout(wait).is_ok() {
@@ -41,7 +43,8 @@ fn linger(mut stream: TcpStream) {
     }
 }
 
-/// A port of 127.0.0.1 that listens. Its connections send at once, and a read or a write fails after `idle`, if given.
+/// A listening port of 127.0.0.1. Its connections send without delay, and a read or a write fails after `idle`, if
+/// given.
 #[derive(Drop)]
 pub struct Port {
     listener: TcpListener,
@@ -80,8 +83,8 @@ impl Port {
         Ok((stream, other))
     }
 
-    /// The next connection that can be served. Those that fail before are passed over, as where a client has gone
-    /// already; where a hundred in a row do, it fails.
+    /// The next connection that can be served. Those that fail before are skipped, as when the client has already gone;
+    /// if a hundred in a row fail, so does this.
     fn next_streams(&self) -> io::Result<(TcpStream, TcpStream)> {
         for _ in 1..ATTEMPTS {
             if let Ok(streams) = self.accept_one() {
@@ -122,8 +125,8 @@ impl Listener for Port {
         }
     }
 
-    /// To linger it ends the sending side alone and reads out what the client still sends: to close a socket with bytes
-    /// unread would break the connection, and the client might lose the answers that are on their way.
+    /// If it lingers, only the sending side is shut down, and what the client still sends is read: closing a socket
+    /// with unread bytes would break the connection, and the client might lose the answers that are on their way.
     fn close(
         &mut self,
         requests: FromRead<TcpStream>,

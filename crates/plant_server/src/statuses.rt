@@ -1,3 +1,5 @@
+//! The exit statuses of the program. They are part of its interface: scripts and service managers act on them.
+
 ghost use Rattle.std.specs.Prelude.{◌≡◌};
 ghost use Rattle.plant_server.specs.Statuses as statuses;
 

@@ -1,4 +1,4 @@
-//! Connections over real sockets, and the program's command over a port, as tests alone.
+//! Tests of connections over real sockets, and of the program's command over a port.
 #![tactic(auto)]
 
 #[cfg(test)]

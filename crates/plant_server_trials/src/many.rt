@@ -1,4 +1,4 @@
-//! Many connections at once over real sockets. A client sends all that it will before it is served, so that clients and
+//! Many connections at once over real sockets. A client sends everything before it is served, so that clients and
 //! office run in one thread.
 
 use crate::sockets::{BEGUN, answers, client, exchanges, is_text, whole_client};
@@ -13,7 +13,7 @@ use std::net::{Shutdown, SocketAddr, TcpStream};
 use std::process::Abort;
 use std::time::Duration;
 
-/// A port of so many places, and its address. Its clients may be silent for a second.
+/// A port of this many places, and its address. Its clients may be silent for a second.
 fn listening<'a>(
     stop: &impl Abort,
     rt: &'a HostRuntime,
@@ -36,7 +36,7 @@ fn shelved(rt: &(impl Abort + AllocGlobal)) -> Plain {
     after(rt.alloc(), before, requests, answers).expect(rt, "lists")
 }
 
-/// Serves so many connections over these lists, and gives the log's lines.
+/// Serves this many connections over these lists, and returns the log's lines.
 fn log_of(
     rt: &HostRuntime,
     sockets: &mut Sockets<'_>,
@@ -122,7 +122,7 @@ fn closes_a_silent_client_for_one_that_waits(rt: HostRuntime) {
     assert!(rt; answers(&rt, rt.alloc(), next).as_slice() == asked.answers.as_bytes());
 }
 
-/// A client whose bytes are not requests is answered the cause, though it sends more than the office reads.
+/// A client whose bytes are not requests is answered with the cause, though it sends more than the office reads.
 #[test]
 fn answers_the_cause_beside_others(rt: HostRuntime) {
     let asked = exchanges(&rt, &[LOOKED_AT]);

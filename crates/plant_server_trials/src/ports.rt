@@ -1,5 +1,5 @@
-//! The command over a port. It writes its lines to a writer that connects the clients at the first of them, which says
-//! where the port listens: so clients and office run in one thread.
+//! The command over a port. It writes its lines to a writer that connects the clients at the first line, which has the
+//! address of the port: so clients and office run in one thread.
 
 use crate::sockets::is_text;
 use plant_examples::{BASE, Exchanges, LOOKED_AT, SHELVED, numbered};
@@ -17,7 +17,8 @@ use std::net::{Ipv4Addr, Shutdown, SocketAddr, TcpStream};
 use std::process::Abort;
 use std::time::Duration;
 
-/// What the command said, and the clients of its port. Each has sent its whole stream; one with none to send is silent.
+/// What the command printed, and the clients of its port. Each has sent its whole stream; one with nothing to send is
+/// silent.
 #[derive(Drop)]
 struct Clients<'a> {
     rt: &'a HostRuntime,
@@ -74,8 +75,8 @@ fn free_port(stop: &impl Abort, rt: &HostRuntime) -> u16 {
     port.address().expect(stop, "an address").port()
 }
 
-/// Runs the command over this port with these further words and clients, and gives its status, the clients and what it
-/// said of errors.
+/// Runs the command over this port with these further arguments and clients. Returns its status, the clients, and what
+/// it wrote to standard error.
 fn served<'a>(
     stop: &(impl Abort + AllocGlobal),
     rt: &'a HostRuntime,
@@ -113,7 +114,7 @@ fn served<'a>(
     (status, clients, errors)
 }
 
-/// What the command says of its port: where it listens, and then these lines.
+/// What the command prints for its port: where it listens, and then these lines.
 fn log_over(stop: &(impl Abort + AllocGlobal), port: u16, lines: &str) -> String {
     let begin = "listening on 127.0.0.1:";
     numbered(stop.alloc(), begin, usize::from(port), lines).expect(stop, "memory")
@@ -183,12 +184,12 @@ fn serves_as_many_clients_at_once_as_its_words_say(rt: HostRuntime) {
 const LISTS: &[u8] =
     b"GET /units HTTP/1.1\r\nX-Person: ann\r\nX-Moment: 2026-03-01T08:00:00Z\r\n\r\nGET /units HTTP/1.1\r\nX-Person: ann\r\nX-Moment: 2026-03-01T08:00:00Z\r\n\r\nGET /units HTTP/1.1\r\nX-Person: ann\r\nX-Moment: 2026-03-01T08:00:00Z\r\n\r\n";
 
-/// The answers to the first two, where the store shuts at the second.
+/// The answers to the first two, if the store shuts at the second.
 const ONE_LIST: &[u8] =
     b"HTTP/1.1 200 OK\r\nContent-Type: application/json\r\nContent-Length: 12\r\n\r\n{\"units\":[]}HTTP/1.1 503 Service Unavailable\r\nContent-Type: application/json\r\nContent-Length: 17\r\n\r\n{\"fault\":\"Store\"}";
 
-/// A service without an end, of so many clients at once, over books whose store shuts at the second list of units: its
-/// status, its clients and what it said of errors.
+/// A service without an end, of this many clients at once, over books whose store shuts at the second list of units:
+/// its status, its clients, and what it wrote to standard error.
 fn served_until_shut<'a>(
     stop: &(impl Abort + AllocGlobal),
     rt: &'a HostRuntime,

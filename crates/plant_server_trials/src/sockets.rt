@@ -63,7 +63,7 @@ pub(crate) fn answers(stop: &impl Abort, alloc: Global, mut stream: TcpStream) -
     bytes
 }
 
-/// Serves so many connections over these books, and gives what was answered and the log's lines.
+/// Serves this many connections over these books. Returns the answers and the log's lines.
 fn log_of<B: Books + Drop>(
     rt: &HostRuntime,
     port: &mut Port,

@@ -1,4 +1,4 @@
-//! What is asked of rows at hand is answered without the books below, and a change asks them once.
+//! What cached rows can answer is answered without the books below, and a change asks these once.
 
 ghost use Rattle.std.specs.Prelude.{◌≡◌};
 
@@ -11,8 +11,8 @@ use plant_types::limits::MAX_ROWS_AT_HAND;
 use plant_types::{Fault, List, Moment, Person, Sorted, UnitCode};
 use std::process::Abort;
 
-/// A viewer's requests of each kind that reads of a unit, but for its shelves, its floods and what was reviewed, and two
-/// of a stranger.
+/// A viewer's requests of each kind that reads from a unit, except for its shelves, its floods and its changes and
+/// records, and two of a stranger.
 const READ: &str = r#"vic 10:30:00 GET /units/U1/alarms/PT-101
 200 {"limit":3600,"limit_revision":0,"out_of_service":false,"shelf":"TimedShelved","shelf_left":1800,"state":"Normal","suppressed":false,"suppressed_or_shelved":true,"tag":"PT-101"}
 
@@ -85,7 +85,7 @@ root 08:00:00 POST /units/U2 {"steward":"ste","bands":[300],"cells":[["P3","P4"]
 root 08:00:00 POST /units/U3 {"steward":"ste","bands":[300],"cells":[["P3","P4"],["P1","P2"]]}
 200 {"done":true}"#;
 
-/// How many rows of two such units are at hand: of each a row of its own and a grant.
+/// How many rows of two such units are cached: for each the unit's own row and a grant.
 const TWO_UNITS: u128 = 4;
 
 /// The steward asks for two units, a stranger for the first, and the steward for the third and for the second again.
@@ -114,8 +114,8 @@ ste 09:00:00 GET /units/U2/standing
 ste 09:00:00 GET /units/U1/standing
 200 STANDING U1 AT 2026-03-01T09:00:00Z COUNT 0"#;
 
-/// How often rows, parts and shelves were asked for, how often all events of a unit among them, and how often they were
-/// changed.
+/// How often rows, parts and shelves were asked for, how often all events of a unit among them, and how often these
+/// were changed.
 #[derive(Clone, Copy, PartialEq, Eq, Debug)]
 struct Count {
     asked: u64,
@@ -123,7 +123,7 @@ struct Count {
     changed: u64,
 }
 
-/// Books that count what they are asked for, and that lack the memory for the rows of one unit. Questions about a
+/// Books that count what they are asked for, and that run out of memory for the rows of one unit. Questions about a
 /// person's grants are not counted.
 #[derive(Drop)]
 struct Counting<B: Books> {
@@ -145,7 +145,7 @@ impl<B: Books> Counting<B> {
         self.count.events = self.count.events.saturating_add(1);
     }
 
-    /// Whether this is the unit whose rows find no memory.
+    /// Whether this is the unit for whose rows memory runs out.
     fn is_lacking(&self, unit: &UnitCode) -> bool {
         match &self.lacking {
             Some(lacking) => *lacking == *unit,
@@ -239,7 +239,7 @@ impl<B: Books> Books for Counting<B> {
     }
 }
 
-/// Books in lists that were asked for nothing yet.
+/// Books in lists, with all counts at 0.
 fn unasked(rt: &(impl Abort + AllocGlobal)) -> Counting<Plain> {
     Counting {
         books: lists(rt.alloc()).expect(rt, "lists"),
@@ -252,8 +252,8 @@ fn unasked(rt: &(impl Abort + AllocGlobal)) -> Counting<Plain> {
     }
 }
 
-/// These books once the exchanges are answered over them as expected, with no rows at hand at first and at most so many
-/// then.
+/// These books after the exchanges, which must be answered as expected, with a cache that is empty at first and holds
+/// at most this many rows.
 fn asked<B: Books + Drop>(
     rt: &(impl Abort + AllocGlobal),
     below: Counting<B>,
@@ -315,8 +315,8 @@ fn a_unit_is_read_once_and_for_no_stranger(rt: HostRuntime) {
     assert_eq!(rt; after.count.events, count.events);
 }
 
-/// Where there is room for two units, the third takes the place of the one that was longest not used, even if a
-/// stranger has asked for it since.
+/// If there is room for two units, the third replaces the one that was not used for longest, even if a stranger has
+/// asked for it since.
 #[test]
 fn a_strangers_call_uses_no_unit(rt: HostRuntime) {
     let before = asked(&rt, unasked(&rt), TWO_UNITS, &[OPENED]);
@@ -325,8 +325,8 @@ fn a_strangers_call_uses_no_unit(rt: HostRuntime) {
     assert_eq!(rt; after.count.asked, count.asked.saturating_add(3));
 }
 
-/// Where the memory for the rows of a unit is lacking, its call is answered from the books below, and the rows of other
-/// units go.
+/// If memory runs out for the rows of a unit, its call is answered from the books below, and the rows of other units
+/// are dropped.
 #[test]
 fn a_unit_that_finds_no_memory_is_answered(rt: HostRuntime) {
     let mut before = asked(&rt, unasked(&rt), MAX_ROWS_AT_HAND, &[OPENED]);

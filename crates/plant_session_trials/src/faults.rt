@@ -1,6 +1,6 @@
 //! Calls that run out of memory and are made again. `scripts/refuse-each` runs a test here once for each of its
-//! allocations, and refuses that one. Ours are the books that are tested; theirs are lists that have had every call but
-//! the next one of ours.
+//! allocations, and refuses that one. "Ours" are the books under test; "theirs" are lists that have had every call
+//! except the next one of ours.
 
 use plant_books::Plain;
 use plant_examples::{BASE, Exchanges, IMPORTED_TWICE, RECORDED, REVIEWED, STAFFED, THREE_ROWS};
@@ -32,7 +32,7 @@ fn answer_over<B: Books + Drop>(
     (answer, office.into_books())
 }
 
-/// Their answer to a call, and their books after it. Where it runs out of memory the test ends.
+/// Their answer to a call, and their books after it. If memory runs out for it, the test ends.
 fn their_answer(rt: &(impl Abort + AllocGlobal), theirs: Plain, call: &Call) -> (Answer, Plain) {
     let (answer, theirs) = answer_over(rt, theirs, call);
     assert!(rt; !is_fault(&answer), "memory");
@@ -51,8 +51,8 @@ fn hold_the_same(
     assert!(rt; is_alike, "{title}");
 }
 
-/// Our answer to a call, and our books after it. Where it runs out of memory ours hold what they held, and it is made
-/// again.
+/// Our answer to a call, and our books after it. If memory runs out for it, ours must hold what they held, and the call
+/// is made again.
 fn our_answer<B: Books + Drop>(
     rt: &(impl Abort + AllocGlobal + Eprint),
     ours: B,
@@ -70,13 +70,13 @@ fn our_answer<B: Books + Drop>(
     answer_over(rt, ours, call)
 }
 
-/// Lists that had no call yet.
+/// Empty lists.
 fn empty_lists(rt: &(impl Abort + AllocGlobal)) -> Plain {
     lists(rt.alloc()).expect(rt, "lists")
 }
 
-/// Both answers are the same bytes. An answer is then dropped by its own name: at the end of a scope the prover
-/// goes through every kind of answer.
+/// Both answers are the same bytes. An answer is then dropped explicitly: at the end of a scope the prover goes through
+/// every kind of answer.
 fn is_alike(rt: &(impl Abort + AllocGlobal), ours: &Answer, theirs: &Answer) {
     alike(rt.alloc(), ours, theirs).expect(rt, "an answer");
 }
@@ -112,7 +112,7 @@ fn serves_through_faults<B: Books + Drop>(
     (ours, theirs)
 }
 
-/// The same over books with rows at hand. In the end the books below them must hold the same rows too.
+/// The same over books with cached rows. In the end the books below them must hold the same rows too.
 fn serves_at_hand<B: Books + Drop>(
     rt: &(impl Abort + AllocGlobal + Eprint),
     below: B,
@@ -169,7 +169,7 @@ fn after_others(
     theirs
 }
 
-/// The place of the first call that ran out of memory; past the last one where none did.
+/// The index of the first call that ran out of memory, or the number of calls if none did.
 fn place_of_fault(rt: &impl Eprint, answers: &[Answer]) -> usize {
     for (place, answer) in answers.iter().enumerate() {
         if is_fault(answer) {
@@ -180,8 +180,8 @@ fn place_of_fault(rt: &impl Eprint, answers: &[Answer]) -> usize {
     answers.len()
 }
 
-/// Where a call of a run lacks memory, the other calls are answered as if it had not been made, and so are the rows
-/// that they leave. The calls from that one on are then made again.
+/// If a call of a run runs out of memory, the other calls are answered as if it had not been made, and leave the rows
+/// that they would leave then. The calls from that one on are then made again.
 fn runs_through_faults<B: Books + Drop>(
     rt: &(impl Abort + AllocGlobal + Eprint),
     ours: B,
@@ -221,12 +221,12 @@ fn imports(rt: &(impl Abort + AllocGlobal)) -> Exchanges {
     Exchanges::of(rt.alloc(), &[BASE, THREE_ROWS, IMPORTED_TWICE]).expect(rt, "exchanges")
 }
 
-/// These books with rows at hand.
+/// These books with cached rows.
 fn at_hand<B: Books + Drop>(rt: &(impl Abort + AllocGlobal), below: B) -> Mirror<B> {
     mirrored(rt.alloc(), below, MAX_ROWS_AT_HAND).expect(rt, "books with rows at hand")
 }
 
-/// Tables that had no call yet.
+/// Empty tables.
 fn empty_tables(rt: &(impl Abort + AllocGlobal)) -> Tables<MemStore> {
     tables(rt.alloc()).expect(rt, "tables")
 }

@@ -1,5 +1,5 @@
-//! Whole sessions over both keepers, as tests alone: the worked examples, with the rows that both keepers hold; what is
-//! asked of the books below rows at hand; weeks of as many events as a unit may have; and memory that runs out.
+//! Tests of whole sessions over both keepers: the worked examples, with the rows that both keepers hold; what a cache
+//! asks of the books below it; weeks of as many events as a unit may have; and memory that runs out.
 #![tactic(auto)]
 
 #[cfg(test)]

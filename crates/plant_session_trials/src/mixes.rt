@@ -1,5 +1,5 @@
-//! Weeks of 100,000 events in three mixes, over tables behind rows at hand: the floods of each are listed within a
-//! second, and in under 100 ms once the events are at hand.
+//! Weeks of 100,000 events in three mixes, over tables with cached rows: the floods of each are listed within a second,
+//! and in under 100 ms once the events are cached.
 
 use plant_examples::{BASE, Exchanges, add_answer, add_request};
 use plant_office::Books;
@@ -62,7 +62,7 @@ impl Mix {
     }
 }
 
-/// The moment so many seconds after ten o'clock on the first of March.
+/// The moment this many seconds after ten o'clock on the first of March.
 fn moment(rt: &impl Abort, second: u64) -> Moment {
     let begin = Moment::read(b"2026-03-01T10:00:00Z").expect(rt, "a moment");
     let seconds = begin.seconds().saturating_add(second);
@@ -77,7 +77,7 @@ fn push_row(rt: &impl Abort, file: &mut String, mix: Mix, row: u32) {
     write!(file, "{number},{moment},{tag},{event}\n").expect(rt, "memory");
 }
 
-/// A file of 10,000 rows, after so many tens of thousands.
+/// A file of 10,000 rows, after this many files of as many.
 fn file(rt: &(impl Abort + AllocGlobal), mix: Mix, before: u32) -> String {
     let mut file = String::new(rt.alloc());
     file.push_str("seq,moment,tag,event\n").expect(rt, "memory");
@@ -88,7 +88,7 @@ fn file(rt: &(impl Abort + AllocGlobal), mix: Mix, before: u32) -> String {
     file
 }
 
-/// The books after one request, in the notation of the examples and with a file, which is answered so.
+/// The books after one request, in the notation of the examples and with a file, which must be answered so.
 fn after_one<B: Books + Drop>(
     rt: &(impl Abort + AllocGlobal),
     books: B,
@@ -119,7 +119,7 @@ fn filled<B: Books + Drop>(rt: &(impl Abort + AllocGlobal), books: B, mix: Mix) 
     books
 }
 
-/// What is answered to a request for the floods of the week, how long that takes, and the books.
+/// The answer to a request for the floods of the week, how long it takes, and the books.
 fn floods<B: Books + Drop>(
     rt: &(impl Abort + AllocGlobal + Clock),
     books: B,

@@ -53,7 +53,7 @@ const ORDERS: [[usize; 3]; 6] = [
     [2, 1, 0],
 ];
 
-/// An import of one of the three files, answered so.
+/// An import of one of the three files, and its answer.
 fn add_import(rt: &(impl Abort + AllocGlobal), wanted: &mut Exchanges, file: &str, counted: &str) {
     let mut exchange = String::new(rt.alloc());
     let line = "ann 09:30:00 POST /units/U1/imports\n";
@@ -113,7 +113,7 @@ fn push_row(
     .expect(rt, "memory");
 }
 
-/// The rows of so many activations in these ten minutes, each with its return, and the number of the last row.
+/// The rows of this many activations in these ten minutes, each with its return, and the number of the last row.
 fn push_activations(
     rt: &impl Abort,
     out: &mut String,
@@ -157,10 +157,11 @@ fn floods_of_a_range(rt: HostRuntime) {
     is_worked(&rt, "floods of a range", &wanted);
 }
 
-/// So many that the base office is at hand, but not with the events of its floods.
+/// A cache that has room for the base office, but not for the events of its floods.
 const SOME_ROWS: u128 = 50;
 
-/// Over these books with so many rows at hand the exchanges are answered as wanted, and leave what they leave in lists.
+/// Over these books with this many cached rows the exchanges are answered as expected, and leave what they leave in
+/// lists.
 fn is_worked_at_hand<B: Books + Drop>(
     rt: &(impl Abort + AllocGlobal),
     below: B,
@@ -207,8 +208,8 @@ fn no_more_than_10000_rows(rt: HostRuntime) {
     is_worked(&rt, "10,001 rows", &too_many_rows(&rt));
 }
 
-/// The base office, and from the first of these numbers to before the last one exchange each, of the number between two
-/// texts.
+/// The base office, and one exchange for each number from the first of these to before the last, with the number
+/// between two texts.
 fn many(
     rt: &(impl Abort + AllocGlobal),
     numbers: Range<usize>,

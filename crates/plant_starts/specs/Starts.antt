@@ -18,8 +18,8 @@ pub record HoldRows (files : Image) (w : World) : Type 0 where
   pub holds : Holds content w
   pub legal : IsLegalWorld w
 
--- For each start, the calls of it that were made: all that were confirmed, and at most one that is in doubt. They were
--- answered, up to the last confirmed one, as the world answers them that the starts before left.
+-- For each start, those of its calls that were made: all that were confirmed, and at most one that is in doubt. They
+-- were answered, up to the last confirmed one, as the world answers them that the earlier starts left.
 abbrev pub AreMadeInTurn : World → List Life → List (List Call) → Type 0
 AreMadeInTurn w [] [] = Unit {0}
 AreMadeInTurn w (life ∷ lives) (own ∷ later) = AreMade life.calls life.answers own
@@ -46,8 +46,8 @@ module _ {D N : Type 0} {g : Ghosts D} where
       ⊎ ((image : Image) × outcomes g files.log files.db image × ((found ≡ image) ⊎ (found ≡ record image { log = [] })))
   MayFind store _ found = (state store).may_leave found
 
--- A start of the program from files that hold `from`: these calls were made on them, as `FilesServed` says of the files
--- at the path that its words name, and the next start may find `to`.
+-- A start of the program from files that hold `from`: these calls were made on them, as `FilesServed` states for the
+-- files at the path that its command line names, and the next start may find `to`.
 pub record IsStart {D N : Type 0} (g : Ghosts D) (h : Ghosts N) (admin : Name) (from to : Image) (life : Life) : Type 0 where
   pub store : FileStore D g
   pub after : Left D N g

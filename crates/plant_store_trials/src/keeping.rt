@@ -1,4 +1,4 @@
-//! Rows are kept by their keys, unit by unit, and none changes where a statement fails.
+//! Rows are kept by their keys, unit by unit, and a statement that fails changes none.
 
 use crate::fixtures::{
     at, changes, counts, event, is_last, opened, person, push_alarm, push_band, push_grant,

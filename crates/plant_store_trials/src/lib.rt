@@ -1,5 +1,5 @@
-//! The books in tables, as tests alone: what they keep, what they give a call, which databases they open, what they
-//! answer where a column or a table is spoiled, and stores of schema 1 that are migrated.
+//! Tests of the books in tables: what they keep, what they give to a call, which databases they open, what they answer
+//! if a column or a table is spoiled, and the migration of stores of schema 1.
 #![tactic(auto)]
 
 #[cfg(test)]

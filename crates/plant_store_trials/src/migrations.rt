@@ -1,5 +1,5 @@
-//! Stores of schema 1 that are migrated, and what is handed back where they are not. `examples/commands/migrations.t` has the
-//! files that are refused.
+//! Stores of schema 1 that are migrated, and what is handed back if they are not. `examples/commands/migrations.t` has
+//! the files that are refused.
 
 ghost use Rattle.std.specs.Prelude.{false, IfSome};
 ghost use Rattle.plant_statements.specs.Reading.{HasNoTransaction};
@@ -72,8 +72,8 @@ fn over(rt: &impl Abort, alloc: Global, files: Files<Memory>) -> Connection<File
     conn
 }
 
-/// A store of schema 1. This function and `migrated_store` are over any store: each that hands a store over files
-/// on takes the prover twenty seconds.
+/// A store of schema 1. This function and `migrated_store` are generic over the store: the prover is slow on the
+/// concrete one.
 fn older_store<S: Alter + Drop>(rt: &impl Abort, mut conn: Connection<S>) -> S {
     run(rt, &mut conn, SCHEMA);
     run(rt, &mut conn, ROWS);
@@ -163,7 +163,7 @@ fn are_opened(rt: &impl Abort, alloc: Global, conn: Connection<MemStore>) -> boo
     counts(&rows(rt, alloc, &mut books)) == [1, 3, 2, 1, 2, 2, 3, 2, 4]
 }
 
-/// A store of schema 1 is asked for first.
+/// The older database is checked first: it must be a store of schema 1.
 #[test]
 fn refuses_a_database_with_books(rt: HostRuntime) {
     let alloc = rt.alloc();
@@ -177,7 +177,7 @@ fn refuses_a_database_with_books(rt: HostRuntime) {
     assert_alike(&rt, alloc, &mut old, &mut books.close());
 }
 
-/// One table each of those that a store has.
+/// Statements that each make one of the tables of a store.
 const TABLES: [&str; 10] = [
     "CREATE TABLE office (id INTEGER) STRICT",
     "CREATE TABLE units (id INTEGER) STRICT",
@@ -205,8 +205,8 @@ fn refuses_a_database_with_one_of_the_tables(rt: HostRuntime) {
     }
 }
 
-/// Whether this store is migrated where each statement on it may take so many steps. If not, it is a fault of the store
-/// after which the new database has no table, and without a limit the same call migrates it.
+/// Whether this store is migrated if each statement on it may take only this many steps. If not, the answer is a fault
+/// of the store, the new database then has no table, and without a limit the same call migrates it.
 fn passes(rt: &impl Abort, alloc: Global, mut old: Connection<MemStore>, steps: u64) -> bool
     requires { HasNoTransaction old }
 {
@@ -224,7 +224,7 @@ fn passes(rt: &impl Abort, alloc: Global, mut old: Connection<MemStore>, steps: 
     false
 }
 
-/// With how many steps a statement on the older store the migration passes.
+/// The number of steps of a statement on the older store with which the migration passes.
 fn steps_of(rt: &impl Abort, alloc: Global) -> u64 {
     for steps in 0..10_000u64 {
         if passes(rt, alloc, older(rt, alloc, ""), steps) {
@@ -259,7 +259,7 @@ fn copies_nothing_where_a_read_is_interrupted(rt: HostRuntime) {
     }
 }
 
-/// A new database over a disk that fails after so many calls of each of its files, unless it can't be made.
+/// A new database over a disk that fails after this many calls of each of its files, or `None` if it can't be made.
 fn over_a_fuse(alloc: Global, calls: u64) -> Option<Connection<FileStore<Fuse<Memory>>>>
     ensures { IfSome result (λ conn. HasNoTransaction conn) }
 {
@@ -273,8 +273,8 @@ fn over_a_fuse(alloc: Global, calls: u64) -> Option<Connection<FileStore<Fuse<Me
     Connection::open_files(alloc, files, Options::new(7)).ok()
 }
 
-/// Whether a store of schema 1 is migrated to this database. If not, it is a fault of the store after which this has no
-/// table, and the older one can be migrated to another.
+/// Whether a store of schema 1 is migrated to this database. If not, the answer is a fault of the store, this database
+/// then has no table, and the older one can be migrated to another.
 fn passes_to<S: Alter + Drop>(rt: &impl Abort, alloc: Global, new: Connection<S>) -> bool
     requires { HasNoTransaction new }
 {
@@ -308,8 +308,8 @@ fn copies_nothing_where_the_new_disk_fails(rt: HostRuntime) {
     rt.panic("no end")
 }
 
-/// A migration that runs out of memory and is made again: nothing was written then. `scripts/refuse-each` runs this
-/// test once for each of its allocations, and refuses that one.
+/// A migration that runs out of memory and is made again: nothing was written the first time. `scripts/refuse-each`
+/// runs this test once for each of its allocations, and refuses that one.
 #[test]
 fn migrates_again_without_memory(rt: HostRuntime) {
     let alloc = rt.alloc();

@@ -24,7 +24,7 @@ CREATE TABLE changes (unit TEXT NOT NULL, number INTEGER NOT NULL, proposer TEXT
 CREATE INDEX grants_by_person ON grants (person, unit)"#;
 
 /// A unit with its staff, two alarms, a shelf that holds and one that is over, a matrix and a proposed one, events, and
-/// a record with its change; and a unit with its steward alone.
+/// a record with its change; and a unit with its steward only.
 pub(crate) const ROWS: &str = r#"INSERT INTO office VALUES (1, 1, 'root');
 INSERT INTO units VALUES ('U1', 825674400, 0, 0), ('U2', 825667200, 0, 0);
 INSERT INTO grants VALUES ('U1', 'ste', 6), ('U1', 'ann', 2), ('U1', 'eve', 4), ('U1', 'abe', 5), ('U1', 'moe', 3), ('U1', 'vic', 1), ('U2', 'ste', 6);
@@ -81,7 +81,7 @@ pub(crate) fn with_each(
     }
 }
 
-/// What this statement shows.
+/// The rows that this statement returns.
 fn shown<S: Alter>(
     rt: &impl Abort,
     alloc: Global,
@@ -96,7 +96,7 @@ fn shown<S: Alter>(
     text
 }
 
-/// The number that this statement shows.
+/// The number that this statement returns.
 pub(crate) fn number<S: Alter>(rt: &impl Abort, conn: &mut Connection<S>, statement: &str) -> i64 {
     let row = conn.query_row(statement, &[]).expect(rt, "a row");
     row.get(0).expect(rt, "a number")
@@ -142,7 +142,7 @@ const ALIKE: [(&str, &str); 9] = [
     ),
 ];
 
-/// Asserts that the newer store has the rows of the older one, in each table some.
+/// Asserts that the newer store has the rows of the older one, at least one in each table.
 pub(crate) fn assert_alike<O: Alter, N: Alter>(
     rt: &impl Abort,
     alloc: Global,

@@ -64,7 +64,7 @@ const OFFICES: [(&str, bool); 9] = [
     ),
 ];
 
-/// Whether the database that these statements make is opened; where it is not, it is not this store's.
+/// Whether the database that these statements make is opened. If it is not, it must be refused as not this store.
 fn is_opened(rt: &impl Abort, alloc: Global, statements: &str) -> bool {
     let conn = made_by(rt, alloc, statements);
     match Tables::open(alloc, conn, person(rt, alloc, b"root")) {

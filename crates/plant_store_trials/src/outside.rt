@@ -10,22 +10,22 @@ use sqlite::MemStore;
 use std::alloc::Global;
 use std::process::Abort;
 
-/// What is asked of the books: about the unit, of the alarm `PT-101`, of a change, or for the person `ann`.
+/// What is asked of the books: about the unit, about the alarm `PT-101`, about a change, or for the person `ann`.
 #[derive(Clone, Copy, Debug, PartialEq, Eq)]
 enum Asked {
     Taken,
     Rows,
-    /// What a call looks at that reads one alarm.
+    /// The part for a call that reads one alarm.
     Status,
-    /// What a call looks at that reads all shelves and alarms.
+    /// The part for a call that reads all shelves and alarms.
     Shelves,
-    /// What a call looks at that reads all grants.
+    /// The part for a call that reads all grants.
     Withdrawal,
-    /// What a call looks at that reads one record with its alarm and its change.
+    /// The part for a call that reads one record with its alarm and its change.
     Record,
-    /// What a call looks at that reads the change 2 with its matrix.
+    /// The part for a call that reads the change 2 with its matrix.
     Change,
-    /// What a call looks at that reads the matrix change 2, all records with their changes, and the matrix in force.
+    /// The part for a call that reads the matrix change 2, all records with their changes, and the matrix in force.
     Approval,
     Held,
     MineUnits,
@@ -219,7 +219,7 @@ const OUTSIDE: [(&str, &[Asked]); 49] = [
     ("UPDATE events SET kind_no = 7", &[Asked::Rows]),
 ];
 
-/// The same of records and of changes.
+/// The same for records and changes.
 const OUTSIDE_CHANGES: [(&str, &[Asked]); 21] = [
     // a record's tag, change, revision and cell
     (
@@ -254,13 +254,13 @@ const OUTSIDE_CHANGES: [(&str, &[Asked]); 21] = [
     ("UPDATE changes SET decided_s = -1", &OF_CHANGES),
 ];
 
-/// Statements that take a table away, with what reads the table.
+/// Statements that drop a table, with what reads the table.
 const MISSING: [(&str, &[Asked]); 2] = [
     ("DROP TABLE records", &OF_RECORDS),
     ("DROP TABLE changes", &OF_CHANGES),
 ];
 
-/// The request of a call that asks so, about the unit or the alarm.
+/// The request of a call of this kind, about the unit or the alarm.
 fn request(rt: &impl Abort, alloc: Global, asked: Asked) -> Request {
     let unit = unit(rt, alloc, b"U1");
     let tag = tag(rt, alloc, b"PT-101");
@@ -316,8 +316,8 @@ fn spoiled(rt: &impl Abort, alloc: Global, statements: &str) -> Tables<MemStore>
     books.ok().expect(rt, "books")
 }
 
-/// What does not answer as is due after these statements: each of the readers a fault of the store, and each other
-/// none.
+/// Which calls do not answer as they should after these statements: each of the readers with a fault of the store, and
+/// each other without.
 fn amiss(rt: &impl Abort, alloc: Global, statements: &str, readers: &[Asked]) -> Option<Asked> {
     let mut books = spoiled(rt, alloc, statements);
     for asked in ALL.iter() {
@@ -333,7 +333,7 @@ fn amiss(rt: &impl Abort, alloc: Global, statements: &str, readers: &[Asked]) ->
     None
 }
 
-/// After each of these statements, each call answers as is due.
+/// After each of these statements, each call answers as it should.
 fn is_answered(rt: &impl Abort, alloc: Global, spoilt: &[(&str, &[Asked])]) {
     for (statements, readers) in spoilt {
         assert_eq!(rt; amiss(rt, alloc, statements, readers), None, "{statements}");

@@ -1,4 +1,4 @@
-//! What a call looks at.
+//! The part of the books that a call is given.
 
 use crate::fixtures::{call, counts, opened, push_shelf, put, tag, unit, words};
 use plant_books::Books;
@@ -9,8 +9,8 @@ use sqlite::MemStore;
 use std::alloc::Global;
 use std::process::Abort;
 
-/// What a call that asks so sees of these books. The call is dropped by its own name: at the end of a scope the prover
-/// goes through every kind of request.
+/// The part of these books that a call of this kind is given. The call is dropped explicitly: at the end of a scope the
+/// prover goes through every kind of request.
 fn part_of(
     rt: &impl Abort,
     alloc: Global,
@@ -23,12 +23,12 @@ fn part_of(
     part.expect(rt, "the unit was opened")
 }
 
-/// What a call of `ann` looks at.
+/// The part for a call of `ann`.
 fn part(rt: &impl Abort, alloc: Global, request: Request) -> UnitPart {
     part_of(rt, alloc, &mut opened(rt, alloc), request)
 }
 
-/// What a shelving of LT-2 by `ann` looks at.
+/// The part for a shelving of LT-2 by `ann`.
 fn shelving_part(rt: &impl Abort, alloc: Global, books: &mut Tables<MemStore>) -> UnitPart {
     let request = Request::OneShotShelve {
         unit: unit(rt, alloc, b"U1"),

@@ -189,8 +189,8 @@ fn are_same_rows(ours: &Option<UnitRows>, theirs: &Option<UnitRows>) -> bool {
         && are_same(changes.as_slice(), theirs.changes.as_slice())
 }
 
-/// Whether a unit has the same rows on both sides, of which the second may be a fault. They are let go here, once for
-/// all who ask.
+/// Whether a unit has the same rows on both sides, where the second may be a fault. The rows are dropped here, once for
+/// all callers.
 fn gave_same_rows(
     ours: Option<UnitRows>,
     theirs: Result<Option<UnitRows>, Fault>,
@@ -198,7 +198,7 @@ fn gave_same_rows(
     Ok(are_same_rows(&ours, &theirs?))
 }
 
-/// Whether both keepers hold the same rows of this unit but its history.
+/// Whether both keepers hold the same rows of this unit, except its history.
 fn hold_all_but_history_alike(
     ours: &mut impl Books,
     theirs: &mut impl Books,

@@ -9,7 +9,7 @@ use plant_types::limits::MAX_ROWS_AT_HAND;
 use plant_wire::{Cut, next_call, render};
 use std::alloc::Global;
 
-/// The call that a request is, or nothing where it is malformed.
+/// The call of a request, or `None` if it is malformed.
 pub fn call_of(alloc: Global, request: &[u8]) -> Result<Option<Call>, Failure> {
     match next_call(alloc, request) {
         Cut::Call(call, _) => Ok(Some(call)),
@@ -86,7 +86,7 @@ fn serve_all<B: Books + Drop>(
     (answers, office.into_books())
 }
 
-/// The answers to the calls, made in one run, or nothing where memory ran out; and the books after them.
+/// The answers to the calls, made in one run, or `None` if memory ran out; and the books after them.
 pub fn run_all<B: Books + Drop>(
     alloc: Global,
     books: B,
@@ -152,13 +152,13 @@ pub fn check_run<B: Books + Drop>(
     check_rows(&mut ours, &mut theirs, &wanted.units)
 }
 
-/// So few that the base office finds no room.
+/// A cache so small that the base office finds no room in it.
 const FEW_ROWS: u128 = 12;
 
-/// So few that of two units of an example one finds room at a time.
+/// A cache so small that only one of two units of an example finds room in it at a time.
 const SOME_ROWS: u128 = 20;
 
-/// With rows at hand, many, some or few, a keeper answers as expected and holds what it holds without them.
+/// With many, some or few cached rows a keeper answers as expected, and holds what it holds without them.
 fn check_mirrors(alloc: Global, wanted: &Exchanges) -> Result<(), Failure> {
     for limit in [MAX_ROWS_AT_HAND, SOME_ROWS, FEW_ROWS] {
         let ours = mirrored(alloc, lists(alloc)?, limit)?;

@@ -15,12 +15,12 @@ pub fn root(alloc: Global) -> Result<Person, Failure> {
     Person::read(alloc, b"root")?.ok_or(Failure::Notation)
 }
 
-/// Lists that hold nothing yet.
+/// Empty lists.
 pub fn lists(alloc: Global) -> Result<Plain, Failure> {
     Ok(Plain::new(alloc, root(alloc)?))
 }
 
-/// Why tables were not made, as a trial's failure.
+/// The failure of a trial whose tables could not be made.
 fn failure_of(fault: StoreFault) -> Failure {
     match fault {
         StoreFault::NotThisStore => Failure::Store,
@@ -28,7 +28,7 @@ fn failure_of(fault: StoreFault) -> Failure {
     }
 }
 
-/// Tables in memory that hold nothing yet.
+/// Empty tables in memory.
 pub fn tables(alloc: Global) -> Result<Tables<MemStore>, Failure> {
     let connection = Connection::open_in_memory(alloc)?;
     match Tables::create(alloc, connection, root(alloc)?) {
@@ -37,7 +37,7 @@ pub fn tables(alloc: Global) -> Result<Tables<MemStore>, Failure> {
     }
 }
 
-/// These books with at most so many rows at hand.
+/// These books with at most this many cached rows.
 pub fn mirrored<B: Books + Drop>(
     alloc: Global,
     books: B,
@@ -58,7 +58,7 @@ pub fn replays_on<B: Books + Drop>(alloc: Global, books: B, requests: &[u8]) -> 
     (answers, end, office.into_books())
 }
 
-/// Bytes as a text, to be shown.
+/// Bytes as a text, to be printed.
 pub fn text(bytes: &[u8]) -> &str {
     str::from_utf8(bytes).unwrap_or("no text")
 }
@@ -70,7 +70,7 @@ fn copy(alloc: Global, bytes: &[u8]) -> Result<String, Failure> {
     Ok(out)
 }
 
-/// What was answered is what is expected.
+/// The answer is the expected one.
 pub fn check_answers(alloc: Global, found: &[u8], wanted: &[u8]) -> Result<(), Failure> {
     if found == wanted {
         return Ok(());
@@ -88,7 +88,7 @@ fn check_end(end: End) -> Result<(), Failure> {
     }
 }
 
-/// The books after these requests, which are answered so.
+/// The books after these requests, which must be answered so.
 pub fn after<B: Books + Drop>(
     alloc: Global,
     books: B,

@@ -12,7 +12,7 @@ use Rattle.plant_wire.proofs.public.Running.{Joins}
 use Rattle.plant_types.specs.declared.fault.Fault as faults
 use Rattle.plant_model.specs.declared.reply.Answer.TheVariants as answers
 
--- a session may stop within an answer that is none by a fault, whatever the cause
+-- a session may stop within an answer that is not one of a fault, for any reason
 pub stops_for : (last : Last) (stop : Stop) → IsFaultless last → StopsFor last stop
 stops_for last WriteFailed faultless = tt
 stops_for last Fault faultless = faultless
@@ -21,12 +21,12 @@ pub stops_faultless : (last : Last) (r : Result (Unit {0}) Stop) → IsFaultless
 stops_faultless last (Ok u) faultless = tt
 stops_faultless last (Err stop) faultless = stops_for last stop faultless
 
--- and within any where a write failed
+-- and within any answer if a write failed
 pub stops_writing : (last : Last) (r : Result (Unit {0}) Stop) → IfErr r (λ stop. stop ≡ WriteFailed) → IfErr r (λ stop. StopsFor last stop)
 stops_writing last (Ok u) is = tt
 stops_writing last (Err stop) is = subst (StopsFor last) (sym is) tt
 
--- what is not a fault was said
+-- an answer that is not a fault is a reply or a refusal
 pub said_unless : (answer : Answer) → ((fault : faults.Fault) → answer ≡ answers.Fault fault → ⊥) → IsSaid answer
 said_unless (answers.Reply r) none = tt
 said_unless (answers.Refused r) none = tt

@@ -1,4 +1,4 @@
--- The words of a session, said of a reader, a writer and an office's books before and after.
+-- The definitions of a session, applied to a reader, a writer and an office's books before and after.
 use Rattle.std.specs.Prelude.{List, ℕ}
 use Rattle.plant_model.specs.declared.{call.Call.{Call}, reply.Answer.{Answer}}
 use Rattle.plant_wire.specs.{Ran.{Ran}, Session.{IsRead, IsSession, StopsAs}, declared.reads.{End.{End}, Read.{Read}}}
@@ -11,7 +11,7 @@ use Rattle.plant_wire.specs.declared.streams.Outlet as outlet
 abbrev pub RanOn : {B : Type 0} → books.Ghosts B → B → B → List Call → List Answer → Type 0
 RanOn b before after = Ran (books_state b before) (books_state b after) (b.stores before) (b.stores after)
 
--- one read, and what waits for the next request before and after it
+-- one read, and the unread bytes before and after it
 abbrev pub ReadsOn : {I : Type 0} → inlet.Ghosts I → I → I → List ℕ → List ℕ → Read → Type 0
 ReadsOn i from to before after read =
     IsRead (i.remaining from) (i.remaining to) (i.ended from) (i.ended to) (i.failures from) (i.failures to)

@@ -1,6 +1,6 @@
--- What a session did, by how it ended. `unread` is what the reader has left, where that is known, and `written` what
--- the writer holds; `failed` counts failed reads, `lost` failed writes, `reads` all reads, each before and after.
--- `ended` says whether the input's end was seen.
+-- What a session did, by how it ended. `unread` is what the reader has left, if that is known, and `written` what the
+-- writer holds; `failed` counts failed reads, `lost` failed writes, `reads` all reads, each before and after. `ended`
+-- says whether the input's end was seen.
 use Rattle.std.specs.{Io.KnownBytes.{Consumes, IsAtEnd}, Prelude.{◌≡◌, ◌⊎◌, ◌<◌, ◌≤◌, ◌+◌, ℕ, List, [], ◌++◌, length, Bool, IsTrue, Option}}
 use Rattle.plant_types.specs.Limits.{max_reads}
 use Rattle.plant_model.specs.declared.{call.Call.{Call}, reply.Answer.{Answer}}
@@ -23,7 +23,7 @@ IsRead unread unread_after ended ended_after failed failed_after reads reads_aft
 IsRead unread unread_after ended ended_after failed failed_after reads reads_after old new read.Fault =
     (bytes : List ℕ) × Consumes unread unread_after bytes × (failed_after ≡ failed) × (reads_after ≡ reads + 1)
 
--- nothing is left, or less than a request
+-- nothing is left, or an incomplete request
 abbrev pub IsIdle : List ℕ → Type 0
 IsIdle rest = (rest ≡ []) ⊎ StandsAtFront rest waits
 
@@ -60,8 +60,8 @@ IsSession unread unread_after ended written written_after ran end =
     (bytes : List ℕ) × Consumes unread unread_after bytes
     × EndsAs bytes unread_after ended written written_after ran end
 
--- which reads and writes failed, by the end: none but at ReadFailed, where one did or 1,000,000 were made, of which
--- none saw the input's end, and at WriteFailed
+-- which reads and writes failed, by the end: at ReadFailed one read did, or 1,000,000 reads were made, of which none
+-- saw the input's end; at WriteFailed one write did; otherwise none
 abbrev pub StopsAs : Bool → Bool → ℕ → ℕ → ℕ → ℕ → ℕ → ℕ → End → Type 0
 StopsAs ended ended_after failed failed_after reads reads_after lost lost_after Closed = (failed_after ≡ failed)
     × (lost_after ≡ lost)

@@ -20,7 +20,8 @@ abbrev pub IsPut : Option (List ℕ) → Option (List ℕ) → List ℕ → Resu
 IsPut written written_after text (Ok u) = Appends written written_after text
 IsPut written written_after text (Err e) = (part : ℕ) × Appends written written_after (take part text)
 
--- why an answer was not written whole: a write failed, or memory ran out for its text; that of a fault needs none
+-- why an answer was not written whole: a write failed, or memory ran out for its text; the text of a fault needs no
+-- memory
 abbrev pub StopsFor : Last → Stop → Type 0
 StopsFor last WriteFailed = Unit {0}
 StopsFor last Fault = IsFaultless last
@@ -76,7 +77,7 @@ abbrev pub IsStopped : List ℕ → Option (List ℕ) → Option (List ℕ) → 
 IsStopped bytes written written_after ran stop =
     (s : ServesPart bytes written written_after ran) × StopsFor s.last stop
 
--- no request is whole, so nothing was answered, and none is with fewer bytes than these
+-- no request is whole, so nothing was answered, and none is whole with fewer than `wanted` bytes
 pub record IsUnfinished (bytes : List ℕ) (written written_after : Option (List ℕ))
     (ran : List Call → List Answer → Type 0) (wanted : ℕ) : Type 0 where
   pub stands : StandsAtFront bytes waits
@@ -84,7 +85,7 @@ pub record IsUnfinished (bytes : List ℕ) (written written_after : Option (List
   pub served : ran [] []
   pub wanted_is : WaitsBelow bytes wanted
 
--- the request at the front, of so many bytes, was answered, and no other
+-- the request at the front, of n bytes, was answered, and no other
 pub record AnswersOne (bytes : List ℕ) (written written_after : Option (List ℕ))
     (ran : List Call → List Answer → Type 0) (n : ℕ) : Type 0 where
   pub mark : Mark
@@ -119,7 +120,7 @@ IsStep bytes written written_after ran (Ok (Took n)) = (0 < n) × (n ≤ length 
 IsStep bytes written written_after ran (Ok Broken) = AnswersBroken bytes written written_after ran
 IsStep bytes written written_after ran (Err stop) = AnswersPart bytes written written_after ran stop
 
--- the same of all whole requests at the front
+-- the same for all whole requests at the front
 abbrev pub IsRest : List ℕ → Option (List ℕ) → Option (List ℕ) → (List Call → List Answer → Type 0) → Result Rest Stop
     → Type 0
 IsRest bytes written written_after ran (Ok (left.Waits n more)) =

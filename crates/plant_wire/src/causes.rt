@@ -1,3 +1,5 @@
+//! The answers to malformed requests, as constants, so that writing one needs no memory.
+
 ghost use Rattle.std.specs.Prelude.{◌≡◌, IfOk};
 ghost use Rattle.plant_types.specs.Results.{OnlyMemory};
 ghost use Rattle.plant_wire.specs.Causes as spec;
@@ -6,7 +8,7 @@ use plant_call::Cause;
 use plant_types::Fault;
 use std::alloc::Global;
 
-/// The bytes of the answer to a malformed request, in memory of their own.
+/// The bytes of the answer to a malformed request, in a new vector.
 pub fn render_cause(alloc: Global, cause: Cause) -> Result<Vec<u8>, Fault>
     ensures value { IfOk result (λ text. text.items ≡ spec.cause_text cause) }
     ensures err { OnlyMemory result }

@@ -1,3 +1,6 @@
+//! The answers to a call that got a fault, as constants: a fault may mean that memory ran out, so the answer needs
+//! none.
+
 ghost use Rattle.std.specs.Prelude.{◌≡◌};
 ghost use Rattle.plant_answer.specs.Answers.{answer_bytes};
 ghost use Rattle.plant_model.specs.declared.reply.Answer.TheVariants as answers;

@@ -1,8 +1,10 @@
+//! Writes a whole text to an outlet that may take only part of it at a time.
+
 ghost use Rattle.std.specs.{Io.KnownBytes.{Appends}, Prelude.{◌≡◌, ◌≤◌, ◌-◌, ◌+◌, ℕ, length, drop, take as first, OnErr, OnOk}};
 
 use crate::streams::{Failed, Outlet};
 
-/// The bytes from a place on.
+/// The bytes from this position on.
 pub fn bytes_from(bytes: &[u8], at: usize) -> &[u8]
     requires { at ≤ length bytes.now }
     ensures value { result.now ≡ drop at bytes.now }
@@ -11,7 +13,7 @@ pub fn bytes_from(bytes: &[u8], at: usize) -> &[u8]
     &bytes[at..]
 }
 
-/// Puts all of the bytes. A writer that takes none has failed.
+/// Writes all of the bytes. An outlet that takes none of them has failed.
 pub(crate) fn put_all<O: Outlet>(outlet: &mut O, bytes: &[u8]) -> Result<(), Failed>
     ensures ok { OnOk result (Appends (O.written outlet.old) (O.written outlet.new) bytes.now) }
     ensures moved { OnOk result (O.failures outlet.new ≡ O.failures outlet.old) }

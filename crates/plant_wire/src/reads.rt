@@ -1,3 +1,6 @@
+//! The loop of a session: reads bytes, answers all requests that are complete, and keeps the rest for the next read,
+//! until the session ends.
+
 ghost use Rattle.std.specs.Prelude.{◌≡◌, ◌≤◌, length, drop, OnOk};
 ghost use Rattle.plant_books.specs.Books.{WasHonest};
 ghost use Rattle.plant_wire.specs.{Limits.{least_room}, Over.{IsSessionOn, RanOn, ReadsOn, StopsOn}, Session.{IsFewReads, IsIdle}};
@@ -19,7 +22,7 @@ pub enum End {
     /// The input ended within a request, which is not answered, or can't be read as requests, which is answered with
     /// the cause.
     BrokenInput,
-    /// A read failed, or as many were made as a session makes; all whole requests were answered.
+    /// A read failed, or the limit of reads was reached; all whole requests were answered.
     ReadFailed,
     /// A write failed, or took nothing.
     WriteFailed,
@@ -36,11 +39,11 @@ pub(crate) enum Read {
     Fault,
 }
 
-/// The room that each read is offered, in bytes.
+/// The size of the read buffer, in bytes.
 const CHUNK: usize = 65536;
 
-/// One read, behind what waits. No whole request may be left there, so that a client that waits for an answer has it
-/// before more is asked of it.
+/// One read, appended to the unread bytes. These must not hold a whole request, so that a client that waits for an
+/// answer has it before more is read.
 fn read_more<I: Inlet>(inlet: &mut I, chunk: &mut [u8], buffer: &mut Vec<u8>) -> Read
     requires room { least_room ≤ length chunk.old }
     requires answered { IsIdle buffer.old.items }
@@ -115,12 +118,12 @@ fn run_reads<I: Inlet, O: Outlet, B: Books>(
     End::ReadFailed
 }
 
-/// Answers the requests that come in, after each read all that are whole, in their order, each answer whole before
-/// the next call is made, until the input ends, it can't be read as requests, a read or a write fails, or memory runs
-/// out. At most 1,000,000 reads are made, each with room for 65,536 bytes.
+/// Reads and answers requests, until the input ends, it can't be read as requests, a read or a write fails, or memory
+/// runs out. After each read all whole requests are answered in their order, each answer being written whole before the
+/// next call is made. At most 1,000,000 reads are made, each with room for 65,536 bytes.
 ///
-/// What is written is what the calls in the bytes received are answered, however the reads and the writes are cut. A
-/// call that the office answers by a fault is answered 503, for which no memory is taken, and the session goes on.
+/// The answers to the calls in the bytes received are written, however the reads and the writes are cut. A call that
+/// the office answers by a fault is answered 503, which takes no memory, and the session goes on.
 pub fn session<I: Inlet, O: Outlet, B: Books>(
     alloc: Global,
     inlet: &mut I,

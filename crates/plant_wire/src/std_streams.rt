@@ -1,3 +1,6 @@
+//! Adapters from the readers and writers of std to the streams of a session. A call that a signal interrupts is
+//! repeated a limited number of times.
+
 ghost use Rattle.std.specs.{Io.{ReadsAtMost, WritesAtMost, KnownBytes.{ReadConsumes, WriteAppends}}, IoError.{error_kind}, Option.{is_some}};
 ghost use Rattle.std.specs.Prelude.{◌≡◌, ◌≢◌, ◌<◌, ◌-◌, ◌^◌, if◌then◌else◌, None, Some, IfErr, IsSome, false, true};
 
@@ -5,10 +8,10 @@ use crate::streams::{Failed, Inlet, Outlet};
 use std::io;
 use std::io::{ErrorKind, Read, Write};
 
-/// How many times one read or write is tried while signals interrupt it, as when the program is stopped and goes on.
+/// How many times a read or write is tried while signals interrupt it, as when the program is stopped and continued.
 const TRIES: u32 = 1000;
 
-/// One read, tried again where a signal interrupted it.
+/// One read, tried again if a signal interrupts it.
 fn read_on<R: Read>(reader: &mut R, buf: &mut [u8]) -> io::Result<usize>
     ensures bound { ReadsAtMost result buf.new }
     ensures bytes { ReadConsumes (R.remaining reader.old) (R.remaining reader.new) result buf.new }
@@ -23,7 +26,7 @@ fn read_on<R: Read>(reader: &mut R, buf: &mut [u8]) -> io::Result<usize>
     Err(ErrorKind::TimedOut.into())
 }
 
-/// One write, tried again where a signal interrupted it.
+/// One write, tried again if a signal interrupts it.
 fn write_on<W: Write>(writer: &mut W, bytes: &[u8]) -> io::Result<usize>
     ensures bound { WritesAtMost result bytes.now }
     ensures bytes { WriteAppends (W.contents writer.old) (W.contents writer.new) result bytes.now }
@@ -38,8 +41,8 @@ fn write_on<W: Write>(writer: &mut W, bytes: &[u8]) -> io::Result<usize>
     Err(ErrorKind::TimedOut.into())
 }
 
-/// A reader of std as an inlet. What it claims of its bytes is what the reader claims. It fails with the reader's
-/// error, with `TimedOut` where signals interrupted one read a thousand times, or where no more reads can be counted.
+/// An inlet over a reader of std, which claims of its bytes what the reader claims. It fails with the reader's error,
+/// with `TimedOut` if signals interrupted one read a thousand times, or if no more reads can be counted.
 #[derive(Drop)]
 pub struct FromRead<R: Read> {
     reader: R,
@@ -109,9 +112,9 @@ impl<R: Read> Inlet for FromRead<R> {
     }
 }
 
-/// A writer of std as an outlet. What it claims of its bytes is what the writer claims. It fails with the writer's
-/// error, with `TimedOut` where signals interrupted one write a thousand times, or with `WriteZero` where the writer
-/// took nothing of some bytes.
+/// An outlet over a writer of std, which claims of its bytes what the writer claims. It fails with the writer's error,
+/// with `TimedOut` if signals interrupted one write a thousand times, or with `WriteZero` if the writer took none of
+/// some bytes.
 #[derive(Drop)]
 pub struct ToWrite<W: Write> {
     writer: W,
@@ -155,7 +158,8 @@ impl<W: Write> Outlet for ToWrite<W> {
     }
 }
 
-/// What is written beside the answers, as lines of a log, is not counted as an answer that failed.
+/// For what is written in addition to the answers, such as lines of a log: if that fails, it does not count as a failed
+/// answer.
 impl<W: Write> Write for ToWrite<W> {
     ghost contents = { λ s. W.contents s.writer };
 

@@ -1,3 +1,6 @@
+//! Answers the request at the front of the received bytes, and then all that are complete. An answer is written whole
+//! before the next call is made.
+
 ghost use Rattle.std.specs.Prelude.{◌≡◌, IfErr, List, ℕ};
 ghost use Rattle.plant_books.specs.Books.{WasHonest};
 ghost use Rattle.plant_answer.specs.Answers.{answer_bytes};
@@ -20,8 +23,8 @@ use plant_route::Routes;
 use plant_types::Fault;
 use std::alloc::Global;
 
-/// What the bytes at the front were: a request that is not whole and cannot be with fewer bytes than these (`Waits`),
-/// one of so many bytes that was answered (`Took`), or none at all (`Broken`).
+/// What stood at the front: an incomplete request, which stays so with fewer bytes than this number (`Waits`); a
+/// request of this length in bytes, which was answered (`Took`); or bytes that are not a request (`Broken`).
 #[derive(Clone, Copy, Debug)]
 pub enum Step {
     Waits(usize),
@@ -36,7 +39,7 @@ pub enum Stop {
     Fault,
 }
 
-/// What is left after all whole requests: where it begins, and with fewer bytes than how many it still waits.
+/// What is left after all whole requests: where it begins, and the number of bytes below which it stays incomplete.
 #[derive(Clone, Copy, Debug)]
 pub(crate) enum Rest {
     Waits(usize, usize),
@@ -64,7 +67,7 @@ fn put_cause<O: Outlet>(outlet: &mut O, cause: Cause) -> Result<(), Stop>
     put_text(outlet, cause_text(cause))
 }
 
-/// Writes the answer to a call that got a fault, without memory too.
+/// Writes the answer to a call that got a fault. It takes no memory either.
 fn put_fault<O: Outlet>(outlet: &mut O, fault: &Fault) -> Result<(), Stop>
     ensures does { IsPut (O.written outlet.old) (O.written outlet.new)
         (answer_bytes (answers.Fault fault.now)) result }
@@ -84,7 +87,7 @@ fn put_answer<O: Outlet>(alloc: Global, outlet: &mut O, answer: &Answer) -> Resu
     }
 }
 
-/// Writes an answer, one that is a fault without memory too.
+/// Writes an answer. If it is a fault, this takes no memory.
 fn put_said<O: Outlet>(alloc: Global, outlet: &mut O, answer: &Answer) -> Result<(), Stop>
     ensures does { IsPut (O.written outlet.old) (O.written outlet.new) (answer_bytes answer.now) result }
     ensures stalls { Stalls (O.failures outlet.old) (O.failures outlet.new) result }
@@ -113,8 +116,8 @@ fn answer_call<O: Outlet, B: Books>(
     put
 }
 
-/// Answers the request that was cut off the front, if one was. If none was, it is not whole with fewer than `wanted`
-/// bytes.
+/// Answers the request that was cut off the front, if it is whole. If it is not, it stays incomplete with fewer than
+/// `wanted` bytes.
 fn answer_cut<O: Outlet, B: Books>(
     alloc: Global,
     cut: &Cut,
@@ -167,7 +170,7 @@ pub fn answer_next<O: Outlet, B: Books>(
 }
 
 /// Answers all whole requests at the front of the bytes. With fewer than `wanted` bytes none is whole, and they are not
-/// looked at.
+/// parsed.
 pub(crate) fn answer_all<O: Outlet, B: Books>(
     alloc: Global,
     routes: &Routes,

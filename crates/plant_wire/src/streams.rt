@@ -1,3 +1,6 @@
+//! The two traits over which a session runs: where its bytes come from and where its answers go. What the traits claim
+//! is what the session's theorem rests on.
+
 ghost use Rattle.std.specs.Io.KnownBytes.{ReadConsumes, WriteAppends};
 ghost use Rattle.std.specs.Prelude.{◌≡◌, ◌≤◌, ◌<◌, ◌+◌, ℕ, List, Bool, Option, length, IfOk, OnErr, OnOk, IsTrue};
 ghost use Rattle.plant_wire.specs.Limits.{least_room};
@@ -6,7 +9,7 @@ ghost use Rattle.plant_wire.specs.Limits.{least_room};
 #[derive(Clone, Copy, Debug, PartialEq, Eq)]
 pub struct Failed;
 
-/// Where requests come from. One that failed once fails from then on.
+/// Where requests come from. After one failure it fails from then on.
 pub trait Inlet {
     /// The bytes that are left, or `None`, which claims nothing.
     ghost remaining: { Self → Option (List ℕ) };
@@ -20,7 +23,8 @@ pub trait Inlet {
     /// How many reads were made.
     ghost reads: { Self → ℕ };
 
-    /// The next bytes, at the front of `buf`, which has room for at least 4,096; none at the end of the input.
+    /// Reads the next bytes to the front of `buf`, which has room for at least 4,096, and returns how many; none at the
+    /// end of the input.
     fn take(&mut self, buf: &mut [u8]) -> Result<usize, Failed>
         requires { least_room ≤ length buf.old }
         ensures within { IfOk result (λ n. n ≤ length buf.old) }
@@ -36,7 +40,7 @@ pub trait Inlet {
         ensures failed { OnErr result (failures self.new ≡ 1) };
 }
 
-/// Where answers go. One that failed once fails from then on.
+/// Where answers go. After one failure it fails from then on.
 pub trait Outlet {
     /// The bytes taken so far, or `None`, which claims nothing.
     ghost written: { Self → Option (List ℕ) };
@@ -44,7 +48,7 @@ pub trait Outlet {
     /// How many writes failed, or took nothing of some bytes: none, or one.
     ghost failures: { Self → ℕ };
 
-    /// Takes some bytes from the front of these. To take nothing of some bytes is to fail.
+    /// Writes some of these bytes, from the front, and returns how many. To take none of some bytes is to fail.
     fn put(&mut self, bytes: &[u8]) -> Result<usize, Failed>
         ensures within { IfOk result (λ n. n ≤ length bytes.now) }
         ensures bytes { WriteAppends (written self.old) (written self.new) result bytes.now }

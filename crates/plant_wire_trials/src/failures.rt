@@ -1,4 +1,4 @@
-//! Where a read or a write fails, a session ends, and what it wrote is what was due so far.
+//! If a read or a write fails, a session ends, and has written the answers that were due so far.
 
 use crate::exchanges::{ANSWERS, REQUESTS};
 use crate::streams::{NEVER, feed_of, is_answered, joined, run, sink_of};
@@ -7,7 +7,7 @@ use std::alloc::Global;
 use std::ops::Range;
 use std::process::Abort;
 
-/// The answers to the requests that are whole in so many bytes.
+/// The answers to the requests that are whole within the first `count` bytes.
 fn answers_within(rt: &impl Abort, alloc: Global, count: usize) -> Vec<u8> {
     let mut out = Vec::new(alloc);
     let mut end = 0usize;
@@ -20,7 +20,7 @@ fn answers_within(rt: &impl Abort, alloc: Global, count: usize) -> Vec<u8> {
     out
 }
 
-/// With reads of so many bytes, each of these reads fails in turn.
+/// With reads of this many bytes, each of these reads fails in turn.
 fn stops_at_each_read(rt: &impl Abort, alloc: Global, most: usize, reads: Range<usize>) {
     for read in reads {
         let inlet = feed_of(joined(rt, alloc, &REQUESTS), most, read);
@@ -30,7 +30,7 @@ fn stops_at_each_read(rt: &impl Abort, alloc: Global, most: usize, reads: Range<
     }
 }
 
-/// With reads of so many bytes, the stream is read whole before this read.
+/// With reads of this many bytes, the stream is read whole before this read.
 fn has_no_read(rt: &impl Abort, alloc: Global, most: usize, read: usize) {
     let inlet = feed_of(joined(rt, alloc, &REQUESTS), most, read);
     let outlet = sink_of(alloc, 4096, NEVER);
@@ -38,7 +38,8 @@ fn has_no_read(rt: &impl Abort, alloc: Global, most: usize, read: usize) {
     is_answered(rt, alloc, inlet, outlet, &wanted, End::Closed);
 }
 
-// The stream of 1,616 bytes is read in so many reads of a byte, or in 17 of a hundred, and one more that gives nothing.
+// The stream of 1,616 bytes is read in 1,616 reads of a byte, or in 17 of a hundred bytes, and one more that returns
+// nothing.
 
 #[test]
 fn stops_where_a_read_fails(rt: HostRuntime) {
@@ -53,7 +54,7 @@ fn stops_where_a_later_read_fails(rt: HostRuntime) {
     has_no_read(&rt, rt.alloc(), 1, 1617);
 }
 
-/// The end of a session whose write after so many fails, and what was written in how many writes.
+/// The end of a session whose write after this many fails, what was written, and in how many writes.
 #[derive(Drop)]
 struct Written {
     end: End,
@@ -61,7 +62,7 @@ struct Written {
     puts: usize,
 }
 
-/// What a session wrote, in writes of so many bytes at most.
+/// What a session wrote, in writes of at most this many bytes.
 fn outcome(rt: &impl Abort, alloc: Global, most: usize, fails_at: usize) -> Written {
     let mut inlet = feed_of(joined(rt, alloc, &REQUESTS), 100, NEVER);
     let mut outlet = sink_of(alloc, most, fails_at);
@@ -73,7 +74,7 @@ fn outcome(rt: &impl Abort, alloc: Global, most: usize, fails_at: usize) -> Writ
     }
 }
 
-/// Whether the first so many answers were written, and nothing else.
+/// Whether exactly the first answers, this many, were written.
 fn wrote_answers(rt: &impl Abort, alloc: Global, written: &Written, count: usize) -> bool {
     let Some(answers) = ANSWERS.get(..count) else {
         return false;
@@ -81,7 +82,7 @@ fn wrote_answers(rt: &impl Abort, alloc: Global, written: &Written, count: usize
     written.bytes.as_slice() == joined(rt, alloc, answers).as_slice()
 }
 
-/// With writes of so many bytes, each of this many writes fails in turn, and then none.
+/// With writes of this many bytes, each of the writes fails in turn, and then none.
 fn stops_at_each_write(rt: &impl Abort, alloc: Global, most: usize, writes: usize) {
     let whole = joined(rt, alloc, &ANSWERS);
     for write in 0..writes {

@@ -1,5 +1,5 @@
-//! Sessions over an office in lists, as tests alone: however the reads and the writes are cut, and where
-//! one fails; and the answer to each malformed request.
+//! Tests of sessions over an office in lists: however the reads and the writes are cut, and if one fails; and the
+//! answer to each malformed request.
 #![tactic(auto)]
 
 #[cfg(test)]

@@ -11,7 +11,7 @@ use std::io::{ErrorKind, Read, Write};
 use std::process::Abort;
 use std::time::{Duration, Instant};
 
-/// A reader of one byte a read.
+/// A reader that returns one byte per read.
 #[derive(Drop)]
 struct ByByte {
     bytes: Vec<u8>,
@@ -26,7 +26,7 @@ impl Read for ByByte {
     }
 }
 
-/// A writer that takes so many bytes a write, at most.
+/// A writer that takes at most this many bytes per write.
 #[derive(Drop)]
 struct Narrow {
     bytes: Vec<u8>,
@@ -45,7 +45,7 @@ impl Write for Narrow {
     }
 }
 
-/// What was written to a writer of so many bytes a write, where the input comes byte by byte, and how the session
+/// What was written to a writer of this many bytes per write, if the input arrives byte by byte, and how the session
 /// ended.
 fn written(rt: &impl Abort, alloc: Global, bytes: Vec<u8>, most: usize) -> (Vec<u8>, End) {
     let mut inlet = FromRead::new(ByByte { bytes, at: 0 });
@@ -84,7 +84,7 @@ fn large_head_and_body(rt: &impl Abort, alloc: Global) -> Vec<u8> {
     out
 }
 
-/// A body that comes byte by byte costs no more behind a large head, which is read once and not again at each byte.
+/// A body that arrives byte by byte costs no more behind a large head, which is parsed once and not again at each byte.
 #[test]
 fn reads_a_head_once(rt: HostRuntime) {
     let alloc = rt.alloc();
@@ -105,7 +105,7 @@ struct Interrupted<S> {
 }
 
 impl<S> Interrupted<S> {
-    /// Whether this read or write is made.
+    /// Whether this read or write is made, not interrupted.
     fn is_made(&mut self) -> bool {
         self.next = !self.next;
         !self.next
@@ -136,7 +136,7 @@ impl<W: Write> Write for Interrupted<W> {
     }
 }
 
-/// A signal, as where the program was stopped and goes on, ends no session.
+/// A signal, as when the program was stopped and continued, ends no session.
 #[test]
 fn reads_and_writes_again_after_a_signal(rt: HostRuntime) {
     let alloc = rt.alloc();

@@ -9,7 +9,7 @@ use plant_wire::{End, Failed, Inlet, Outlet, session};
 use std::alloc::Global;
 use std::process::Abort;
 
-/// Bytes in portions. The read after so many fails.
+/// An input that gives its bytes in portions, and whose read after this many fails.
 #[derive(Drop)]
 pub(crate) struct Feed {
     pub(crate) bytes: Vec<u8>,
@@ -45,7 +45,7 @@ impl Inlet for Feed {
     }
 }
 
-/// Copies so many bytes from a place on, at most, and returns how many there were.
+/// Copies at most this many bytes from a position on, and returns how many.
 pub(crate) fn portion(bytes: &[u8], at: usize, most: usize, buf: &mut [u8]) -> usize
     ensures { result ≤ length buf.old }
 {
@@ -58,7 +58,7 @@ pub(crate) fn portion(bytes: &[u8], at: usize, most: usize, buf: &mut [u8]) -> u
     n
 }
 
-/// Takes bytes in portions; a portion of no bytes fails. The write after so many fails.
+/// An output that takes bytes in portions; a portion of no bytes fails. The write after this many fails.
 #[derive(Drop)]
 pub(crate) struct Sink {
     pub(crate) bytes: Vec<u8>,
@@ -140,7 +140,7 @@ pub(crate) fn joined(rt: &impl Abort, alloc: Global, parts: &[&[u8]]) -> Vec<u8>
     out
 }
 
-/// Over these streams a session writes these bytes and ends so.
+/// Over these streams a session writes these bytes and ends in this way.
 pub(crate) fn is_answered(
     rt: &impl Abort,
     alloc: Global,

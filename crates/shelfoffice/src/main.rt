@@ -1,4 +1,5 @@
-//! The office beside a plant's control rooms, as a program over its standard streams.
+//! The program `shelfoffice`: runs the command over the process's arguments and standard streams, and exits with its
+//! status.
 #![tactic(auto)]
 
 use plant_server::ExitStatus;

@@ -16,7 +16,7 @@ waits_on bytes more head n begins is few =
     let short : length (drop at (bytes ++ more)) < n = omega (arith, length-drop at (bytes ++ more)) in
     inl (head, still, sym (answers_waits head (drop at (bytes ++ more)) n is short))
 
--- where no bytes are asked for, nothing is said
+-- if no bytes are asked for, nothing is claimed
 pub waits_none : (bytes : List ℕ) → WaitsBelow bytes 0
 waits_none bytes more few = absurd (omega arith)
 

@@ -46,7 +46,7 @@ ran_none books count = record {
   stands = stand_none books;
 }
 
--- one call was
+-- one call was made
 pub ran_one : (before after : BooksState) (count counted_to : ℕ) (call : Call) (answer : Answer)
     → ((m : Content) → before.held m → (w : World) → IsLegalWorld w → Holds m w → after.honest → IfSaid answer (λ a. IsServed w call a after.held))
     → ((m : Content) → before.held m → OnFault answer (after.held m)) → CountsAnswer count counted_to answer → EnduresSettled call answer before after
