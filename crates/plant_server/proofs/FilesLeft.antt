@@ -10,7 +10,7 @@ use Rattle.plant_books.specs.{Contents.{Content}}
 use Rattle.plant_model.specs.{Worlds.{World}, declared.{call.Call.{Call}, reply.Answer.{Answer}}}
 use Rattle.plant_office.specs.Outcomes.{IsOutcome}
 use Rattle.plant_server.specs.{Crashes.{HoldCommitted, HoldOutcome, HoldWholeBooks, HoldWholeOutcome, IsOutcomeIn, IsWhole, LeavesOutcomes}, Files.{HoldBooks}}
-use Rattle.plant_statements.specs.Keeping.{HaveRows, LeavesBooks, LeavesContent, Represents}
+use Rattle.plant_store_statements.specs.Keeping.{HaveRows, LeavesBooks, LeavesContent, Represents}
 
 pub if_ok : {A E : Type 0} (said : Result A E) {P Q : A → Type 0} → ((a : A) → P a → Q a) → IfOk said P → IfOk said Q
 if_ok (Ok a) then h = then a h

@@ -1,7 +1,7 @@
 -- A connection that was not even read.
 use Rattle.std.proofs.Common.{arith, inl, refl}
 use Rattle.sqlite.specs.State.{State}
-use Rattle.plant_statements.specs.OnlyReads.{OnlyReads}
+use Rattle.plant_store_statements.specs.OnlyReads.{OnlyReads}
 
 pub not_read : (s : State) → OnlyReads s s
 not_read s = record {

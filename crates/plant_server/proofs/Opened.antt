@@ -7,9 +7,9 @@ use Rattle.sqlite_trees.specs.declared.error.StoreError.{StoreError}
 use Rattle.sqlite_trees.specs.declared.error.StoreError.TheVariants as store
 use Rattle.sqlite_wal.specs.Recovery.{Image}
 use Rattle.plant_books.specs.Contents.{Content}
-use Rattle.plant_columns.specs.Tables.{office_table, schema_no}
+use Rattle.plant_store_columns.specs.Tables.{office_table, schema_no}
 use Rattle.plant_server.specs.Files.{HoldBooks, HoldDatabase, fault_by_error}
-use Rattle.plant_statements.specs.{Changes.{IsHonest}, Keeping.{HaveRows, Represents}}
+use Rattle.plant_store_statements.specs.{Changes.{IsHonest}, Keeping.{HaveRows, Represents}}
 use Rattle.plant_store.{specs.{Opening.{IsThisOffice, office_cells, office_in, office_shown}, declared.tables.StoreFault.TheVariants.{NotThisStore}}, proofs.public.Databases.{same_database}}
 use Rattle.plant_types.specs.Names.{Name}
 

@@ -2,7 +2,7 @@
 use Rattle.std.proofs.Common.{ℕ, ◌≡◌, ◌⊎◌, inl, inr, refl, ◌∷◌, IfSome, IsTrue, List, None, Option, Some, [], subst, sym}
 use Rattle.sqlite.specs.{Effect.{Database}, declared.file.Leftover.{Leftover}}
 use Rattle.sqlite_disk.specs.declared.Disk.{Ghosts}
-use Rattle.plant_line.specs.declared.words.Service.{Service}
+use Rattle.plant_server_options.specs.declared.words.Service.{Service}
 use Rattle.sqlite_store.specs.{FileStore.{view}, declared.store.FileStore.{FileStore}}
 use Rattle.sqlite_trees.specs.View.{IsClean}
 use Rattle.plant_books.specs.Contents.{Content}

@@ -1,7 +1,7 @@
 -- A session, and the connections of a port, by what else is true of the office.
 use Rattle.std.proofs.Common.{ℕ, List, Bool, true, false, None, Option, Some, inl, inr}
-use Rattle.plant_line.specs.declared.words.Service.{Service}
-use Rattle.plant_lines.specs.Accounts.{AreSent, Outcome}
+use Rattle.plant_server_options.specs.declared.words.Service.{Service}
+use Rattle.plant_server_clients.specs.Accounts.{AreSent, Outcome}
 use Rattle.plant_model.specs.declared.{call.Call.{Call}, reply.Answer.{Answer}}
 use Rattle.plant_server.specs.{Services.{AreOfPort, HasServed, IsStreamed, is_at_once}, Streams.{Streams}, declared.statuses.ExitStatus.{ExitStatus}}
 use Rattle.plant_wire.specs.{Session.{EndsAs, IsCutShort}, Step.{AnswersFront, ServesBroken, ServesPart}, declared.reads.End.{End}}

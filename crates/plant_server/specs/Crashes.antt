@@ -9,7 +9,7 @@ use Rattle.plant_books.specs.{Contents.{Content}, Crashes.{Alike}}
 use Rattle.plant_model.specs.{Worlds.{World}, declared.{call.Call.{Call}, reply.Answer.{Answer}}}
 use Rattle.plant_office.specs.Outcomes.{IsOutcome}
 use Rattle.plant_server.specs.Files.{HoldBooks}
-use Rattle.plant_statements.specs.Keeping.{AreBooksOf, LeavesBooks, LeavesContent}
+use Rattle.plant_store_statements.specs.Keeping.{AreBooksOf, LeavesBooks, LeavesContent}
 
 -- on a clean disk a crash leaves books whose content is alike to this one, and nothing else
 abbrev pub LeavesOnly : State → Content → Type 0

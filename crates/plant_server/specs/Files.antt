@@ -5,8 +5,8 @@ use Rattle.sqlite.specs.declared.error.ErrorCode.TheVariants.{NotADatabase, OutO
 use Rattle.sqlite_trees.specs.declared.error.StoreError.{StoreError}
 use Rattle.sqlite_wal.specs.Recovery.{Image}
 use Rattle.plant_books.specs.Contents.{Content}
-use Rattle.plant_statements.specs.{Changes.{IsHonest}, Keeping.{HaveRows}}
-use Rattle.plant_migration.specs.Upgrading.{HaveOldRows}
+use Rattle.plant_store_statements.specs.{Changes.{IsHonest}, Keeping.{HaveRows}}
+use Rattle.plant_store_migration.specs.Upgrading.{HaveOldRows}
 use Rattle.plant_store.specs.declared.tables.StoreFault.{StoreFault}
 use Rattle.plant_types.specs.declared.fault.Fault.TheVariants.{Memory, Store}
 use Rattle.plant_store.specs.declared.tables.StoreFault.TheVariants as store_fault

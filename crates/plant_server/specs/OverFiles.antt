@@ -12,7 +12,7 @@ use Rattle.plant_office.specs.{Failures.{AreAnsweredBeforeFailure}, Runs.{AreAns
 use Rattle.plant_server.specs.{Crashes.{HoldWholeOutcome, IsOutcomeIn, LeavesOutcomes}, Files.{HoldBooks, HoldDatabase, HoldsStill}}
 use Rattle.plant_server.specs.{Statuses.{not_copied_text}, declared.remains.Left.{Left}}
 use Rattle.plant_server.specs.declared.remains.Left.TheVariants as left
-use Rattle.plant_statements.specs.Changes.{IsHonest}
+use Rattle.plant_store_statements.specs.Changes.{IsHonest}
 use Rattle.plant_store.specs.{Opening.{IsThisOffice}, declared.tables.StoreFault.{StoreFault, TheVariants.{NotThisStore}}}
 use Rattle.plant_types.specs.Names.{Name}
 

@@ -4,7 +4,7 @@ use Rattle.sqlite.specs.declared.file.Leftover.{Leftover}
 use Rattle.sqlite_disk.specs.declared.Disk.{Ghosts}
 use Rattle.sqlite_store.specs.{FileStore.{view}, declared.store.FileStore.{FileStore}}
 use Rattle.sqlite_trees.specs.View.{IsClean}
-use Rattle.plant_line.specs.declared.words.Service.{Service}
+use Rattle.plant_server_options.specs.declared.words.Service.{Service}
 use Rattle.plant_model.specs.{Worlds.{World}, declared.{call.Call.{Call}, reply.Answer.{Answer}}}
 use Rattle.plant_office.specs.Enduring.{AreAfter, BooksState, HoldsWorld}
 use Rattle.plant_server.specs.{Crashes.{LeavesOutcomes}, OverFiles.{AreServed, IsCleanAfter, IsHonestAfter, LeavesAfter, RanOnFiles, closing_text}, declared.remains.Left.{Left}}

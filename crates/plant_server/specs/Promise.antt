@@ -5,17 +5,17 @@ use Rattle.sqlite_disk.specs.declared.{Disk.{Ghosts}, Files.{Files}}
 use Rattle.sqlite_store.specs.declared.store.FileStore.{FileStore}
 use Rattle.sqlite_wal.specs.Reads.{AreClean}
 use Rattle.plant_books.specs.Contents.{Content}
-use Rattle.plant_line.specs.{Lines.{IsReadAs}, declared.words.{Line.{Line}, LineError.{LineError}, Service.{Service}, Task.{Task}}}
-use Rattle.plant_line.specs.declared.words.Task.TheVariants.{Migrate, Serve}
+use Rattle.plant_server_options.specs.{CommandLines.{IsReadAs}, declared.words.{CommandLine.{CommandLine}, CommandLineError.{CommandLineError}, Service.{Service}, Task.{Task}}}
+use Rattle.plant_server_options.specs.declared.words.Task.TheVariants.{Migrate, Serve}
 use Rattle.plant_model.specs.Worlds.{empty_world}
 use Rattle.plant_server.specs.{Crashes.{HoldWholeBooks}, Files.{HoldDatabase, HoldOldBooks, HoldsStill}}
 use Rattle.plant_server.specs.OverFiles.{AreAnsweredBy, AreServed, Begins, IsHonestAfter, IsRefusal, Place, RanOnFiles, closing_text}
 use Rattle.plant_server.specs.{Services.{HasServed}, Streams.{Bytes, IsSaid, Lines, Streams, within}}
-use Rattle.plant_server.specs.Statuses.{code, help_text, migrated_text, no_rows_text, refusal_text, status_of_line, status_of_migration, unmigrated_text, unopened_text}
+use Rattle.plant_server.specs.Statuses.{code, help_text, migrated_text, no_rows_text, refusal_text, status_of_command_line, status_of_migration, unmigrated_text, unopened_text}
 use Rattle.plant_server.specs.declared.{remains.Left.{Left}, statuses.ExitStatus.{ExitStatus}}
 use Rattle.plant_server.specs.declared.remains.Left.TheVariants as left
 use Rattle.plant_server.specs.declared.statuses.ExitStatus.TheVariants.{NoBooks}
-use Rattle.plant_statements.specs.Changes.{IsHonest}
+use Rattle.plant_store_statements.specs.Changes.{IsHonest}
 use Rattle.plant_store.specs.{Opening.{IsThisOffice}, declared.tables.StoreFault.{StoreFault, TheVariants.{NotThisStore}}}
 use Rattle.plant_types.specs.Names.{Name}
 
@@ -85,9 +85,9 @@ module _ {D N : Type 0} {g : Ghosts D} where
       (s.unread_after ≡ s.unread) × IsMigration h place (string_bytes old) admin s.lines n after
 
   -- What the command line asks for was done, or it was refused, or it asked for help, which was printed.
-  abbrev pub IsObeyed : Ghosts N → Place D → Result Line LineError → Streams → ExitStatus → Left D N g → Type 0
+  abbrev pub IsObeyed : Ghosts N → Place D → Result CommandLine CommandLineError → Streams → ExitStatus → Left D N g → Type 0
   IsObeyed h place (Ok line) s n after = IsDone h place line.admin line.task s n after
-  IsObeyed h place (Err error) s n after = (n ≡ status_of_line error) × (s.unread_after ≡ s.unread)
+  IsObeyed h place (Err error) s n after = (n ≡ status_of_command_line error) × (s.unread_after ≡ s.unread)
       × IsSaid s.lines.printed s.lines.printed_after (help_text error)
       × IsSaid s.lines.reported s.lines.reported_after (refusal_text error)
 
@@ -95,7 +95,7 @@ module _ {D N : Type 0} {g : Ghosts D} where
   -- `gives_port` and `gives` read the numbers of options.
   pub record IsKept {E : Type 0} (gives_port gives : List ℕ → Result ℕ E → Type 0) (h : Ghosts N) (place : Place D)
       (words : List (List ℕ)) (s : Streams) (number : ℕ) (after : Left D N g) : Type 0 where
-    pub line : Result Line LineError
+    pub line : Result CommandLine CommandLineError
     pub read : IsReadAs gives_port gives words line
     pub status : ExitStatus
     pub obeyed : IsObeyed h place line s status after

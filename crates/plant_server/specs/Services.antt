@@ -1,12 +1,12 @@
 -- How one session over the streams, or the connections of a port, were served.
 use Rattle.std.specs.Prelude.{Bool, true, false, IsTrue, List, ℕ, length, nat_lt, ◌≡◌, ◌≤◌}
 use Rattle.std.specs.Prelude.{Err, None, Ok, Option, Result, Some}
-use Rattle.plant_connections.specs.Connections.{AreExchanges, Exchange, answers_over, calls_over}
-use Rattle.plant_connections.specs.declared.while_open.Stopped.{Stopped}
-use Rattle.plant_connections.specs.declared.while_open.Stopped.TheVariants as stopped
-use Rattle.plant_line.specs.declared.words.Service.{Service}
-use Rattle.plant_lines.specs.Accounts.{AreSent, Outcome}
-use Rattle.plant_lines.specs.declared.serving.Halted.TheVariants as halted
+use Rattle.plant_server_listener.specs.Connections.{AreExchanges, Exchange, answers_over, calls_over}
+use Rattle.plant_server_listener.specs.declared.while_open.Stopped.{Stopped}
+use Rattle.plant_server_listener.specs.declared.while_open.Stopped.TheVariants as stopped
+use Rattle.plant_server_options.specs.declared.words.Service.{Service}
+use Rattle.plant_server_clients.specs.Accounts.{AreSent, Outcome}
+use Rattle.plant_server_clients.specs.declared.serving.Halted.TheVariants as halted
 use Rattle.plant_model.specs.declared.{call.Call.{Call}, reply.Answer.{Answer}}
 use Rattle.plant_server.specs.{Statuses.{end_text, exit_status_of, served, served_at_once}, Streams.{IsSaid, Streams}}
 use Rattle.plant_server.specs.declared.statuses.ExitStatus.{ExitStatus}

@@ -2,12 +2,12 @@
 use Rattle.std.specs.Prelude.{if◌then◌else◌, true, false, codes, string_bytes, List, [], ℕ, Err, Ok, Result}
 use Rattle.plant_wire.specs.declared.reads.End.{End}
 use Rattle.plant_wire.specs.declared.reads.End.TheVariants.{BrokenInput, Closed, Fault, ReadFailed, WriteFailed}
-use Rattle.plant_connections.specs.declared.while_open.Stopped.{Stopped}
-use Rattle.plant_connections.specs.declared.while_open.Stopped.TheVariants as stopped
-use Rattle.plant_line.specs.declared.words.LineError.{LineError}
-use Rattle.plant_line.specs.declared.words.LineError.TheVariants.{Memory, NoDb, NotAPerson, Text}
-use Rattle.plant_lines.specs.Accounts.{Outcome}
-use Rattle.plant_lines.specs.declared.serving.Halted.TheVariants as halted
+use Rattle.plant_server_listener.specs.declared.while_open.Stopped.{Stopped}
+use Rattle.plant_server_listener.specs.declared.while_open.Stopped.TheVariants as stopped
+use Rattle.plant_server_options.specs.declared.words.CommandLineError.{CommandLineError}
+use Rattle.plant_server_options.specs.declared.words.CommandLineError.TheVariants.{Memory, NoDb, NotAPerson, Text}
+use Rattle.plant_server_clients.specs.Accounts.{Outcome}
+use Rattle.plant_server_clients.specs.declared.serving.Halted.TheVariants as halted
 use Rattle.plant_server.specs.declared.statuses.ExitStatus.{ExitStatus}
 use Rattle.plant_store.specs.declared.tables.StoreFault.{StoreFault, TheVariants.{NotThisStore, Fault as StoreFailed}}
 use Rattle.plant_server.specs.declared.statuses.ExitStatus.TheVariants as statuses
@@ -15,7 +15,7 @@ use Rattle.plant_server.specs.declared.statuses.ExitStatus.TheVariants as status
 -- the number that the program exits with
 abbrev pub code : ExitStatus → ℕ
 code statuses.Done = 0
-code statuses.WrongLine = 2
+code statuses.WrongCommandLine = 2
 code statuses.NoBooks = 3
 code statuses.BrokenInput = 4
 code statuses.ReadFailed = 5
@@ -32,11 +32,11 @@ exit_status_of WriteFailed = statuses.WriteFailed
 exit_status_of Fault = statuses.NoMemory
 
 -- for a command line that is refused: done if it asks for help or the version
-abbrev pub status_of_line : LineError → ExitStatus
-status_of_line (Text text is_error) = if is_error then statuses.WrongLine else statuses.Done
-status_of_line NotAPerson = statuses.WrongLine
-status_of_line NoDb = statuses.WrongLine
-status_of_line Memory = statuses.NoMemory
+abbrev pub status_of_command_line : CommandLineError → ExitStatus
+status_of_command_line (Text text is_error) = if is_error then statuses.WrongCommandLine else statuses.Done
+status_of_command_line NotAPerson = statuses.WrongCommandLine
+status_of_command_line NoDb = statuses.WrongCommandLine
+status_of_command_line Memory = statuses.NoMemory
 
 -- for connections one after the other: all were served, or listening or accepting failed, or a failure shut the store
 abbrev pub served : Result (Unit {0}) Stopped → ExitStatus
@@ -60,7 +60,7 @@ status_of_migration (Err e) = statuses.NoBooks
 -- ---- what is printed about it
 
 -- on the output: the help, or the version, that the words ask for
-abbrev pub help_text : LineError → List ℕ
+abbrev pub help_text : CommandLineError → List ℕ
 help_text (Text text false) = string_bytes text
 help_text (Text text true) = []
 help_text NotAPerson = []
@@ -68,7 +68,7 @@ help_text NoDb = []
 help_text Memory = []
 
 -- on standard error: why the words are refused
-abbrev pub refusal_text : LineError → List ℕ
+abbrev pub refusal_text : CommandLineError → List ℕ
 refusal_text (Text text true) = string_bytes text
 refusal_text (Text text false) = []
 refusal_text NotAPerson = codes "admin: not a person name\n"

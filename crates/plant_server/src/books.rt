@@ -3,7 +3,7 @@
 ghost use Rattle.std.specs.Prelude.{◌≡◌, ◌≢◌, IfErr, IfOk};
 ghost use Rattle.sqlite.specs.{Held.{state}, Steps.{over_memory}};
 ghost use Rattle.plant_books.specs.Contents.{no_units};
-ghost use Rattle.plant_statements.specs.Keeping.{Represents};
+ghost use Rattle.plant_store_statements.specs.Keeping.{Represents};
 
 use plant_store::{StoreFault, Tables};
 use plant_types::{Fault, Person};

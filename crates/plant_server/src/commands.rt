@@ -7,9 +7,9 @@ ghost use Rattle.sqlite_std_file.specs.File.{IsFresh};
 ghost use Rattle.sqlite_store.specs.FileStore.{view};
 ghost use Rattle.sqlite_trees.specs.View.{IsClean};
 ghost use Rattle.sqlite_wal.specs.Files.{image_at};
-ghost use Rattle.plant_connections.specs.Connections.{AreExchanges, Exchange, answers_over, calls_over};
-ghost use Rattle.plant_line.specs.{Lines.{IsReadAs}, declared.words.{Line.{Line}, LineError.{LineError}}};
-ghost use Rattle.plant_lines.specs.Accounts.{AreSent};
+ghost use Rattle.plant_server_listener.specs.Connections.{AreExchanges, Exchange, answers_over, calls_over};
+ghost use Rattle.plant_server_options.specs.{CommandLines.{IsReadAs}, declared.words.{CommandLine.{CommandLine}, CommandLineError.{CommandLineError}}};
+ghost use Rattle.plant_server_clients.specs.Accounts.{AreSent};
 ghost use Rattle.plant_office.specs.Enduring.{books_state};
 ghost use Rattle.plant_server.specs.{Crashes.{IsWhole}, OverFiles.{closing_text, place_of}, Parts.{BooksServed, IsClosing}};
 ghost use Rattle.plant_server.specs.Promise.{IsDone, IsDoneInMemory, IsDoneOnFile, IsKept, IsMigration, IsObeyed};
@@ -27,15 +27,16 @@ use crate::places::Located;
 use crate::remains::{Left, close_left, leave};
 use crate::sockets::Port;
 use crate::statuses::ExitStatus;
-use plant_connections::{Listener, Stopped, say, serve_connections, serve_while_open};
-use plant_line::{Line, LineError, Service, Task, line_of};
-use plant_lines::{Halted, Reports, serve_lines};
-use plant_mirror::{Copies, Mirror};
+use plant_books_cache::{Cache, CachedBooks};
 use plant_office::{Books, Office};
-use plant_ports::{Limits, Sockets, has_few_descriptors};
+use plant_server_clients::{Halted, Reports, serve_clients};
+use plant_server_listener::{Listener, Stopped, serve_connections, serve_while_open};
+use plant_server_log::say;
+use plant_server_options::{CommandLine, CommandLineError, Service, Task, command_line_of};
+use plant_server_sockets::{Limits, Sockets, has_few_descriptors};
 use plant_store::{StoreFault, Tables};
 use plant_types::Person;
-use plant_types::limits::MAX_ROWS_AT_HAND;
+use plant_types::limits::MAX_CACHED_ROWS;
 use plant_wire::{End, Failed, Inlet, Outlet, session};
 use sqlite::{Alter, File, FileFrom, FileStore, Start};
 use sqlite_disk::Disk;
@@ -272,7 +273,7 @@ fn serve_at_once<B: Books, W: Write, E: Write>(
         log: output,
         errors,
     };
-    let outcome = serve_lines(
+    let outcome = serve_clients(
         rt.alloc(),
         &mut sockets,
         service.connections,
@@ -344,9 +345,9 @@ fn serve_over<B: Books + Drop, I: Inlet, O: Outlet + Write, E: Write>(
 }
 
 /// The same over tables, with cached rows.
-fn serve_at_hand<S: Alter + Drop, I: Inlet, O: Outlet + Write, E: Write>(
+fn serve_cached<S: Alter + Drop, I: Inlet, O: Outlet + Write, E: Write>(
     rt: &HostRuntime,
-    copies: Copies,
+    copies: Cache,
     books: Tables<S>,
     service: Option<Service>,
     inlet: &mut I,
@@ -359,8 +360,8 @@ fn serve_at_hand<S: Alter + Drop, I: Inlet, O: Outlet + Write, E: Write>(
         (streams_of I.Inlet O.Outlet O.Write E.Write (inlet.old, outlet.old, errors.old) (inlet.new, outlet.new, errors.new))
         result.0 }
 {
-    let mirror = Mirror::new(rt.alloc(), copies, books);
-    let (status, left) = serve_over(rt, mirror, service, inlet, outlet, errors);
+    let cached_books = CachedBooks::new(rt.alloc(), copies, books);
+    let (status, left) = serve_over(rt, cached_books, service, inlet, outlet, errors);
     let below = left.into_books();
     (status, below)
 }
@@ -381,8 +382,8 @@ fn serve_books<S: Alter + Drop, I: Inlet, O: Outlet + Write, E: Write>(
         × HasServed (RanOn ⟦<Tables<S> as Books>⟧ books result.1) (¬ ⟦<Tables<S> as Books>⟧.is_honest result.1) service
         (within s first s.lines.reported_after) result.0 }
 {
-    match Copies::new(rt.alloc(), MAX_ROWS_AT_HAND) {
-        Ok(copies) => serve_at_hand(rt, copies, books, service, inlet, outlet, errors),
+    match Cache::new(rt.alloc(), MAX_CACHED_ROWS) {
+        Ok(copies) => serve_cached(rt, copies, books, service, inlet, outlet, errors),
         Err(_) => {
             say(errors, b"memory: no rows at hand\n");
             serve_over(rt, books, service, inlet, outlet, errors)
@@ -555,7 +556,7 @@ fn migrate_and_say<F: Start + Located, W: Write, E: Write>(
 /// Does what the command line asks for, and returns the status and what is left of the files.
 fn run<F: Start + Located, I: Inlet, O: Outlet + Write, E: Write>(
     rt: &HostRuntime,
-    line: Line,
+    line: CommandLine,
     inlet: &mut I,
     outlet: &mut O,
     errors: &mut E,
@@ -567,7 +568,7 @@ fn run<F: Start + Located, I: Inlet, O: Outlet + Write, E: Write>(
         (streams_of I.Inlet O.Outlet O.Write E.Write (inlet.old, outlet.old, errors.old) (inlet.new, outlet.new, errors.new))
         result.0 result.1 }
 {
-    let Line { admin, task } = line;
+    let CommandLine { admin, task } = line;
     match task {
         Task::Serve { db, service } => serve(rt, admin, db, service, inlet, outlet, errors, start),
         Task::Migrate { old, new } => {
@@ -577,34 +578,34 @@ fn run<F: Start + Located, I: Inlet, O: Outlet + Write, E: Write>(
 }
 
 /// Prints why the command line is refused, or the help that it asks for, and returns the status.
-fn report_line_error<W: Write, E: Write>(
+fn report_command_line_error<W: Write, E: Write>(
     output: &mut W,
     errors: &mut E,
-    error: &LineError,
+    error: &CommandLineError,
 ) -> ExitStatus
-    ensures status { result ≡ statuses.status_of_line error.now }
+    ensures status { result ≡ statuses.status_of_command_line error.now }
     ensures printed { IsSaid (W.contents output.old) (W.contents output.new) (statuses.help_text error.now) }
     ensures said { IsSaid (E.contents errors.old) (E.contents errors.new) (statuses.refusal_text error.now) }
 {
     match error {
-        LineError::Text { text, is_error } => {
+        CommandLineError::Text { text, is_error } => {
             if *is_error {
                 say(errors, text.as_bytes());
-                ExitStatus::WrongLine
+                ExitStatus::WrongCommandLine
             } else {
                 say(output, text.as_bytes());
                 ExitStatus::Done
             }
         }
-        LineError::NotAPerson => {
+        CommandLineError::NotAPerson => {
             say(errors, b"admin: not a person name\n");
-            ExitStatus::WrongLine
+            ExitStatus::WrongCommandLine
         }
-        LineError::NoDb => {
+        CommandLineError::NoDb => {
             say(errors, b"migrate: no db\n");
-            ExitStatus::WrongLine
+            ExitStatus::WrongCommandLine
         }
-        LineError::Memory => ExitStatus::NoMemory,
+        CommandLineError::Memory => ExitStatus::NoMemory,
     }
 }
 
@@ -618,7 +619,7 @@ fn obey<S: AsStr, F: Start + Located, I: Inlet, O: Outlet + Write, E: Write>(
     errors: &mut E,
     start: F,
 ) -> (ExitStatus, Left<FileFrom<F>, File>)
-    ensures { (line : Result Line LineError)
+    ensures { (line : Result CommandLine CommandLineError)
         × IsReadAs ⟦<u16 as FromStr>⟧.from_str_gives ⟦<u64 as FromStr>⟧.from_str_gives
         (map S.text words.now) line
         × IsObeyed ⟦<File as Disk>⟧
@@ -627,9 +628,12 @@ fn obey<S: AsStr, F: Start + Located, I: Inlet, O: Outlet + Write, E: Write>(
         (streams_of I.Inlet O.Outlet O.Write E.Write (inlet.old, outlet.old, errors.old) (inlet.new, outlet.new, errors.new))
         result.0 result.1 }
 {
-    match line_of(rt.alloc(), words) {
+    match command_line_of(rt.alloc(), words) {
         Ok(line) => run(rt, line, inlet, outlet, errors, start),
-        Err(error) => (report_line_error(outlet, errors, &error), Left::Nothing),
+        Err(error) => (
+            report_command_line_error(outlet, errors, &error),
+            Left::Nothing,
+        ),
     }
 }
 

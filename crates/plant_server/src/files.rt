@@ -10,10 +10,10 @@ ghost use Rattle.sqlite_wal.specs.Files.{image_at};
 ghost use Rattle.sqlite_wal.specs.Reads.{AreClean};
 ghost use Rattle.sqlite.specs.Held.{state};
 ghost use Rattle.plant_books.specs.{Books.{WasHonest}, Contents.{Content, no_units}};
-ghost use Rattle.plant_columns.specs.Tables.{schema_no};
+ghost use Rattle.plant_store_columns.specs.Tables.{schema_no};
 ghost use Rattle.plant_server.specs.{Crashes.{HoldWholeBooks, LeavesOnly}, Files.{HoldBooks, HoldDatabase}};
 ghost use Rattle.plant_server.specs.{OverFiles.{IsRefusal, IsUnopened, place_of}, Parts.{unopened}};
-ghost use Rattle.plant_statements.specs.{Changes.{IsHonest}, Keeping.{LeavesAlike, Represents}, OnlyReads.{OnlyReads}, Reading.{HasNoTransaction, IsHonestIn}};
+ghost use Rattle.plant_store_statements.specs.{Changes.{IsHonest}, Keeping.{LeavesAlike, Represents}, OnlyReads.{OnlyReads}, Reading.{HasNoTransaction, IsHonestIn}};
 ghost use Rattle.plant_store.specs.{Opened.{IsAnothers, KeepsIfOk, WasOffice}, Opening.{IsThisOffice}};
 ghost use Rattle.plant_server.specs.Files as files;
 

@@ -15,7 +15,7 @@ mod statuses;
 pub use commands::{command, serve_file, serve_port};
 pub use migrations::{Migrated, migrate_file};
 pub use places::Located;
-pub use plant_connections::{Listener, serve_connections};
+pub use plant_server_listener::{Listener, serve_connections};
 pub use remains::Left;
 pub use sockets::Port;
 pub use statuses::ExitStatus;

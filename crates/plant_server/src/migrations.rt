@@ -6,9 +6,9 @@ ghost use Rattle.sqlite.specs.State.{HasCleanDisk};
 ghost use Rattle.sqlite_wal.specs.{Files.{image_at}, Reads.{AreClean}};
 ghost use Rattle.plant_books.specs.Contents.{Content};
 ghost use Rattle.plant_server.specs.{Crashes.{HoldWholeBooks}, Files.{HoldDatabase, HoldOldBooks, HoldsStill}};
-ghost use Rattle.plant_statements.specs.{Changes.{IsHonest}, Keeping.{Represents}, OnlyReads.{OnlyReads}};
-ghost use Rattle.plant_statements.specs.Reading.{HasNoTransaction};
-ghost use Rattle.plant_migration.specs.Upgrading.{HaveOldRows};
+ghost use Rattle.plant_store_statements.specs.{Changes.{IsHonest}, Keeping.{Represents}, OnlyReads.{OnlyReads}};
+ghost use Rattle.plant_store_statements.specs.Reading.{HasNoTransaction};
+ghost use Rattle.plant_store_migration.specs.Upgrading.{HaveOldRows};
 
 use crate::files::{
     NewNames, STORE, beside, close_new, connect, is_there, length_of, new_names, put_in_place,

@@ -11,7 +11,7 @@ ghost use Rattle.plant_books.specs.Contents.{Content};
 ghost use Rattle.plant_model.specs.{Worlds.{World}, declared.{call.Call.{Call}, reply.Answer.{Answer}}};
 ghost use Rattle.plant_office.specs.Outcomes.{IsOutcome};
 ghost use Rattle.plant_server.specs.Crashes.{HoldCommitted, HoldWholeBooks, HoldWholeOutcome, IsWhole, LeavesOutcomes};
-ghost use Rattle.plant_statements.specs.Keeping.{LeavesBooks, LeavesContent, Represents};
+ghost use Rattle.plant_store_statements.specs.Keeping.{LeavesBooks, LeavesContent, Represents};
 
 use plant_store::{StoreFault, Tables};
 use sqlite::{Alter, Connection, FileStore, Leftover};

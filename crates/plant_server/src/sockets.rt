@@ -1,9 +1,9 @@
 //! The port of a service of one connection after the other, with blocking sockets and, if given, a limit of silence.
 
 ghost use Rattle.std.specs.Prelude.{false, if◌then◌else◌};
-ghost use Rattle.plant_connections.specs.Connections.{unseen};
+ghost use Rattle.plant_server_listener.specs.Connections.{unseen};
 
-use plant_connections::Listener;
+use plant_server_listener::Listener;
 use plant_wire::{Failed, FromRead, ToWrite};
 use std::io;
 use std::io::{ErrorKind, Read};

@@ -10,7 +10,7 @@ pub enum ExitStatus {
     /// migrated, or help was given.
     Done,
     /// The command line is wrong.
-    WrongLine,
+    WrongCommandLine,
     /// The books were not opened, the older file was not migrated, or a failure shut the store of a service that was to
     /// serve all connections that come.
     NoBooks,
@@ -33,7 +33,7 @@ impl ExitStatus {
     {
         match self {
             ExitStatus::Done => 0,
-            ExitStatus::WrongLine => 2,
+            ExitStatus::WrongCommandLine => 2,
             ExitStatus::NoBooks => 3,
             ExitStatus::BrokenInput => 4,
             ExitStatus::ReadFailed => 5,

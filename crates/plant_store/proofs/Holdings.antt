@@ -9,17 +9,17 @@ use Rattle.sqlite_keyed.proofs.ListLemmas.{map-map}
 use Rattle.sqlite_tied.proofs.RuleLemmas.{and_true}
 use Rattle.sqlite_value.specs.{Order.{Row, bytes, column}, declared.value.Value.TheVariants.{Text}}
 use Rattle.plant_books.specs.Contents.{Content, codes_held, is_held_row, is_held_in}
-use Rattle.plant_columns.specs.{Codes.{open_number_in}, Kept.{by_columns, is_of, kept}, Shape.{IsRowIn}, Shown.{columns}}
-use Rattle.plant_columns.specs.{Tables.{AreBooks, books_schema, grant_shape}, declared.tables.TableKind.TheVariants.{Grants}}
-use Rattle.plant_columns.proofs.public.{Kept.{all-sort, sort-filter}, Keys.{by_columns_total}, ShapeLaws.{good, open_number_back}}
-use Rattle.plant_columns.proofs.public.Shapes.{finds_rows}
+use Rattle.plant_store_columns.specs.{Codes.{open_number_in}, Kept.{by_columns, is_of, kept}, Shape.{IsRowIn}, Shown.{columns}}
+use Rattle.plant_store_columns.specs.{Tables.{AreBooks, books_schema, grant_shape}, declared.tables.TableKind.TheVariants.{Grants}}
+use Rattle.plant_store_columns.proofs.public.{Kept.{all-sort, sort-filter}, Keys.{by_columns_total}, ShapeLaws.{good, open_number_back}}
+use Rattle.plant_store_columns.proofs.public.Shapes.{finds_rows}
 use Rattle.plant_model.specs.{Grants.{is_before}, declared.rows.{GrantRow.{GrantRow}, UnitRows.{UnitRows}}}
 use Rattle.plant_model.specs.steps.RowChanges.{no_rows}
 use Rattle.plant_model.proofs.public.RowsFound.{less}
-use Rattle.plant_statements.specs.{Keeping.{HasContent}, declared.texts.TheConstants.{HOLDINGS}}
+use Rattle.plant_store_statements.specs.{Keeping.{HasContent}, declared.texts.TheConstants.{SELECT_HOLDINGS}}
 use Rattle.plant_store.specs.{Mine.{AreCodes, holding_cells}, declared.mine.Holding.{Holding}}
-use Rattle.plant_statements.proofs.public.{Meanings.{by_holder, by_key, holdings}, Queries.{is_named, named_same, one_test}, Reading.{told}}
-use Rattle.plant_statements.proofs.public.Contents.{same_codes}
+use Rattle.plant_store_statements.proofs.public.{Meanings.{by_holder, by_key, holdings}, Queries.{is_named, named_same, one_test}, Reading.{told}}
+use Rattle.plant_store_statements.proofs.public.Contents.{same_codes}
 use Rattle.plant_types.{specs.{Names.{Name, name_cmp, same_name}, Options.{when}}, proofs.public.{Halves.{first, second}, Orders.{name_total, same_names}}}
 
 -- ---- what the query shows
@@ -34,7 +34,7 @@ holding_in r = record { unit = bytes (column r 1); end_s = open_number_in (colum
 holding_back : Row → Holding
 holding_back r = record { unit = bytes (column r 0); end_s = open_number_in (column r 1) }
 
-pub holdings_read : (p : Name) (old new : State) → AreBooks old.now → (rows : List Row) → Shown HOLDINGS.now (Text p ∷ []) old new rows
+pub holdings_read : (p : Name) (old new : State) → AreBooks old.now → (rows : List Row) → Shown SELECT_HOLDINGS.now (Text p ∷ []) old new rows
     → (read : List Holding) → map (columns 2) rows ≡ map holding_cells read
     → read ≡ map holding_in (kept by_grant (is_named p) (old.now.trees 3))
 unfolding holding_back
@@ -42,7 +42,7 @@ holdings_read p old new books rows shown read said =
     told holding_cells holding_back (λ h i. record { unit = h.unit; end_s = open_number_back h.end_s i }) _ read said
     ∙ map-map holding_back (columns 2) rows
     ∙ ap (map (λ r. holding_back (columns 2 r)))
-    (finds_rows grant_shape (good Grants) books_schema HOLDINGS.now by_holder _ (by_key grant_shape) _ holdings.is holdings.unlisted holdings.plain
+    (finds_rows grant_shape (good Grants) books_schema SELECT_HOLDINGS.now by_holder _ (by_key grant_shape) _ holdings.is holdings.unlisted holdings.plain
     (Text p ∷ []) refl (is_named p) (λ r. one_test (column r 2) p) old new books.same_schema (books.tidy Grants).apart rows shown)
     ∙ map-map (λ r. holding_back (columns 2 r)) (λ r. column r 1 ∷ column r 4 ∷ []) _
 

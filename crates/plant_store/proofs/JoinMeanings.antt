@@ -4,9 +4,9 @@ use Rattle.sqlite.specs.{Collation.TheVariants.{Binary}, Listing.{understood}, Q
 use Rattle.sqlite_sql.specs.declared.ops.{BinaryOp.TheVariants.{Compare}, CompareOp.TheVariants.{Eq}}
 use Rattle.sqlite_tied.specs.Compute.{everything}
 use Rattle.sqlite_value.specs.{Keys.{ascending}, declared.keys.Key.{Key}}
-use Rattle.plant_columns.specs.{Kept.{plain_query}, Tables.{books_schema, grant_shape, shelf_shape}}
-use Rattle.plant_statements.proofs.public.Meanings.{Asks, by_key, own_names, terms}
-use Rattle.plant_store.specs.declared.texts.TheConstants.{SHELF_LINES, UNIT_LINES}
+use Rattle.plant_store_columns.specs.{Kept.{plain_query}, Tables.{books_schema, grant_shape, shelf_shape}}
+use Rattle.plant_store_statements.proofs.public.Meanings.{Asks, by_key, own_names, terms}
+use Rattle.plant_store.specs.declared.texts.TheConstants.{SELECT_SHELF_LINES, SELECT_UNIT_LINES}
 
 -- rows of a table beside the grants of a person in their unit, by the keys of both
 abbrev pub joined_tests : List Term
@@ -21,7 +21,7 @@ grant_shows = col 1 1 ∷ col 1 3 ∷ col 1 4 ∷ []
 abbrev pub grant_names : List (List ℕ)
 grant_names = codes "unit" ∷ codes "role_no" ∷ codes "end_s" ∷ []
 
-pub unit_lines : Asks books_schema UNIT_LINES.now (plain_query (inner 3 (inner 1 end)) joined_tests (grant_shows ++ col 2 2 ∷ []) (joined_order []))
+pub unit_lines : Asks books_schema SELECT_UNIT_LINES.now (plain_query (inner 3 (inner 1 end)) joined_tests (grant_shows ++ col 2 2 ∷ []) (joined_order []))
     (grant_names ++ codes "last_s" ∷ [])
 unfolding understood everything
 unit_lines = record { is = refl; unlisted = refl; plain = (refl, refl) }
@@ -37,7 +37,7 @@ alarm_tests = op2 (Compare Eq Binary) (col 3 1) (col 2 1) ∷ op2 (Compare Eq Bi
 abbrev pub shelf_shows : List Term
 shelf_shows = grant_shows ++ terms 2 2 (drop 1 shelf_shape.columns) ++ col 3 9 ∷ []
 
-pub shelf_lines : Asks books_schema SHELF_LINES.now (plain_query (inner 3 (inner 7 (left 5 alarm_tests end))) joined_tests shelf_shows unit_order)
+pub shelf_lines : Asks books_schema SELECT_SHELF_LINES.now (plain_query (inner 3 (inner 7 (left 5 alarm_tests end))) joined_tests shelf_shows unit_order)
     (grant_names ++ own_names shelf_shape ++ codes "return_s" ∷ [])
 unfolding understood everything
 shelf_lines = record { is = refl; unlisted = refl; plain = (refl, refl) }

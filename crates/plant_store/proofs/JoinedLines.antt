@@ -14,19 +14,19 @@ use Rattle.sqlite_trees.specs.Tree.{IsAscending}
 use Rattle.sqlite_value.specs.{Order.{Row, bytes, column, value_cmp}, declared.value.Value.{Value, TheVariants.{Null, Text}}}
 use Rattle.sqlite_value.proofs.OrderLemmas.{value_cmp_total, value_cmp-Text}
 use Rattle.plant_books.specs.Contents.{Content, rows_in}
-use Rattle.plant_columns.specs.{Codes.{flag_in, open_number_in, number_in, role_in}, Kept.{by_columns, is_of}, Shape.{IsRowIn, Shape, row_in}, Shown.{columns}}
-use Rattle.plant_columns.specs.{Tables.{RowOf, alarm_shape, books_schema, grant_shape, rows_of_table, rows_seen, shape, shelf_shape}, declared.tables.TableKind.{TableKind, TheVariants.{Alarms, Grants, Shelves, Units}}}
-use Rattle.plant_columns.proofs.public.{Keys.{by_columns_total, same_text}, Kept.{all-sort, sort-filter, strict-sort}, ShapeLaws.{flag_back, good, open_number_back, role_back}}
-use Rattle.plant_columns.proofs.public.Shapes.{IsShape, named, some_kept}
+use Rattle.plant_store_columns.specs.{Codes.{flag_in, open_number_in, number_in, role_in}, Kept.{by_columns, is_of}, Shape.{IsRowIn, Shape, row_in}, Shown.{columns}}
+use Rattle.plant_store_columns.specs.{Tables.{RowOf, alarm_shape, books_schema, grant_shape, rows_of_table, rows_seen, shape, shelf_shape}, declared.tables.TableKind.{TableKind, TheVariants.{Alarms, Grants, Shelves, Units}}}
+use Rattle.plant_store_columns.proofs.public.{Keys.{by_columns_total, same_text}, Kept.{all-sort, sort-filter, strict-sort}, ShapeLaws.{flag_back, good, open_number_back, role_back}}
+use Rattle.plant_store_columns.proofs.public.Shapes.{IsShape, named, some_kept}
 use Rattle.plant_model.specs.declared.rows.{AlarmRow.{AlarmRow}, GrantRow.{GrantRow}, ShelfRow.{ShelfRow}, UnitRows.{UnitRows}}
 use Rattle.plant_model.specs.steps.{RowChanges.{no_rows}, RowFacts.{alarm_tag, last_return_in}}
 use Rattle.plant_model.proofs.public.PartLists.{row_at-filter}
-use Rattle.plant_statements.specs.Keeping.{HasContent, has_any}
-use Rattle.plant_store.specs.declared.{mine.UnitLine.{UnitLine}, shelves.ShelfLine.{ShelfLine}, texts.TheConstants.{SHELF_LINES, UNIT_LINES}}
+use Rattle.plant_store_statements.specs.Keeping.{HasContent, has_any}
+use Rattle.plant_store.specs.declared.{mine.UnitGrant.{UnitGrant}, shelves.ShelfGrant.{ShelfGrant}, texts.TheConstants.{SELECT_SHELF_LINES, SELECT_UNIT_LINES}}
 use Rattle.plant_store.specs.Mine.{lines_of, shelf_line, shelf_line_cells, unit_line, unit_line_cells}
 use Rattle.plant_store.specs.Mine as mine
 use Rattle.plant_store.proofs.{Blocks.{blocks, is_known}, Holdings.{rising}, Joins.{joins, pair_shown, passing}, LeftJoins.{first_row, left_joins, line_shown, one_by_two}}
-use Rattle.plant_statements.proofs.public.{Queries.{is_named, named_same, two_tests}, Reading.{told}}
+use Rattle.plant_store_statements.proofs.public.{Queries.{is_named, named_same, two_tests}, Reading.{told}}
 use Rattle.plant_store.proofs.JoinMeanings.{alarm_tests, grant_shows, joined_order, joined_tests, shelf_lines, shelf_shows, unit_lines, unit_order}
 use Rattle.plant_types.specs.Names.{Name, name_cmp, same_name}
 
@@ -220,17 +220,17 @@ module _ (s : State) (m : Content) (k : HasContent s m) where
 
   -- ---- the two joins
 
-  unit_back : Row → UnitLine
+  unit_back : Row → UnitGrant
   unit_back r =
       record { unit = bytes (column r 0); role_no = role_in (column r 1); end_s = open_number_in (column r 2); last_s = number_in (column r 3) }
 
-  pub units_read : (p : Name) (new : State) (rows : List Row) → Shown UNIT_LINES.now (Text p ∷ []) s new rows → (read : List UnitLine)
+  pub units_read : (p : Name) (new : State) (rows : List Row) → Shown SELECT_UNIT_LINES.now (Text p ∷ []) s new rows → (read : List UnitGrant)
       → map (columns 4) rows ≡ map unit_line_cells read → read ≡ mine.own_unit_lines m p
   unfolding unit_back
   units_read p new rows h read said =
       let project = grant_shows ++ col 2 2 ∷ [] in
       let got =
-      reads_as UNIT_LINES.now (Text p ∷ []) s new books_schema k.books.same_schema _ unit_lines.is unit_lines.plain unit_lines.unlisted rows h in
+      reads_as SELECT_UNIT_LINES.now (Text p ∷ []) s new books_schema k.books.same_schema _ unit_lines.is unit_lines.plain unit_lines.unlisted rows h in
       let ordered =
       λ (g h u v : Row). thens (value_cmp (column g 1) (column h 1)) (value_cmp (column g 2) (column h 2)) (value_cmp (column g 3) (column h 3))
       (by_columns (1 ∷ []) u v) in
@@ -284,7 +284,7 @@ module _ (s : State) (m : Content) (k : HasContent s m) where
       ∙ ap (option_and_then (λ (r : AlarmRow). r.return_s))
       (row_at-filter name_cmp alarm_tag a (λ r. same_name a r.tag) (λ r h. h) (rows_in m u).alarms)
 
-  shelf_back : Row → ShelfLine
+  shelf_back : Row → ShelfGrant
   shelf_back r = record {
     unit = bytes (column r 0);
     role_no = role_in (column r 1);
@@ -336,12 +336,12 @@ module _ (s : State) (m : Content) (k : HasContent s m) where
         last_return = at i;
       }
 
-  pub shelves_read : (p : Name) (new : State) (rows : List Row) → Shown SHELF_LINES.now (Text p ∷ []) s new rows → (read : List ShelfLine)
+  pub shelves_read : (p : Name) (new : State) (rows : List Row) → Shown SELECT_SHELF_LINES.now (Text p ∷ []) s new rows → (read : List ShelfGrant)
       → map (columns 10) rows ≡ map shelf_line_cells read → IsPermutation (mine.own_shelf_lines m p) read
   unfolding shelf_back
   shelves_read p new rows h read said =
       let got =
-      reads_as SHELF_LINES.now (Text p
+      reads_as SELECT_SHELF_LINES.now (Text p
       ∷ []) s new books_schema k.books.same_schema _ shelf_lines.is shelf_lines.plain shelf_lines.unlisted rows h in
       let back = λ (r : Row). shelf_back (columns 10 r) in
       let is : read ≡ map back rows =

@@ -8,8 +8,8 @@ use Rattle.sqlite_keyed.proofs.ListLemmas.{all-map, ascending-filter, ascending-
 use Rattle.sqlite_keyed.proofs.SortLemmas.{sorted_unique, IsPermutation-sort_by}
 use Rattle.sqlite_sql.{specs.Term.{Term, holds}, proofs.QueryLemmas.{output_cmp_total}}
 use Rattle.sqlite_value.specs.{declared.keys.Key.{Key}, Order.{Row}}
-use Rattle.plant_columns.specs.{Kept.{by_columns, plain_query}, Tidy.{AreApart}}
-use Rattle.plant_columns.proofs.public.{Keys.{by_columns_total}, Kept.{strict-sort}, Laws.{overlay_none}}
+use Rattle.plant_store_columns.specs.{Kept.{by_columns, plain_query}, Tidy.{AreApart}}
+use Rattle.plant_store_columns.proofs.public.{Keys.{by_columns_total}, Kept.{strict-sort}, Laws.{overlay_none}}
 
 pub picked : {A B : Type 0} (t : A → Bool) (f : A → B) (xs : List A) → flat_map (λ x. cond (t x) (f x ∷ []) []) xs ≡ map f (filter t xs)
 picked t f [] = refl

@@ -10,8 +10,8 @@ use Rattle.sqlite_schema.specs.Rules.{equal}
 use Rattle.sqlite_sql.specs.{Ops.{binary}, Term.{Term, holds}}
 use Rattle.sqlite_value.specs.{declared.{keys.Key.{Key}, value.Value.{Value, TheVariants.{Null, Int, Real, Text, Blob}}}, Order.{Row, column, value_cmp}}
 use Rattle.sqlite_value.proofs.OrderLemmas.{value_cmp_total}
-use Rattle.plant_columns.specs.{Kept.{by_columns, plain_query}, Tidy.{AreApart}}
-use Rattle.plant_columns.proofs.public.{Keys.{equal_is, then_tied}, Laws.{overlay_none}}
+use Rattle.plant_store_columns.specs.{Kept.{by_columns, plain_query}, Tidy.{AreApart}}
+use Rattle.plant_store_columns.proofs.public.{Keys.{equal_is, then_tied}, Laws.{overlay_none}}
 use Rattle.plant_store.proofs.Joins.{cells_met, met, met_by_keys, passing, picked}
 use Rattle.plant_types.proofs.public.KeyedRowLaws.{tied}
 

@@ -6,20 +6,20 @@ use Rattle.sqlite.specs.State.{State}
 use Rattle.sqlite_keyed.proofs.{ListLemmas.{all-flat_map, all-map, all_of, ascending-filter, ascending-map, ascending_weaker}, SortLemmas.{sorted_unique}}
 use Rattle.sqlite_trees.specs.Tree.{IsAscending}
 use Rattle.plant_books.specs.Contents.{Content, rows_in}
-use Rattle.plant_columns.specs.{Tables.{grant_shape, shelf_shape}, declared.tables.TableKind.TheVariants.{Grants, Shelves}}
-use Rattle.plant_columns.proofs.public.{Bridge.{AreRising}, ShapeLaws.{good}, Shapes.{rising as rows_rise}}
+use Rattle.plant_store_columns.specs.{Tables.{grant_shape, shelf_shape}, declared.tables.TableKind.TheVariants.{Grants, Shelves}}
+use Rattle.plant_store_columns.proofs.public.{Bridge.{AreRising}, ShapeLaws.{good}, Shapes.{rising as rows_rise}}
 use Rattle.plant_model.specs.declared.rows.{GrantRow.{GrantRow}, ShelfRow.{ShelfRow}}
 use Rattle.plant_model.specs.steps.RowFacts.{pair_of, shelf_tag}
-use Rattle.plant_statements.specs.Keeping.{HasContent}
-use Rattle.plant_store.specs.{Mine.{line_cmp, shelf_line, own_shelf_lines}, declared.shelves.ShelfLine.{ShelfLine}}
+use Rattle.plant_store_statements.specs.Keeping.{HasContent}
+use Rattle.plant_store.specs.{Mine.{line_cmp, shelf_line, own_shelf_lines}, declared.shelves.ShelfGrant.{ShelfGrant}}
 use Rattle.plant_store.proofs.{Holdings.{rising}, Joins.{passing, rising-flat_map}}
-use Rattle.plant_statements.proofs.public.Contents.{same_codes}
+use Rattle.plant_store_statements.proofs.public.Contents.{same_codes}
 use Rattle.plant_types.{specs.{Names.{Name, name_cmp, same_name}, Roles.{pair_cmp, role_no}}, proofs.public.Orders.{name_total}}
 
 pub line_cmp_total : IsTotalOrder line_cmp
 line_cmp_total =
-    then_total (then_total (on_total (λ (l : ShelfLine). l.unit) name_total) (on_total (λ (l : ShelfLine). role_no l.role_no) nat_cmp_total))
-    (on_total (λ (l : ShelfLine). l.shelf.tag) name_total)
+    then_total (then_total (on_total (λ (l : ShelfGrant). l.unit) name_total) (on_total (λ (l : ShelfGrant). role_no l.role_no) nat_cmp_total))
+    (on_total (λ (l : ShelfGrant). l.shelf.tag) name_total)
 
 abbrev pub by_role : GrantRow → GrantRow → Ordering
 by_role g h = nat_cmp (role_no g.role_no) (role_no h.role_no)
@@ -54,18 +54,18 @@ module _ (s : State) (m : Content) (k : HasContent s m) (p : Name) where
   tags_rise u =
       subst (AreRising name_cmp shelf_tag) (k.seen u Shelves) (rows_rise shelf_shape (good Shelves) u (s.now.trees 7) (k.books.tidy Shelves))
 
-  abbrev R : ShelfLine → ShelfLine → Type 0
+  abbrev R : ShelfGrant → ShelfGrant → Type 0
   R a b = line_cmp a b ≡ Less
 
   -- the shelves of one unit beside one grant, and beside each grant
-  in_grant : (u : Name) (g : GrantRow) → IsAscending (λ (a b : ShelfLine). line_cmp a b ≡ Less) (map (shelf_line m u g) (rows_in m u).shelves)
+  in_grant : (u : Name) (g : GrantRow) → IsAscending (λ (a b : ShelfGrant). line_cmp a b ≡ Less) (map (shelf_line m u g) (rows_in m u).shelves)
   in_grant u g =
       let tie = ap (λ o. ordering_then o (by_role g g)) (tied_itself name_total u) ∙ tied_itself nat_cmp_total (role_no g.role_no) in
       ascending-map _ (shelf_line m u g)
       (rows_in m u).shelves (ascending_weaker _ _ (λ (a b : ShelfRow) less. ap (λ o. ordering_then o (name_cmp a.tag b.tag)) tie
       ∙ less) _ (tags_rise u))
 
-  in_unit : (u : Name) → IsAscending (λ (a b : ShelfLine). line_cmp a b ≡ Less) (flat_map (λ g. map (shelf_line m u g) (rows_in m u).shelves) (own u))
+  in_unit : (u : Name) → IsAscending (λ (a b : ShelfGrant). line_cmp a b ≡ Less) (flat_map (λ g. map (shelf_line m u g) (rows_in m u).shelves) (own u))
   in_unit u =
       rising-flat_map (λ g h. by_role g h ≡ Less) _ (λ g. map (shelf_line m u g) (rows_in m u).shelves) (in_grant u) across (own u) (own_rise u)
     where
@@ -77,7 +77,7 @@ module _ (s : State) (m : Content) (k : HasContent s m) (p : Name) where
           let ss = (rows_in m u).shelves in
           all-map _ (shelf_line m u g) (λ a. all-map _ (shelf_line m u h) (λ b. ap (λ o. ordering_then o (name_cmp a.tag b.tag)) first) ss) ss
 
-  abbrev lines_in : Name → List ShelfLine
+  abbrev lines_in : Name → List ShelfGrant
   lines_in u = flat_map (λ g. map (shelf_line m u g) (rows_in m u).shelves) (filter (λ g. same_name p g.person) (rows_in m u).grants)
 
   -- those of one unit stand before those of a later one
@@ -99,13 +99,13 @@ module _ (s : State) (m : Content) (k : HasContent s m) (p : Name) where
   names_rise [] up = tt
   names_rise (u ∷ us) up = (up.0, names_rise us up.1)
 
-  lines_rise : IsAscending (λ (a b : ShelfLine). line_cmp a b ≡ Less) (own_shelf_lines m p)
+  lines_rise : IsAscending (λ (a b : ShelfGrant). line_cmp a b ≡ Less) (own_shelf_lines m p)
   lines_rise =
       rising-flat_map (λ u v. name_cmp u v ≡ Less) _ lines_in in_unit apart (keys m.units)
       (names_rise (keys m.units) (rising (entries m.units) (entries_sorted m.units)))
 
   -- so these lines have one order by unit, role and tag, however they were read
-  pub one_order : (read lines : List ShelfLine) → IsPermutation (own_shelf_lines m p) read → IsPermutation read lines → IsSorted line_cmp lines
+  pub one_order : (read lines : List ShelfGrant) → IsPermutation (own_shelf_lines m p) read → IsPermutation read lines → IsSorted line_cmp lines
       → lines ≡ own_shelf_lines m p
   one_order read lines same moved sorted =
       sorted_unique line_cmp line_cmp_total (own_shelf_lines m p) lines lines_rise (IsPermutation-trans _ _ _ same moved) sorted

@@ -7,15 +7,15 @@ use Rattle.sqlite.specs.State.{State}
 use Rattle.sqlite_keyed.proofs.ListLemmas.{all_of, all_weaker, ascending-filter, ascending_weaker, flat_map_none, flat_map_same_on}
 use Rattle.sqlite_trees.specs.Tree.{IsAscending}
 use Rattle.plant_books.specs.{Contents.{Content, is_held_row, is_held_in, mine_as, mine_row, mine_shelves, mine_unit, mine_units, rows_in, shelves_mine}, declared.books.{MineRow.{MineRow}, MineUnit.{MineUnit}}}
-use Rattle.plant_columns.specs.{Tables.{grant_shape, own_key, unit_shape}, declared.tables.TableKind.TheVariants.{Grants, Units}}
-use Rattle.plant_columns.proofs.public.{Bridge.{AreRising}, ShapeLaws.{good}, Shapes.{rising as rows_rise}}
+use Rattle.plant_store_columns.specs.{Tables.{grant_shape, own_key, unit_shape}, declared.tables.TableKind.TheVariants.{Grants, Units}}
+use Rattle.plant_store_columns.proofs.public.{Bridge.{AreRising}, ShapeLaws.{good}, Shapes.{rising as rows_rise}}
 use Rattle.plant_model.specs.{Grants.{is_before}, declared.rows.{GrantRow.{GrantRow}, ShelfRow.{ShelfRow}, UnitRow.{UnitRow}, UnitRows.{UnitRows}}}
 use Rattle.plant_model.specs.steps.{RowChanges.{no_rows}, RowFacts.{no_unit, pair_of}}
-use Rattle.plant_statements.specs.Keeping.{HasContent, has_any}
-use Rattle.plant_store.specs.declared.{mine.UnitLine.{UnitLine}, shelves.ShelfLine.{ShelfLine}}
+use Rattle.plant_store_statements.specs.Keeping.{HasContent, has_any}
+use Rattle.plant_store.specs.declared.{mine.UnitGrant.{UnitGrant}, shelves.ShelfGrant.{ShelfGrant}}
 use Rattle.plant_store.specs.Mine.{as_mine, lines_of, put_run, repeats, runs_of, shelf_line, own_shelf_lines, standing_shelves, standing_units, started, unit_line, own_unit_lines}
 use Rattle.plant_store.proofs.{Holdings.{own_roles, rising}, LineOrder.{own_rise}}
-use Rattle.plant_statements.proofs.public.Contents.{same_codes}
+use Rattle.plant_store_statements.proofs.public.Contents.{same_codes}
 use Rattle.plant_types.specs.{Names.{Name, name_cmp, same_name}, Options.{when}, Roles.{pair_cmp, role_no, same_role}, declared.role.Role.{Role}}
 
 itself : (a : Name) → same_name a a ≡ true
@@ -23,7 +23,7 @@ itself a = ap is_eq (tied_itself nat_list_cmp_total a)
 
 -- ---- one line more
 
-pub joins_run : (u : MineUnit) (l : UnitLine) → same_name u.unit l.unit ≡ true → (vs : List MineUnit)
+pub joins_run : (u : MineUnit) (l : UnitGrant) → same_name u.unit l.unit ≡ true → (vs : List MineUnit)
     → put_run (record u { roles = u.roles ++ l.role_no ∷ [] }) vs ≡ put_run u (put_run (started l) vs)
 joins_run u l h [] = rw h refl
 joins_run u l h (v ∷ vs) = go (same_name l.unit v.unit) refl
@@ -42,7 +42,7 @@ joins_run u l h (v ∷ vs) = go (same_name l.unit v.unit) refl
     go false e = rw (alike, e, h) refl
 
 -- a line of another unit begins a run of its own
-pub other_run : (u : MineUnit) (l : UnitLine) → same_name u.unit l.unit ≡ false → (vs : List MineUnit)
+pub other_run : (u : MineUnit) (l : UnitGrant) → same_name u.unit l.unit ≡ false → (vs : List MineUnit)
     → put_run u (put_run (started l) vs) ≡ u ∷ put_run (started l) vs
 other_run u l h [] = rw h refl
 other_run u l h (v ∷ vs) = go (same_name l.unit v.unit)
@@ -54,16 +54,16 @@ other_run u l h (v ∷ vs) = go (same_name l.unit v.unit)
     go false = rw h refl
 
 -- the line is the first of its unit, or one of the grant whose shelves are listed
-abbrev goes_on : Option ShelfLine → ShelfLine → Bool
+abbrev goes_on : Option ShelfGrant → ShelfGrant → Bool
 goes_on None l = true
 goes_on (Some last) l = not (repeats l last)
 
 -- after this one, the lines of one grant of each unit
-abbrev listed_after : Option ShelfLine → List ShelfLine → List ShelfLine
+abbrev listed_after : Option ShelfGrant → List ShelfGrant → List ShelfGrant
 listed_after last [] = []
 listed_after last (l ∷ ls) = cond (goes_on last l) (l ∷ listed_after (Some l) ls) (listed_after last ls)
 
-listed_from : (last : ShelfLine) (ls : List ShelfLine) → dedup_from repeats last ls ≡ last ∷ listed_after (Some last) ls
+listed_from : (last : ShelfGrant) (ls : List ShelfGrant) → dedup_from repeats last ls ≡ last ∷ listed_after (Some last) ls
 listed_from last [] = refl
 listed_from last (l ∷ ls) = by (repeats l last) (listed_from last ls) (listed_from l ls)
   where
@@ -73,7 +73,7 @@ listed_from last (l ∷ ls) = by (repeats l last) (listed_from last ls) (listed_
     by true same other = same
     by false same other = ap (λ l. last ∷ l) other
 
-listed : (ls : List ShelfLine) → dedup repeats ls ≡ listed_after None ls
+listed : (ls : List ShelfGrant) → dedup repeats ls ≡ listed_after None ls
 listed [] = refl
 listed (l ∷ ls) = listed_from l ls
 
@@ -102,7 +102,7 @@ fresh w (v ∷ vs) new = rw new.0 refl
 abbrev with_roles : Name → List GrantRow → UnitRow → MineUnit
 with_roles u gs r = record { unit = u; roles = map (λ g. g.role_no) gs; last = r.last_s }
 
-run : (u : Name) (r : UnitRow) (gs : List GrantRow) (ls : List UnitLine) → AllByRecursion (λ v. same_name u v.unit ≡ false) (runs_of ls)
+run : (u : Name) (r : UnitRow) (gs : List GrantRow) (ls : List UnitGrant) → AllByRecursion (λ v. same_name u v.unit ≡ false) (runs_of ls)
     → runs_of (flat_map (λ g. unit_line u g r ∷ []) gs ++ ls) ≡ cons_option (when (has_any gs) (with_roles u gs r)) (runs_of ls)
 run u r [] ls new = refl
 run u r (g ∷ []) ls new = fresh (started (unit_line u g r)) (runs_of ls) new
@@ -156,7 +156,7 @@ module _ (t : ℕ) (p : Name) where
 
     -- ---- the units
 
-    abbrev units_at : Name → List UnitLine
+    abbrev units_at : Name → List UnitGrant
     units_at u = flat_map (λ g. map (unit_line u g) (rows_in m u).units) (filter (is_held_row t p) (rows_in m u).grants)
 
     abbrev units_mine : List Name → List MineUnit
@@ -197,17 +197,17 @@ module _ (t : ℕ) (p : Name) where
 
     -- ---- the shelves
 
-    abbrev shelves_at : Name → List ShelfLine
+    abbrev shelves_at : Name → List ShelfGrant
     shelves_at u = flat_map (λ g. map (shelf_line m u g) (rows_in m u).shelves) (filter (is_held_row t p) (rows_in m u).grants)
 
     abbrev shelves_left : List Name → List MineRow
     shelves_left us = flat_map (λ u. shelves_mine t p u (get m.units u)) us
 
-    abbrev is_new : Option ShelfLine → Name → Bool
+    abbrev is_new : Option ShelfGrant → Name → Bool
     is_new None u = true
     is_new (Some l) u = not (same_name l.unit u)
 
-    begins : (last : Option ShelfLine) (u : Name) (g : GrantRow) (s : ShelfRow) → is_new last u ≡ true → goes_on last (shelf_line m u g s) ≡ true
+    begins : (last : Option ShelfGrant) (u : Name) (g : GrantRow) (s : ShelfRow) → is_new last u ≡ true → goes_on last (shelf_line m u g s) ≡ true
     begins None u g s h = refl
     begins (Some l) u g s h = other (same_name l.unit u) (not (same_role l.role_no g.role_no)) h
       where
@@ -216,13 +216,13 @@ module _ (t : ℕ) (p : Name) where
         other true b h = absurd (true≢false (sym h))
 
     -- once a grant's shelf is listed, no other grant's is
-    skips_one : (u : Name) (g h : GrantRow) (s : ShelfRow) → same_role g.role_no h.role_no ≡ false → (ss : List ShelfRow) (ls : List ShelfLine)
+    skips_one : (u : Name) (g h : GrantRow) (s : ShelfRow) → same_role g.role_no h.role_no ≡ false → (ss : List ShelfRow) (ls : List ShelfGrant)
         → listed_after (Some (shelf_line m u g s)) (map (shelf_line m u h) ss ++ ls) ≡ listed_after (Some (shelf_line m u g s)) ls
     skips_one u g h s apart [] ls = refl
     skips_one u g h s apart (x ∷ ss) ls = rw (itself u, apart) (skips_one u g h s apart ss ls)
 
     skips : (u : Name) (g : GrantRow) (s : ShelfRow) (ss : List ShelfRow) (hs : List GrantRow)
-        → AllByRecursion (λ h. same_role g.role_no h.role_no ≡ false) hs → (ls : List ShelfLine)
+        → AllByRecursion (λ h. same_role g.role_no h.role_no ≡ false) hs → (ls : List ShelfGrant)
         → listed_after (Some (shelf_line m u g s)) (flat_map (λ h. map (shelf_line m u h) ss) hs ++ ls) ≡ listed_after (Some (shelf_line m u g s)) ls
     skips u g s ss [] all ls = refl
     skips u g s ss (h ∷ hs) all ls =
@@ -230,7 +230,7 @@ module _ (t : ℕ) (p : Name) where
         ∙ skips_one u g h s all.0 ss (flat_map (λ h. map (shelf_line m u h) ss) hs ++ ls) ∙ skips u g s ss hs all.1 ls
 
     -- and the others of that grant are
-    takes : (u : Name) (g : GrantRow) (ss : List ShelfRow) (ls : List ShelfLine) (z : List MineRow)
+    takes : (u : Name) (g : GrantRow) (ss : List ShelfRow) (ls : List ShelfGrant) (z : List MineRow)
         → ((s : ShelfRow) → map as_mine (listed_after (Some (shelf_line m u g s)) ls) ≡ z)
         → (s : ShelfRow)
         → map as_mine (listed_after (Some (shelf_line m u g s)) (map (shelf_line m u g) ss ++ ls)) ≡ map (mine_row u (rows_in m u)) ss ++ z
@@ -240,7 +240,7 @@ module _ (t : ℕ) (p : Name) where
     module _ (apart : (u : Name) (rows : UnitRows) → get m.units u ≡ Some rows
         → IsAscending (λ a b. same_role a.role_no b.role_no ≡ false) (filter (is_held_row t p) rows.grants)) where
       -- the lines of one unit come before others, of which the same is listed whichever line came last
-      in_unit : (u : Name) (ls : List ShelfLine) (z : List MineRow) (last : Option ShelfLine) → is_new last u ≡ true
+      in_unit : (u : Name) (ls : List ShelfGrant) (z : List MineRow) (last : Option ShelfGrant) → is_new last u ≡ true
           → map as_mine (listed_after last ls) ≡ z
           → ((g : GrantRow) (s : ShelfRow) → map as_mine (listed_after (Some (shelf_line m u g s)) ls) ≡ z)
           → (ss : List ShelfRow) (gs : List GrantRow) → IsAscending (λ a b. same_role a.role_no b.role_no ≡ false) gs
@@ -257,7 +257,7 @@ module _ (t : ℕ) (p : Name) where
           ∷ l) (ap (λ l. map as_mine (listed_after (Some (shelf_line m u g s)) l)) (append_assoc (map (shelf_line m u g) ss) more ls)
           ∙ takes u g ss (more ++ ls) z (λ x. ap (map as_mine) (skips u g x (s ∷ ss) gs differ.0 ls) ∙ later g x) s))
 
-      with_unit : (u : Name) (ls : List ShelfLine) (z : List MineRow) (last : Option ShelfLine) → is_new last u ≡ true
+      with_unit : (u : Name) (ls : List ShelfGrant) (z : List MineRow) (last : Option ShelfGrant) → is_new last u ≡ true
           → map as_mine (listed_after last ls) ≡ z
           → ((g : GrantRow) (s : ShelfRow) → map as_mine (listed_after (Some (shelf_line m u g s)) ls) ≡ z) → (o : Option UnitRows)
           → get m.units u ≡ o
@@ -270,7 +270,7 @@ module _ (t : ℕ) (p : Name) where
           in_unit u ls z last new now later rows.shelves (filter (is_held_row t p) rows.grants) (apart u rows e)
           ∙ ap₂ (λ b (o : Option UnitRows). cond b (map (mine_row u (unwrap_or o no_rows)) rows.shelves) [] ++ z) (sym (any_kept rows.grants)) e
 
-      shelves_merged : (us : List Name) → IsStrictlySortedBy name_cmp us → (last : Option ShelfLine) → AllByRecursion (λ u. is_new last u ≡ true) us
+      shelves_merged : (us : List Name) → IsStrictlySortedBy name_cmp us → (last : Option ShelfGrant) → AllByRecursion (λ u. is_new last u ≡ true) us
           → map as_mine (listed_after last (flat_map shelves_at us)) ≡ shelves_left us
       unfolding IsStrictlySortedBy
       shelves_merged [] up last new = refl

@@ -5,7 +5,7 @@ use Rattle.sqlite_ast.specs.declared.Source.{Source, out-Source}
 use Rattle.sqlite_syntax.specs.declared.statement.Parsed.{Parsed}
 use Rattle.sqlite_resolve.specs.{Compile.{first}, Scope.{Name}}
 use Rattle.sqlite_tied.specs.Compute.{everything}
-use Rattle.plant_statements.specs.declared.texts.TheConstants.{OFFICE_ROW}
+use Rattle.plant_store_statements.specs.declared.texts.TheConstants.{SELECT_OFFICE}
 use Rattle.sqlite_ast.specs.declared.Shown as written
 use Rattle.sqlite_ast.specs.declared.Origin.TheVariants as origin
 use Rattle.sqlite_ast.specs.declared.Statement.TheVariants as statement
@@ -48,7 +48,7 @@ pub record Asks (s : Select) (table n₁ n₂ n₃ : Name) : Type 0 where
 pub record IsAsked : Type 0 where
   pub p : Parsed
   pub s : Select
-  pub is : first OFFICE_ROW.now ≡ Ok p
+  pub is : first SELECT_OFFICE.now ≡ Ok p
   pub statement_is : p.statement ≡ statement.Select s
   pub formats : p.formats ≡ []
   pub names : p.names ≡ []

@@ -5,8 +5,8 @@ use Rattle.sqlite_resolve.specs.{Compile.{compiled}, Scope.{Name}, declared.{com
 use Rattle.sqlite_schema.specs.{Names.{table_named, place_of}, declared.{command.Command.TheVariants.{Select}, program.Program.{Program}}}
 use Rattle.sqlite_schema.specs.declared.schema.{Schema.{Schema}, Table.{Table}}
 use Rattle.sqlite_typing.specs.Types.{accepts_program}
-use Rattle.plant_columns.specs.Kept.{plain_query}
-use Rattle.plant_statements.specs.declared.texts.TheConstants.{OFFICE_ROW}
+use Rattle.plant_store_columns.specs.Kept.{plain_query}
+use Rattle.plant_store_statements.specs.declared.texts.TheConstants.{SELECT_OFFICE}
 use Rattle.plant_store.proofs.{OfficeAsked.{asked}, ThreeColumns.{IsColumn, is_read}}
 use Rattle.sqlite_resolve.specs.Compile as compile
 
@@ -35,16 +35,16 @@ module _ (schema : Schema) (k : ℕ) (t : Table) (named : table_named schema (co
   reads : (b : Bool) → accepts_program schema [] query [] ≡ b → compile.read schema asked.s ≡ cond b (Ok (Select program names)) (Err Mismatch)
   reads = is_read schema (codes "office") k t named is (codes "id") (codes "schema_no") (codes "admin") asked.s asked.asks id schema_no admin
 
-  compiles : (b : Bool) → accepts_program schema [] query [] ≡ b → compiled schema OFFICE_ROW.now ≡ cond b (Ok meant) (Err Mismatch)
+  compiles : (b : Bool) → accepts_program schema [] query [] ≡ b → compiled schema SELECT_OFFICE.now ≡ cond b (Ok meant) (Err Mismatch)
   unfolding compiled compile.planned compile.meaning compile.returning compile.command compile.timed
   compiles true h = rw (asked.is, asked.statement_is, asked.formats, asked.names, reads true h)
   compiles false h = rw (asked.is, asked.statement_is, asked.formats, asked.names, reads false h)
 
   pub is_understood : accepts_program schema [] query [] ≡ true
-      → (understood schema OFFICE_ROW.now ≡ Ok meant) × (reads_listing schema OFFICE_ROW.now ≡ false)
+      → (understood schema SELECT_OFFICE.now ≡ Ok meant) × (reads_listing schema SELECT_OFFICE.now ≡ false)
   unfolding understood
   is_understood h = (rw (compiles true h), rw (compiles true h))
 
-  pub is_refused : accepts_program schema [] query [] ≡ false → understood schema OFFICE_ROW.now ≡ Err Mismatch
+  pub is_refused : accepts_program schema [] query [] ≡ false → understood schema SELECT_OFFICE.now ≡ Err Mismatch
   unfolding understood
   is_refused h = rw (compiles false h)

@@ -10,10 +10,10 @@ use Rattle.sqlite_schema.specs.Names.{column_named, place_of, same_name, table_n
 use Rattle.sqlite_typing.specs.Types.{accepts_program}
 use Rattle.sqlite_value.specs.{Order.{Row, column}, declared.value.Value.TheVariants.{Null}}
 use Rattle.plant_books.specs.Contents.{Content}
-use Rattle.plant_columns.{specs.{Forms.{column_of}, Shown.{columns}, Tables.{office_table}}, proofs.public.Laws.{reads, shows}}
-use Rattle.plant_statements.specs.Keeping.{HasContent}
+use Rattle.plant_store_columns.{specs.{Forms.{column_of}, Shown.{columns}, Tables.{office_table}}, proofs.public.Laws.{reads, shows}}
+use Rattle.plant_store_statements.specs.Keeping.{HasContent}
 use Rattle.plant_store.specs.Opening.{IsOffice, IsThisOffice, has_office, is_office, office_cells, office_in, office_shown, place_named}
-use Rattle.plant_statements.specs.declared.texts.TheConstants.{OFFICE_ROW}
+use Rattle.plant_store_statements.specs.declared.texts.TheConstants.{SELECT_OFFICE}
 use Rattle.plant_store.proofs.{OfficeMeaning.{is_refused, is_understood, query}, ThreeColumns.{IsColumn}}
 use Rattle.plant_model.proofs.public.PartLists.{filter-true}
 use Rattle.plant_types.specs.Names.{Name}
@@ -65,7 +65,7 @@ one_shown x all rows same order = (
 )
 
 module _ (n : ℕ) (admin : Name) (old new : State) (t : Table) (is_there : office_in old.now.schema ≡ Some t) (has : is_office t ≡ true)
-    (rows : List Row) (h : Shown OFFICE_ROW.now [] old new rows) where
+    (rows : List Row) (h : Shown SELECT_OFFICE.now [] old new rows) where
   id : IsColumn t (codes "id")
   id = found_column t (codes "id") (and_parts _ _ has).0
 
@@ -102,7 +102,7 @@ module _ (n : ℕ) (admin : Name) (old new : State) (t : Table) (is_there : offi
   some_order =
       let known = is_understood old.now.schema spot.0 t spot.1 spot.2 id schema_no by accepted in
       let got =
-      reads_as OFFICE_ROW.now [] old new old.now.schema refl _ (ap command_of known.0)
+      reads_as SELECT_OFFICE.now [] old new old.now.schema refl _ (ap command_of known.0)
       (subst IsPlain (sym known.0) (refl, refl)) known.1 rows h in
       let it = reads t.tree [] (col 1 a ∷ col 1 b ∷ col 1 c ∷ []) [] old.now.trees [] rows (got.answer Null) in
       let show = shows t.tree [] (col 1 a ∷ col 1 b ∷ col 1 c ∷ []) [] [] in

@@ -3,7 +3,7 @@ use Rattle.std.specs.Prelude.{Bool, IfErr, IfOk, IsTrue, Result, false, ℕ, ◌
 use Rattle.sqlite.specs.Held.{Held, state}
 use Rattle.sqlite_trees.specs.declared.store.Store.{Ghosts}
 use Rattle.plant_books.specs.Contents.{Content}
-use Rattle.plant_statements.specs.{Changes.{IsHonest}, Keeping.{Represents}}
+use Rattle.plant_store_statements.specs.{Changes.{IsHonest}, Keeping.{Represents}}
 use Rattle.plant_store.specs.Opening.{IsOffice, has_office}
 use Rattle.plant_store.specs.declared.tables.StoreFault.{StoreFault, TheVariants.{NotThisStore}}
 use Rattle.plant_types.specs.Names.{Name}

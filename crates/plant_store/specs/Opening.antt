@@ -3,7 +3,7 @@ use Rattle.std.specs.Prelude.{Bool, List, Option, Some, [], codes, is_some, map,
 use Rattle.sqlite.specs.{Effect.{Database}, Schema.{Schema}, Table.{Table}}
 use Rattle.sqlite_schema.specs.Names.{column_named, place_of, table_named}
 use Rattle.sqlite_value.specs.{Order.{Row, column}, declared.value.Value.TheVariants.{Text}}
-use Rattle.plant_columns.specs.{Codes.{number}, Tables.{schema_no}}
+use Rattle.plant_store_columns.specs.{Codes.{number}, Tables.{schema_no}}
 use Rattle.plant_types.specs.Names.{Name}
 
 -- the table of this name, wherever it stands; SQL does not distinguish upper and lower case

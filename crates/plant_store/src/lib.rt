@@ -5,10 +5,12 @@
 mod migration;
 mod mine;
 mod opening;
+mod reopening;
 mod shelves;
 mod tables;
 mod texts;
 
 pub use migration::{MigrateRefused, migrate};
 pub use opening::note_settled;
+pub use reopening::reopen;
 pub use tables::{StoreFault, Tables, Unopened};

@@ -3,17 +3,17 @@
 ghost use Rattle.std.specs.Prelude.{◌≡◌, ◌≢◌, ◌⊎◌, false, IfErr, IfOk, IsErrAnd, OnOk, Err};
 ghost use Rattle.sqlite.specs.{Held.{state}, State.{Survives}};
 ghost use Rattle.plant_books.specs.Contents.{Content};
-ghost use Rattle.plant_columns.specs.Tables.{no_schema};
+ghost use Rattle.plant_store_columns.specs.Tables.{no_schema};
 ghost use Rattle.plant_types.specs.declared.fault.Fault.TheVariants.{Memory, Store};
-ghost use Rattle.plant_statements.specs.{Changes.{IsHonest}, Keeping.{Represents}};
-ghost use Rattle.plant_statements.specs.{Reading.{HasNoTransaction, IsOnlyRead}, Writing.{SameDatabase, SameOnErr}};
-ghost use Rattle.plant_migration.specs.{OldTables.{old_schema_no}, TakingOver.{AreTaken}, Upgrading.{HaveOldRows}};
+ghost use Rattle.plant_store_statements.specs.{Changes.{IsHonest}, Keeping.{Represents}};
+ghost use Rattle.plant_store_statements.specs.{Reading.{HasNoTransaction, IsOnlyRead}, Writing.{SameDatabase, SameOnErr}};
+ghost use Rattle.plant_store_migration.specs.{OldTables.{old_schema_no}, TakingOver.{AreTaken}, Upgrading.{HaveOldRows}};
 ghost use Rattle.plant_store.specs.{Opened.{HasNoOffice, IsAnothers, WasOffice}, Opening.{IsOffice}};
 ghost use Rattle.plant_store.specs.declared.tables.StoreFault.TheVariants.{NotThisStore};
 
 use crate::opening::is_office_of;
 use crate::tables::{StoreFault, Tables, fault_of, is_blank};
-use plant_migration::take_over;
+use plant_store_migration::take_over;
 use plant_types::{Fault, Person};
 use sqlite::{Alter, Connection};
 use std::alloc::Global;
@@ -67,7 +67,7 @@ fn take_into_blank<O: Alter, N: Alter>(
 /// Refused as `NotThisStore` if the old database is not a store of schema 1 with this administrator; the new one is
 /// then not looked at. It is a fault of the store if the new database has a table, if a row of the old store cannot be
 /// read as a row of its table, or if one of the two connections fails.
-#[tactic(auto, using(plant_statements::proofs::public::ReadsOnly::reads_then))]
+#[tactic(auto, using(plant_store_statements::proofs::public::ReadsOnly::reads_then))]
 pub fn migrate<O: Alter, N: Alter>(
     alloc: Global,
     mut old: Connection<O>,

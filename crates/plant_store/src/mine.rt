@@ -4,16 +4,16 @@ ghost use Rattle.std.specs.Prelude.{◌≡◌, ◌∷◌, [], IfOk};
 ghost use Rattle.plant_books.specs.Contents.{codes_held, mine_units as units_held};
 ghost use Rattle.plant_store.specs.Mine.{AreCodes, JoinsLine, holding_cells, runs_of, standing_units, started};
 ghost use Rattle.plant_store.specs.Mine.{unit_line_cells, own_unit_lines};
-ghost use Rattle.plant_statements.specs.Reading.{HasNoTransaction, IsOnlyRead, ReadsContent};
+ghost use Rattle.plant_store_statements.specs.Reading.{HasNoTransaction, IsOnlyRead, ReadsContent};
 
 use crate::texts;
 use plant_books::MineUnit;
-use plant_columns::decode::{Shown, coded, moment, open_moment, text};
-use plant_columns::encode::single;
 use plant_model::is_before;
-use plant_statements::memory::{copy_of, push};
-use plant_statements::read::read_rows;
-use plant_statements::texts::HOLDINGS;
+use plant_store_columns::decode::{Shown, coded, moment, open_moment, text};
+use plant_store_columns::encode::single;
+use plant_store_statements::memory::{copy_of, push};
+use plant_store_statements::read::read_rows;
+use plant_store_statements::texts::SELECT_HOLDINGS;
 use plant_types::{List, Moment, Person, Role, UnitCode};
 use sqlite::{Alter, Connection, Error, Row};
 use std::alloc::Global;
@@ -57,7 +57,7 @@ fn standing_codes(
 }
 
 /// The codes of the units in which the person holds a role at the moment.
-#[tactic(auto, using(plant_statements::proofs::public::Meanings::holdings, plant_statements::proofs::public::ReadsOnly::reads_plain))]
+#[tactic(auto, using(plant_store_statements::proofs::public::Meanings::holdings, plant_store_statements::proofs::public::ReadsOnly::reads_plain))]
 pub fn held<S: Alter>(
     alloc: Global,
     conn: &mut Connection<S>,
@@ -70,26 +70,26 @@ pub fn held<S: Alter>(
         (λ m. codes_held m now person.now) }
     ensures reads { IsOnlyRead S.Store conn.old conn.new }
 {
-    let holdings = read_rows(alloc, conn, HOLDINGS, &single(person))?;
+    let holdings = read_rows(alloc, conn, SELECT_HOLDINGS, &single(person))?;
     standing_codes(alloc, holdings, now)
 }
 
 /// A grant of the person, with its unit's last moment.
 #[derive(Drop)]
-pub struct UnitLine {
+pub struct UnitGrant {
     pub unit: UnitCode,
     pub role_no: Role,
     pub end_s: Option<Moment>,
     pub last_s: Moment,
 }
 
-impl Shown for UnitLine {
+impl Shown for UnitGrant {
     ghost width = { 4 };
 
     ghost cells = { unit_line_cells };
 
-    fn from_row(alloc: Global, row: &Row) -> Result<UnitLine, Error> {
-        Ok(UnitLine {
+    fn from_row(alloc: Global, row: &Row) -> Result<UnitGrant, Error> {
+        Ok(UnitGrant {
             unit: text(alloc, row, 0)?,
             role_no: coded(row, 1)?,
             end_s: open_moment(row, 2)?,
@@ -99,19 +99,19 @@ impl Shown for UnitLine {
 }
 
 /// The person's grants in all units, each with its unit's last moment.
-#[tactic(auto, using(crate::proofs::JoinMeanings::unit_lines, plant_statements::proofs::public::ReadsOnly::reads_plain))]
+#[tactic(auto, using(crate::proofs::JoinMeanings::unit_lines, plant_store_statements::proofs::public::ReadsOnly::reads_plain))]
 fn unit_lines<S: Alter>(
     alloc: Global,
     conn: &mut Connection<S>,
     person: &Person,
-) -> Result<List<UnitLine>, Error>
+) -> Result<List<UnitGrant>, Error>
     requires { HasNoTransaction conn.old }
     ensures mode { HasNoTransaction conn.new }
     ensures found { ReadsContent S.Store conn.old conn.new result
         (λ m. own_unit_lines m person.now) }
     ensures reads { IsOnlyRead S.Store conn.old conn.new }
 {
-    read_rows(alloc, conn, texts::UNIT_LINES, &single(person))
+    read_rows(alloc, conn, texts::SELECT_UNIT_LINES, &single(person))
 }
 
 /// A list of one role.
@@ -124,7 +124,7 @@ fn one_role(alloc: Global, role_no: Role) -> Result<List<Role>, Error>
 }
 
 /// The unit of a line, with its role.
-fn start(alloc: Global, line: &UnitLine) -> Result<MineUnit, Error>
+fn start(alloc: Global, line: &UnitGrant) -> Result<MineUnit, Error>
     ensures { IfOk result (λ u. u ≡ started line.now) }
 {
     Ok(MineUnit {
@@ -140,7 +140,7 @@ fn join(
     alloc: Global,
     units: &mut List<MineUnit>,
     current: Option<MineUnit>,
-    line: &UnitLine,
+    line: &UnitGrant,
 ) -> Result<MineUnit, Error>
     ensures { IfOk result (JoinsLine units.old current line.now units.new) }
 {
@@ -157,7 +157,7 @@ fn join(
 }
 
 /// The lines grouped by unit, without those of grants that have ended.
-fn group(alloc: Global, lines: &[UnitLine], now: Moment) -> Result<List<MineUnit>, Error>
+fn group(alloc: Global, lines: &[UnitGrant], now: Moment) -> Result<List<MineUnit>, Error>
     ensures { IfOk result (λ units. units ≡ runs_of (standing_units now lines.now)) }
 {
     let mut units = List::new(alloc);

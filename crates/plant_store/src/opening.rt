@@ -3,15 +3,15 @@
 ghost use Rattle.std.specs.Prelude.{◌≡◌, ◌↔◌, [], ◌∷◌, false, map, true, IsTrue, IfOk, Ok};
 ghost use Rattle.sqlite.specs.{Held.{state}, Tree.{Trees}};
 ghost use Rattle.sqlite_value.specs.{Order.{column}, declared.value.Value.TheVariants.{Text as TextValue}};
-ghost use Rattle.plant_statements.specs.Changes.{IsHonest};
+ghost use Rattle.plant_store_statements.specs.Changes.{IsHonest};
 ghost use Rattle.plant_store.specs.{Opened.{FindsOffice, HasNoOffice}, Opening.{IsOffice, office_cells}};
-ghost use Rattle.plant_statements.specs.Reading.{HasNoTransaction, IsOnlyRead};
-ghost use Rattle.plant_columns.specs.Shown.{columns};
-ghost use Rattle.plant_columns.specs.Codes as codings;
+ghost use Rattle.plant_store_statements.specs.Reading.{HasNoTransaction, IsOnlyRead};
+ghost use Rattle.plant_store_columns.specs.Shown.{columns};
+ghost use Rattle.plant_store_columns.specs.Codes as codings;
 ghost use Rattle.plant_store.specs.Opening as opening;
 
-use plant_statements::read::ask;
-use plant_statements::texts;
+use plant_store_statements::read::ask;
+use plant_store_statements::texts;
 use plant_types::Person;
 use sqlite::types::ValueRef;
 use sqlite::{Alter, Connection, Error, Row};
@@ -73,7 +73,7 @@ fn is_office_row(rows: &[Row], schema: u32, admin: &Person) -> bool
 
 /// Whether the office's table has one row, with this schema's number and this person's name. The table exists, with its
 /// columns.
-#[tactic(auto, using(plant_statements::proofs::public::Meanings::office_row_plain, plant_statements::proofs::public::ReadsOnly::reads_plain))]
+#[tactic(auto, using(plant_store_statements::proofs::public::Meanings::office_row_plain, plant_store_statements::proofs::public::ReadsOnly::reads_plain))]
 fn has_its_row<S: Alter>(
     conn: &mut Connection<S>,
     schema: u32,
@@ -86,7 +86,7 @@ fn has_its_row<S: Alter>(
         → IfOk result (λ is. IsTrue is ↔ IsOffice schema admin.now (state S.Store conn.old).now) }
     ensures reads { IsOnlyRead S.Store conn.old conn.new }
 {
-    let rows = ask(conn, texts::OFFICE_ROW, &[])?;
+    let rows = ask(conn, texts::SELECT_OFFICE, &[])?;
     Ok(is_office_row(rows.as_slice(), schema, admin))
 }
 

@@ -6,15 +6,15 @@ ghost use Rattle.sqlite_value.specs.{Order.{column}, declared.value.Value.TheVar
 ghost use Rattle.plant_books.specs.Contents.{mine_shelves as shelves_held};
 ghost use Rattle.plant_store.specs.Mine.{as_mine, line_cmp, repeats, shelf_line_cells};
 ghost use Rattle.plant_store.specs.Mine.{own_shelf_lines, standing_shelves};
-ghost use Rattle.plant_statements.specs.Reading.{HasNoTransaction, IsOnlyRead, ReadsContent};
+ghost use Rattle.plant_store_statements.specs.Reading.{HasNoTransaction, IsOnlyRead, ReadsContent};
 
 use crate::texts;
 use plant_books::MineRow;
-use plant_columns::decode::{Shown, coded, flag, moment, open_moment, text, wide};
-use plant_columns::encode::single;
 use plant_model::{ShelfRow, is_before};
-use plant_statements::memory::push;
-use plant_statements::read::read_rows;
+use plant_store_columns::decode::{Shown, coded, flag, moment, open_moment, text, wide};
+use plant_store_columns::encode::single;
+use plant_store_statements::memory::push;
+use plant_store_statements::read::read_rows;
 use plant_types::{List, Moment, Person, Role, Tag, UnitCode, Words};
 use sqlite::{Alter, Connection, Error, Row};
 use std::alloc::Global;
@@ -22,7 +22,7 @@ use std::cmp::Ordering;
 
 /// A shelf with a grant of the person in its unit, and with the moment at which its alarm last returned to normal.
 #[derive(Drop)]
-pub struct ShelfLine {
+pub struct ShelfGrant {
     pub unit: UnitCode,
     pub role_no: Role,
     pub end_s: Option<Moment>,
@@ -45,12 +45,12 @@ fn texts_of_line(alloc: Global, row: &Row) -> Result<(UnitCode, Tag, Person, Wor
     ))
 }
 
-impl Shown for ShelfLine {
+impl Shown for ShelfGrant {
     ghost width = { 10 };
 
     ghost cells = { shelf_line_cells };
 
-    fn from_row(alloc: Global, row: &Row) -> Result<ShelfLine, Error> {
+    fn from_row(alloc: Global, row: &Row) -> Result<ShelfGrant, Error> {
         // The texts are read last: after an error the values read so far must be dropped, and numbers need no drop.
         let role_no = coded(row, 1)?;
         let end_s = open_moment(row, 2)?;
@@ -59,7 +59,7 @@ impl Shown for ShelfLine {
         let until_s = wide(row, 6)?;
         let last_return = open_moment(row, 9)?;
         let (unit, tag, person, words) = texts_of_line(alloc, row)?;
-        Ok(ShelfLine {
+        Ok(ShelfGrant {
             unit,
             role_no,
             end_s,
@@ -77,7 +77,7 @@ impl Shown for ShelfLine {
 }
 
 /// Compares two lines by unit, then by role, then by tag.
-fn compare_lines(a: &ShelfLine, b: &ShelfLine) -> Ordering
+fn compare_lines(a: &ShelfGrant, b: &ShelfGrant) -> Ordering
     ensures { result ≡ line_cmp a.now b.now }
 {
     a.unit
@@ -88,33 +88,38 @@ fn compare_lines(a: &ShelfLine, b: &ShelfLine) -> Ordering
 
 /// The shelves of the units in which the person has grants, each shelf once for each of these grants, ordered by unit,
 /// role and tag. The query usually returns them in this order already, and the sort then only compares.
-#[tactic(auto, using(crate::proofs::JoinMeanings::shelf_lines, plant_statements::proofs::public::ReadsOnly::reads_plain))]
+#[tactic(auto, using(crate::proofs::JoinMeanings::shelf_lines, plant_store_statements::proofs::public::ReadsOnly::reads_plain))]
 fn shelf_lines<S: Alter>(
     alloc: Global,
     conn: &mut Connection<S>,
     person: &Person,
-) -> Result<List<ShelfLine>, Error>
+) -> Result<List<ShelfGrant>, Error>
     requires { HasNoTransaction conn.old }
     ensures mode { HasNoTransaction conn.new }
     ensures found { ReadsContent S.Store conn.old conn.new result
         (λ m. own_shelf_lines m person.now) }
     ensures reads { IsOnlyRead S.Store conn.old conn.new }
 {
-    let found: List<ShelfLine> = read_rows(alloc, conn, texts::SHELF_LINES, &single(person))?;
+    let found: List<ShelfGrant> = read_rows(
+        alloc,
+        conn,
+        texts::SELECT_SHELF_LINES,
+        &single(person),
+    )?;
     let mut lines = found.into_vec();
     lines.sort_by(|a, b| compare_lines(a, b))?;
     Ok(List::from_vec(lines))
 }
 
 /// Whether the line belongs to another grant than the last one, in the same unit.
-fn is_repeated(line: &ShelfLine, last: &ShelfLine) -> bool
+fn is_repeated(line: &ShelfGrant, last: &ShelfGrant) -> bool
     ensures { result ≡ repeats line.now last.now }
 {
     last.unit == line.unit && !last.role_no.is(line.role_no)
 }
 
 /// The lines of one grant in each unit: the first that has not ended.
-fn merge(lines: List<ShelfLine>, now: Moment) -> List<ShelfLine>
+fn merge(lines: List<ShelfGrant>, now: Moment) -> List<ShelfGrant>
     ensures { result ≡ dedup repeats (standing_shelves now lines) }
 {
     let mut lines = lines.into_vec();
@@ -124,7 +129,7 @@ fn merge(lines: List<ShelfLine>, now: Moment) -> List<ShelfLine>
 }
 
 /// The shelves of the lines, each with the moment at which its alarm last returned to normal.
-fn mine_rows(alloc: Global, lines: List<ShelfLine>) -> Result<List<MineRow>, Error>
+fn mine_rows(alloc: Global, lines: List<ShelfGrant>) -> Result<List<MineRow>, Error>
     ensures { IfOk result (λ mine. mine ≡ map as_mine lines) }
 {
     let mut mine = List::new(alloc);

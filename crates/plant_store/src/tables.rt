@@ -3,13 +3,13 @@
 ghost use Rattle.std.specs.Prelude.{◌≡◌, ◌≢◌, ◌↔◌, ℕ, false, IsTrue, IsErrAnd, IfOk, IfErr, OnOk};
 ghost use Rattle.sqlite.specs.{Held.{state}, State.{HasCleanDisk, Survives}};
 ghost use Rattle.plant_books.specs.{Books.{WasHonest}, Contents.{Content, no_units}, Counting.{Counts}};
-ghost use Rattle.plant_statements.specs.{Changes.{IsHonest}, Keeping.{LeavesAlike, LeavesBooks, LeavesContent, Represents}};
+ghost use Rattle.plant_store_statements.specs.{Changes.{IsHonest}, Keeping.{LeavesAlike, LeavesBooks, LeavesContent, Represents}};
 ghost use Rattle.plant_store.specs.Counting.{Names, SaysAgain};
-ghost use Rattle.plant_statements.specs.Making.{AreNewTrees};
+ghost use Rattle.plant_store_statements.specs.Making.{AreNewTrees};
 ghost use Rattle.plant_store.specs.Opened.{HasNoOffice, IsAnothers, KeepsAll, KeepsIfErr, KeepsIfOk, WasOffice};
-ghost use Rattle.plant_statements.specs.{Reading.{HasNoTransaction, IsHonestIn, IsOnlyRead}, Writing.{SameDatabase}};
+ghost use Rattle.plant_store_statements.specs.{Reading.{HasNoTransaction, IsHonestIn, IsOnlyRead}, Writing.{SameDatabase}};
 ghost use Rattle.plant_store.specs.declared.tables.StoreFault.TheVariants.{NotThisStore};
-ghost use Rattle.plant_columns.specs.Tables.{no_schema, schema_no};
+ghost use Rattle.plant_store_columns.specs.Tables.{no_schema, schema_no};
 ghost use Rattle.plant_types.specs.declared.fault.Fault.TheVariants.{Store};
 
 use crate::opening::is_office_of;
@@ -17,9 +17,9 @@ use crate::{mine, shelves};
 use plant_alarm::Event;
 use plant_books::{Books, MineRow, MineUnit, count_after};
 use plant_model::{Call, Changes, UnitPart, UnitRows};
-use plant_parts::{part, unit};
-use plant_statements::make::make_all;
-use plant_statements::write;
+use plant_store_reads::{part, unit};
+use plant_store_statements::make::make_all;
+use plant_store_statements::write;
 use plant_types::{Fault, List, Moment, Person, Sorted, UnitCode};
 use sqlite::{Alter, Connection, Error as SqlError, ErrorCode};
 use sqlite_schema::schema::Schema;
@@ -121,7 +121,7 @@ pub struct Tables<S: Alter> {
 impl<S: Alter> Model for Tables<S> {
     ghost use Rattle.std.specs.{Coded.{coded×, coded_ℕ, coded_list}, Prelude.{IsTrue, ℕ, List}};
     ghost use Rattle.sqlite.specs.Held.{Held, held_code, state};
-    ghost use Rattle.plant_statements.specs.{Changes.{IsHonest}, Reading.{HasNoTransaction}};
+    ghost use Rattle.plant_store_statements.specs.{Changes.{IsHonest}, Reading.{HasNoTransaction}};
 
     ghost Value = { (Held S × List ℕ) × ℕ };
 
@@ -175,7 +175,7 @@ impl<S: Alter> Tables<S> {
     /// Opens a database that `create` made for this administrator. Refused as `NotThisStore` if the office's table or a
     /// column of it is missing, or if it does not have one row, with this schema and this administrator. The database
     /// is only read, whatever it holds.
-    #[tactic(auto, using(plant_statements::proofs::public::ReadsOnly::keeps_read))]
+    #[tactic(auto, using(plant_store_statements::proofs::public::ReadsOnly::keeps_read))]
     pub fn open(
         alloc: Global,
         mut conn: Connection<S>,
@@ -244,7 +244,7 @@ impl<S: Alter> Tables<S> {
     }
 }
 
-#[tactic(auto, using(plant_statements::proofs::public::ReadsOnly::keeps_read))]
+#[tactic(auto, using(plant_store_statements::proofs::public::ReadsOnly::keeps_read))]
 impl<S: Alter> Books for Tables<S> {
     ghost is_honest = { λ t. IsHonest (state S.Store t.0.0) };
 

@@ -46,5 +46,5 @@ abbrev pub max_reads : ℕ
 max_reads = 1000000
 
 -- the cached rows, of all units together
-abbrev pub max_rows_at_hand : ℕ
-max_rows_at_hand = 2000000
+abbrev pub max_cached_rows : ℕ
+max_cached_rows = 2000000

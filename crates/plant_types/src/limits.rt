@@ -34,4 +34,4 @@ pub const MAX_BODY: usize = 1_048_576;
 pub const MAX_READS: u32 = 1_000_000;
 
 /// The most cached rows, of all units together.
-pub const MAX_ROWS_AT_HAND: u128 = 2_000_000;
+pub const MAX_CACHED_ROWS: u128 = 2_000_000;

@@ -2,8 +2,8 @@
 use Rattle.std.{specs.Io.KnownBytes.{Appends}, proofs.{KnownBytes.{Appends-nil, Appends-trans}, lemmas.{Grind.{flat_map-append}, List.{map-append, Elements.{filter_map-append}}}}}
 use Rattle.std.proofs.Common.{◌≡◌, ℕ, ◌+◌, List, [], ◌∷◌, ◌++◌, take, drop, map, Option, refl, sym, ap, subst, ◌∙◌, append_assoc, append-nil, Result, Ok, Err, IfErr}
 use Rattle.plant_model.specs.declared.{call.Call.{Call}, reply.Answer.{Answer}}
-use Rattle.plant_answer.specs.Answers.{answer_bytes}
-use Rattle.plant_call.specs.{Cut.{WaitsBelow}, Front.{Item, waits, whole, broken, StandsAtFront, Parsed}, declared.causes.Cause.{Cause}}
+use Rattle.plant_wire_answer.specs.Answers.{answer_bytes}
+use Rattle.plant_wire_call.specs.{Cut.{WaitsBelow}, Front.{Item, waits, whole, broken, StandsAtFront, Parsed}, declared.causes.Cause.{Cause}}
 use Rattle.plant_wire.specs.Causes.{cause_text}
 use Rattle.plant_wire.specs.Marks.{Mark, said, marked_item, mark_text, out_of, call_in, calls_of, marked_answer, answers_of, Last, nothing, begun, breaking, last_text, last_marks, IsSaid, IsFaultless}
 use Rattle.plant_wire.specs.{Step.{AnswersBroken, AnswersFront, AnswersOne, AnswersPart, IsAnswer, IsPut, IsStopped, IsUnfinished, ServesBroken, StopsFor}, declared.step.Stop.{Stop}}

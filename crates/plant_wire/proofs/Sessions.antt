@@ -2,7 +2,7 @@
 use Rattle.std.{specs.Io.KnownBytes.{Consumes, IsAtEnd}, proofs.KnownBytes.{Consumes-nil, Consumes-trans}}
 use Rattle.std.proofs.Common.{◌≡◌, ◌⊎◌, ◌<◌, ℕ, List, [], ◌∷◌, ◌++◌, length, drop, map, Bool, false, ◌==◌, Option, refl, sym, ap, subst, inl, inr, append-nil, arith, IsTrue}
 use Rattle.plant_model.specs.declared.{call.Call.{Call}, reply.Answer.{Answer}}
-use Rattle.plant_call.{specs.Front.{waits, body_length, item_of, StandsAtFront}, proofs.public.Cuts.{Parses-append}}
+use Rattle.plant_wire_call.{specs.Front.{waits, body_length, item_of, StandsAtFront}, proofs.public.Cuts.{Parses-append}}
 use Rattle.plant_wire.specs.{Marks.{marked_item}, Session.{IsIdle, IsCutShort}, Step.{IsStopped, AnswersFront, ServesBroken}, declared.step.Stop.{Stop}}
 use Rattle.plant_wire.specs.declared.step.Stop.TheVariants.{Fault}
 use Rattle.plant_wire.proofs.Serving.{serves_none, serves_more, serves_then_broken, serves_then_part, serves_part}

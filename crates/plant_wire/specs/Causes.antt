@@ -1,8 +1,8 @@
 -- The answer to a malformed request.
 use Rattle.std.specs.Prelude.{ℕ, List, ◌++◌, codes, decimal}
-use Rattle.plant_answer.specs.{Json.{quoted}, Response.{response}, declared.responses.Media.TheVariants.{Json}}
-use Rattle.plant_call.specs.declared.causes.Cause.{Cause}
-use Rattle.plant_call.specs.declared.causes.Cause.TheVariants.{HeadSyntax, HeadTooLong, LengthWrong, BodyTooLong, Chunked, NoRoute, BadPerson, BadMoment, BadPath, BadBody, MatrixShape, BandsNotRising, NotOrdered}
+use Rattle.plant_wire_answer.specs.{Json.{quoted}, Response.{response}, declared.responses.Media.TheVariants.{Json}}
+use Rattle.plant_wire_call.specs.declared.causes.Cause.{Cause}
+use Rattle.plant_wire_call.specs.declared.causes.Cause.TheVariants.{HeadSyntax, HeadTooLong, LengthWrong, BodyTooLong, Chunked, NoRoute, BadPerson, BadMoment, BadPath, BadBody, MatrixShape, BandsNotRising, NotOrdered}
 
 -- its name in the answer
 abbrev pub cause_name : Cause → List ℕ

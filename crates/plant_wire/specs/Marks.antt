@@ -1,8 +1,8 @@
 -- What is written for a list of requests.
 use Rattle.std.specs.Prelude.{ℕ, List, None, Option, Some, [], filter_map, flat_map, ◌∷◌}
 use Rattle.plant_model.specs.declared.{call.Call.{Call}, reply.Answer.{Answer}}
-use Rattle.plant_answer.specs.Answers.{answer_bytes}
-use Rattle.plant_call.specs.{Front.{Item, asked, bad}, declared.causes.Cause.{Cause}}
+use Rattle.plant_wire_answer.specs.Answers.{answer_bytes}
+use Rattle.plant_wire_call.specs.{Front.{Item, asked, bad}, declared.causes.Cause.{Cause}}
 use Rattle.plant_wire.specs.Causes.{cause_text}
 use Rattle.plant_model.specs.declared.reply.Answer.TheVariants as answer
 

@@ -4,7 +4,7 @@
 use Rattle.std.specs.{Io.KnownBytes.{Consumes, IsAtEnd}, Prelude.{◌≡◌, ◌⊎◌, ◌<◌, ◌≤◌, ◌+◌, ℕ, List, [], ◌++◌, length, Bool, IsTrue, Option}}
 use Rattle.plant_types.specs.Limits.{max_reads}
 use Rattle.plant_model.specs.declared.{call.Call.{Call}, reply.Answer.{Answer}}
-use Rattle.plant_call.specs.Front.{waits, StandsAtFront}
+use Rattle.plant_wire_call.specs.Front.{waits, StandsAtFront}
 use Rattle.plant_wire.specs.{Marks.{IsFaultless}, Step.{AnswersFront, ServesBroken, ServesPart}, declared.reads.End.{End}}
 use Rattle.plant_wire.specs.declared.reads.{End.TheVariants.{Closed, BrokenInput, ReadFailed, WriteFailed, Fault}, Read.{Read}}
 use Rattle.plant_wire.specs.declared.reads.Read.TheVariants as read

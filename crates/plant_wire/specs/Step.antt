@@ -2,8 +2,8 @@
 -- after; `ran` says what the office did.
 use Rattle.std.specs.{Io.KnownBytes.{Appends}, Prelude.{◌≡◌, ◌<◌, ◌≤◌, ℕ, List, [], ◌∷◌, ◌++◌, length, take, drop, map, Option, Result, Ok, Err}}
 use Rattle.plant_model.specs.declared.{call.Call.{Call}, reply.Answer.{Answer}}
-use Rattle.plant_answer.specs.Answers.{answer_bytes}
-use Rattle.plant_call.specs.{Cut.{WaitsBelow}, Front.{waits, whole, broken, StandsAtFront, Parsed}, declared.causes.Cause.{Cause}}
+use Rattle.plant_wire_answer.specs.Answers.{answer_bytes}
+use Rattle.plant_wire_call.specs.{Cut.{WaitsBelow}, Front.{waits, whole, broken, StandsAtFront, Parsed}, declared.causes.Cause.{Cause}}
 use Rattle.plant_wire.specs.Causes.{cause_text}
 use Rattle.plant_wire.specs.Marks.{Mark, said, marked_item, mark_text, out_of, calls_of, answers_of, Last, nothing, begun, breaking, last_text, last_marks, IsFaultless}
 use Rattle.plant_wire.specs.declared.step.{Rest.{Rest}, Step.{Step, TheVariants.{Waits, Took, Broken}}, Stop.{Stop, TheVariants.{WriteFailed, Fault}}}

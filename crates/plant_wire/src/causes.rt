@@ -4,8 +4,8 @@ ghost use Rattle.std.specs.Prelude.{◌≡◌, IfOk};
 ghost use Rattle.plant_types.specs.Results.{OnlyMemory};
 ghost use Rattle.plant_wire.specs.Causes as spec;
 
-use plant_call::Cause;
 use plant_types::Fault;
+use plant_wire_call::Cause;
 use std::alloc::Global;
 
 /// The bytes of the answer to a malformed request, in a new vector.

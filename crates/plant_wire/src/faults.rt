@@ -2,7 +2,7 @@
 //! none.
 
 ghost use Rattle.std.specs.Prelude.{◌≡◌};
-ghost use Rattle.plant_answer.specs.Answers.{answer_bytes};
+ghost use Rattle.plant_wire_answer.specs.Answers.{answer_bytes};
 ghost use Rattle.plant_model.specs.declared.reply.Answer.TheVariants as answers;
 
 use plant_types::Fault;

@@ -10,8 +10,10 @@ mod step;
 mod streams;
 
 pub use causes::render_cause;
-pub use plant_answer::render;
-pub use plant_call::{Cause, Cut, cuts_agree, next_call, next_call_with, one_reading, one_stream};
+pub use plant_wire_answer::render;
+pub use plant_wire_call::{
+    Cause, Cut, cuts_agree, next_call, next_call_with, one_reading, one_stream,
+};
 pub use put::bytes_from;
 pub use reads::{End, session};
 pub use std_streams::{FromRead, ToWrite};

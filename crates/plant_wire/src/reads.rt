@@ -8,10 +8,10 @@ ghost use Rattle.plant_wire.specs.{Limits.{least_room}, Over.{IsSessionOn, RanOn
 use crate::put::bytes_from;
 use crate::step::{Rest, Stop, answer_all};
 use crate::streams::{Inlet, Outlet};
-use plant_head::FieldRoom;
 use plant_office::{Books, Office};
-use plant_route::Routes;
 use plant_types::limits::MAX_READS;
+use plant_wire_head::FieldRoom;
+use plant_wire_route::Routes;
 use std::alloc::{AllocError, Global};
 
 /// How a session ended.

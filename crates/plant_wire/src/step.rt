@@ -3,8 +3,8 @@
 
 ghost use Rattle.std.specs.Prelude.{◌≡◌, IfErr, List, ℕ};
 ghost use Rattle.plant_books.specs.Books.{WasHonest};
-ghost use Rattle.plant_answer.specs.Answers.{answer_bytes};
-ghost use Rattle.plant_call.specs.Cut.{IsCutOf, WaitsBelow};
+ghost use Rattle.plant_wire_answer.specs.Answers.{answer_bytes};
+ghost use Rattle.plant_wire_call.specs.Cut.{IsCutOf, WaitsBelow};
 ghost use Rattle.plant_wire.specs.{Marks.{begun, said}, Over.{RanOn}, Step.{IsAnswer, IsPut, IsRest, IsStep, Stalls, StopsFor}};
 ghost use Rattle.plant_model.specs.declared.call.Call.{Call};
 ghost use Rattle.plant_model.specs.declared.reply.Answer.TheVariants as answers;
@@ -14,13 +14,13 @@ use crate::causes::cause_text;
 use crate::faults::fault_text;
 use crate::put::{bytes_from, put_all};
 use crate::streams::Outlet;
-use plant_answer::render;
-use plant_call::{Cause, Cut, Look, look_with};
-use plant_head::FieldRoom;
 use plant_model::{Answer, Call};
 use plant_office::{Books, Office};
-use plant_route::Routes;
 use plant_types::Fault;
+use plant_wire_answer::render;
+use plant_wire_call::{Cause, Cut, Look, look_with};
+use plant_wire_head::FieldRoom;
+use plant_wire_route::Routes;
 use std::alloc::Global;
 
 /// What stood at the front: an incomplete request, which stays so with fewer bytes than this number (`Waits`); a

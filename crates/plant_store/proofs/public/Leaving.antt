@@ -5,10 +5,10 @@ use Rattle.std.proofs.lemmas.Bool.{cases_Bool}
 use Rattle.sqlite.specs.{Effect.{Database, IsDatabase}, Held.{Held, state}, State.{HasCleanDisk, IsLive, State, Survives}, Tree.{Trees}}
 use Rattle.sqlite_trees.specs.declared.store.Store.{Ghosts}
 use Rattle.plant_books.specs.{Contents.{Content, IsKnownTo, after_changes, rows_in}, Crashes.{Alike, IsSettled, LosesNoPart, LosesNothing}}
-use Rattle.plant_columns.specs.{Tables.{office_row, rows_of_table, rows_seen}, declared.tables.TableKind.{TableKind, TheVariants.{Units, Grants, Alarms, Shelves, Bands, Cells, Events, Records, Changes}}}
+use Rattle.plant_store_columns.specs.{Tables.{office_row, rows_of_table, rows_seen}, declared.tables.TableKind.{TableKind, TheVariants.{Units, Grants, Alarms, Shelves, Bands, Cells, Events, Records, Changes}}}
 use Rattle.plant_model.specs.declared.rows.{RowEdit.{RowEdit}, UnitRows.{UnitRows}}
-use Rattle.plant_statements.specs.{Changes.{Applies, IsHonest}, Keeping.{HasContent, HaveRows, LeavesAlike, LeavesBooks, LeavesContent, Represents, has_any}, Writing.{AreChangedHonestly}}
-use Rattle.plant_statements.proofs.public.Contents.{keeps_after, kept_rows, never_opened}
+use Rattle.plant_store_statements.specs.{Changes.{Applies, IsHonest}, Keeping.{HasContent, HaveRows, LeavesAlike, LeavesBooks, LeavesContent, Represents, has_any}, Writing.{AreChangedHonestly}}
+use Rattle.plant_store_statements.proofs.public.Contents.{keeps_after, kept_rows, never_opened}
 use Rattle.plant_store.proofs.public.Databases.{same_database}
 use Rattle.plant_types.specs.Names.{Name}
 

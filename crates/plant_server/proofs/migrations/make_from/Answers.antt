@@ -1,7 +1,7 @@
 use Rattle.std.proofs.Common.{inl, inr, arith, sym, subst, ◌∙◌, rules}
 use Rattle.sqlite.specs.{Files.{file_state}, State.{HasCleanDisk}}
 use Rattle.sqlite_wal.specs.Files.{image_at}
-use Rattle.plant_migration.specs.Upgrading.{HaveOldRows}
+use Rattle.plant_store_migration.specs.Upgrading.{HaveOldRows}
 use Rattle.plant_server.proofs.{FilesLeft.{if_ok}, Opened.{same_now}}
 use Rattle.plant_server.proofs.migrations.make_from.Goals as goal
 

@@ -1,7 +1,7 @@
 use Rattle.std.proofs.Common.{rules, sym, subst}
 use Rattle.sqlite.{specs.{Held.{state}}, proofs.StateLemmas.{survives_weaker}}
-use Rattle.plant_migration.specs.{TakingOver.{AreTaken}, Upgrading.{HaveOldRows}}
-use Rattle.plant_statements.proofs.public.{Crashes.{survives_unmade}, ReadsOnly.{reads_then}}
+use Rattle.plant_store_migration.specs.{TakingOver.{AreTaken}, Upgrading.{HaveOldRows}}
+use Rattle.plant_store_statements.proofs.public.{Crashes.{survives_unmade}, ReadsOnly.{reads_then}}
 use Rattle.plant_store.proofs.migration.migrate.Goals.{in-Ok-true+in-Err-take_into_blank, in-Ok-false, in-Err}
 use Rattle.plant_store.proofs.migration.migrate.Goals as goal
 

@@ -1,5 +1,5 @@
 use Rattle.std.proofs.Common.{◌≡◌, rules}
-use Rattle.plant_columns.specs.Tables.{no_schema}
+use Rattle.plant_store_columns.specs.Tables.{no_schema}
 use Rattle.plant_store.proofs.migration.take_into_blank.Goals as goal
 
 pub returns-in-Ok-clause-taken : goal.returns-in-Ok-clause-taken

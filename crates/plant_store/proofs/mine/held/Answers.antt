@@ -2,9 +2,9 @@ use Rattle.std.proofs.Common.{subst}
 use Rattle.sqlite.specs.Held.{state}
 use Rattle.plant_store.specs.Mine.{AreCodes}
 use Rattle.plant_store.proofs.Holdings.{codes_found, holdings_read}
-use Rattle.plant_statements.proofs.public.Queries.{if_ok}
-use Rattle.plant_statements.proofs.public.ReadsOnly.{reads_plain}
-use Rattle.plant_statements.proofs.public.Meanings.{holdings}
+use Rattle.plant_store_statements.proofs.public.Queries.{if_ok}
+use Rattle.plant_store_statements.proofs.public.ReadsOnly.{reads_plain}
+use Rattle.plant_store_statements.proofs.public.Meanings.{holdings}
 use Rattle.plant_store.proofs.mine.held.Goals as goal
 
 pub returns-clause-found : goal.returns-clause-found

@@ -1,7 +1,7 @@
 use Rattle.std.proofs.Common.{◌∙◌, ap}
 use Rattle.sqlite.specs.Held.{state}
 use Rattle.plant_store.{specs.Mine.{runs_of, standing_units}, proofs.MineLines.{units_found}}
-use Rattle.plant_statements.proofs.public.Queries.{if_ok}
+use Rattle.plant_store_statements.proofs.public.Queries.{if_ok}
 use Rattle.plant_store.proofs.mine.mine_units.Goals as goal
 
 pub returns-clause-found : goal.returns-clause-found

@@ -1,5 +1,5 @@
 use Rattle.sqlite.specs.Held.{state}
-use Rattle.plant_statements.proofs.public.{Queries.{if_ok}, ReadsOnly.{reads_plain}}
+use Rattle.plant_store_statements.proofs.public.{Queries.{if_ok}, ReadsOnly.{reads_plain}}
 use Rattle.plant_store.proofs.{JoinMeanings.{unit_lines}, JoinedLines.{units_read}}
 use Rattle.plant_store.proofs.mine.unit_lines.Goals as goal
 

@@ -1,7 +1,7 @@
 use Rattle.sqlite.specs.Held.{state}
 use Rattle.plant_store.proofs.OfficeRow.{office_there, office_told}
-use Rattle.plant_statements.proofs.public.ReadsOnly.{reads_plain}
-use Rattle.plant_statements.proofs.public.Meanings.{office_row_plain}
+use Rattle.plant_store_statements.proofs.public.ReadsOnly.{reads_plain}
+use Rattle.plant_store_statements.proofs.public.Meanings.{office_row_plain}
 use Rattle.plant_store.proofs.opening.has_its_row.Goals as goal
 
 pub returns-clause-row : goal.returns-clause-row

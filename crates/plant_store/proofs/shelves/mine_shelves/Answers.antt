@@ -3,7 +3,7 @@ use Rattle.std.specs.List.{dedup}
 use Rattle.sqlite.specs.Held.{state}
 use Rattle.plant_store.specs.Mine.{as_mine, repeats, standing_shelves}
 use Rattle.plant_store.proofs.MineLines.{shelves_found}
-use Rattle.plant_statements.proofs.public.Queries.{if_ok}
+use Rattle.plant_store_statements.proofs.public.Queries.{if_ok}
 use Rattle.plant_store.proofs.shelves.mine_shelves.Goals as goal
 
 pub returns-clause-found : goal.returns-clause-found

@@ -1,5 +1,5 @@
 use Rattle.std.{specs.Fmt.{digits}, proofs.Common.{refl}}
-use Rattle.plant_answer.specs.{Json.{quoted}, Response.{response, status_line}}
+use Rattle.plant_wire_answer.specs.{Json.{quoted}, Response.{response, status_line}}
 use Rattle.plant_wire.specs.Causes.{cause_body, cause_text}
 use Rattle.plant_wire.proofs.causes.cause_text.Goals as goal
 

@@ -1,5 +1,5 @@
 use Rattle.std.proofs.Common.{[], ◌∙◌, ap, sym, drop, refl, arith, inl}
-use Rattle.plant_call.proofs.public.Waiting.{waits_left, waits_more, waits_none}
+use Rattle.plant_wire_call.proofs.public.Waiting.{waits_left, waits_more, waits_none}
 use Rattle.plant_wire.specs.{Ran.{Ran}, declared.step.Stop.TheVariants.{Fault}}
 use Rattle.plant_wire.proofs.Sessions.{stands_start, ends_cut, ends_failed, ends_fault, ends_part, ends_broken, ends_drop_fault, stands_next, some_left}
 use Rattle.plant_wire.proofs.public.Running.{ran_none, ran_joins}

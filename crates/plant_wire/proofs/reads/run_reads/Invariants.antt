@@ -1,5 +1,5 @@
 use Rattle.std.proofs.Common.{◌≡◌, ◌+◌}
-use Rattle.plant_call.specs.Cut.{WaitsBelow}
+use Rattle.plant_wire_call.specs.Cut.{WaitsBelow}
 use Rattle.plant_wire.{specs.Ran.{Ran}, proofs.Sessions.{Stands}}
 use Rattle.plant_office.specs.Enduring.{books_state}
 use Rattle.plant_wire.proofs.reads.run_reads.Given as goal

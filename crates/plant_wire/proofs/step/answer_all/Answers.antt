@@ -1,5 +1,5 @@
 use Rattle.std.proofs.Common.{arith, refl, ◌∙◌}
-use Rattle.plant_call.proofs.public.Waiting.{waits_now}
+use Rattle.plant_wire_call.proofs.public.Waiting.{waits_now}
 use Rattle.plant_wire.proofs.{Serving.{serves_none, waits_from, broken_from, part_from, one_from}, public.Running.{ran_none, ran_joins}}
 use Rattle.plant_office.specs.Enduring.{books_state}
 use Rattle.plant_wire.proofs.step.answer_all.Goals as goal

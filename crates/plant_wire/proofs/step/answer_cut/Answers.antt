@@ -1,5 +1,5 @@
 use Rattle.std.proofs.KnownBytes.{Appends-nil}
-use Rattle.plant_call.{specs.Front.{body_length, item_of}, proofs.public.Cuts.{whole_fits}}
+use Rattle.plant_wire_call.{specs.Front.{body_length, item_of}, proofs.public.Cuts.{whole_fits}}
 use Rattle.plant_wire.specs.Marks.{said, malformed, begun}
 use Rattle.plant_wire.proofs.{Serving.{part_none, part_one, part_broken, stops_for}, public.Running.{ran_none}}
 use Rattle.plant_office.specs.Enduring.{books_state}

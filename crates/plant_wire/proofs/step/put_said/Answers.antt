@@ -1,5 +1,5 @@
 use Rattle.std.proofs.Common.{sym, subst}
-use Rattle.plant_answer.specs.Answers.{answer_bytes}
+use Rattle.plant_wire_answer.specs.Answers.{answer_bytes}
 use Rattle.plant_wire.{specs.{Marks.{said, begun}, Step.{IsPut}}, proofs.Serving.{said_unless, stops_faultless, stops_writing}}
 use Rattle.plant_wire.proofs.step.put_said.Goals as goal
 

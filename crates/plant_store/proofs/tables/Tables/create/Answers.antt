@@ -1,7 +1,7 @@
 use Rattle.std.proofs.Common.{◌≡◌, rules}
 use Rattle.sqlite.specs.Held.{state}
-use Rattle.plant_columns.specs.Tables.{no_schema}
-use Rattle.plant_statements.proofs.public.Contents.{keeps_new}
+use Rattle.plant_store_columns.specs.Tables.{no_schema}
+use Rattle.plant_store_statements.proofs.public.Contents.{keeps_new}
 use Rattle.plant_store.proofs.tables.Tables.create.Goals as goal
 
 pub returns-in-Ok-clause-made : goal.returns-in-Ok-clause-made

@@ -1,10 +1,10 @@
 use Rattle.std.proofs.Common.{OnOk, Ok, Err, Result}
 use Rattle.sqlite.{specs.Held.{state}, proofs.StateLemmas.{survives_then}}
 use Rattle.plant_books.specs.Contents.{after_changes}
-use Rattle.plant_columns.specs.Tables.{AreBooks}
-use Rattle.plant_statements.specs.{Changes.{IsHonest}, Writing.{AreChangedHonestly}}
+use Rattle.plant_store_columns.specs.Tables.{AreBooks}
+use Rattle.plant_store_statements.specs.{Changes.{IsHonest}, Writing.{AreChangedHonestly}}
 use Rattle.plant_store.proofs.{SaidAgain.{again_left, again_made, both_ok}, public.Leaving.{loses_no_part}}
-use Rattle.plant_statements.proofs.public.Contents.{keeps_after, keeps_same}
+use Rattle.plant_store_statements.proofs.public.Contents.{keeps_after, keeps_same}
 use Rattle.plant_store.proofs.tables.TablesBooks.apply.Goals as goal
 
 pub returns-clause-made : goal.returns-clause-made

@@ -1,4 +1,4 @@
-use Rattle.plant_statements.proofs.public.ReadsOnly.{reads_then}
+use Rattle.plant_store_statements.proofs.public.ReadsOnly.{reads_then}
 use Rattle.plant_store.proofs.{SaidAgain.{again_ok}, public.Leaving.{loses_nothing}}
 use Rattle.plant_store.proofs.tables.TablesBooks.mine_units.Goals as goal
 

@@ -1,6 +1,0 @@
-use Rattle.std.proofs.lemmas.Simd.{map-map}
-use Rattle.plant_answer.specs.Changes.{row_list}
-use Rattle.plant_answer.proofs.changes.push_rows.Goals as goal
-
-pub returns-clause-value : goal.returns-clause-value
-returns-clause-value c = rw (map-map row_list (λ row. row.items) c.args.rows.now) c.push_listed.ensures.value

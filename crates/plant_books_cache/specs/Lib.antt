@@ -1,0 +1,2 @@
+pub mod Cache
+pub mod Leaves

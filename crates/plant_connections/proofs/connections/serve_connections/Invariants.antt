@@ -1,7 +1,0 @@
-use Rattle.plant_connections.proofs.Serving.{ServedSoFar, state_of}
-use Rattle.plant_connections.proofs.connections.serve_connections.Given as goal
-
-abbrev pub invariant-connections : goal.invariant-connections
-invariant-connections g l =
-    ServedSoFar g.B.Books l.fn.office.books l.office.books (g.W.Write.contents l.fn.log) (g.W.Write.contents l.log)
-    (state_of g.L.Listener l.fn.listener) (state_of g.L.Listener l.listener) l.count

@@ -1,6 +1,0 @@
-use Rattle.plant_columns.specs.declared.tables.TableKind.TheVariants.{Grants}
-use Rattle.plant_migration.proofs.OldQueries.{old_read}
-use Rattle.plant_migration.proofs.old_rows.OldGrantRowOldRow.old_select.Goals as goal
-
-pub returns : goal.returns
-returns c = old_read Grants

@@ -1,6 +1,0 @@
-use Rattle.plant_columns.specs.declared.tables.TableKind.TheVariants.{Shelves}
-use Rattle.plant_migration.proofs.OldQueries.{old_read}
-use Rattle.plant_migration.proofs.old_rows.ShelfRowUnchanged.same_select.Goals as goal
-
-pub returns : goal.returns
-returns c u = rw c.select.ensures.text (old_read Shelves u)

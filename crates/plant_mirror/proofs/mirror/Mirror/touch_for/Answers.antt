@@ -1,5 +1,0 @@
-use Rattle.std.specs.FinMap.{get}
-use Rattle.plant_mirror.proofs.mirror.Mirror.touch_for.Goals as goal
-
-pub returns-then-part-clause-kept : goal.returns-then-part-clause-kept
-returns-then-part-clause-kept g c = λ m h. record { held = h.held; copied = λ honest. c.touch.ensures.kept (get m.units) (h.copied honest) }

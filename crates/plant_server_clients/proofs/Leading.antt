@@ -1,0 +1,261 @@
+-- Events one after another.
+use Rattle.std.proofs.Common.{arith, false, ◌≡◌, ℕ, Bool, List, [], ◌∷◌, ◌++◌, Option, Some, None, inl, inr, refl, sym, ap, subst, ◌∙◌, append_assoc, append-nil}
+use Rattle.std.specs.Prelude.{IfSome}
+use Rattle.std.{proofs.{KnownBytes.{Appends-nil, Appends-trans}, lemmas.Grind.{flat_map-append}}}
+use Rattle.plant_model.specs.declared.{call.Call.{Call}, reply.Answer.{Answer}}
+use Rattle.plant_books.specs.declared.books.Books as books
+use Rattle.plant_office.specs.Enduring.{books_state}
+use Rattle.plant_wire.proofs.public.Running.{ran_none, ran_joins}
+use Rattle.plant_server_clients.specs.Books.{AreQuiet, IsMoment, Makes, MakesEach}
+use Rattle.plant_server_clients.specs.Events.{AreTold, Event, Logs, Seen, Shows, all_answers, all_calls, answers_in, at_ports, calls_in, failed, port_in, reading}
+use Rattle.plant_server_clients.specs.Events.{reported, seen_by, writing}
+use Rattle.plant_server_clients.specs.Stages.{Leads, Moves, Stage, fresh, gone, served, ending, stage_in, stage_of}
+use Rattle.plant_server_clients.specs.Happens.{AreOf, Happened, IsTurnOf, Made, Moved, Passed, Turned, Went}
+use Rattle.plant_server_clients.specs.Faults.{reporting}
+use Rattle.plant_server_clients.{proofs.Due.{due_none, last_then}, specs.Causes.{IsDueTo, last_of}}
+use Rattle.plant_server_clients.specs.declared.{connections.Connection.{Connection}, ports.Ready.{Ready}}
+use Rattle.plant_wire.specs.declared.reads.End.{End, TheVariants.{ReadFailed, WriteFailed}}
+use Rattle.plant_office.specs.declared.office.Faults.{Faults}
+
+pub leads_then : (k : ℕ) (s s' s'' : Stage) (es fs : List Event) → Leads k s es s' → Leads k s' fs s'' → Leads k s (es ++ fs) s''
+leads_then k s s' s'' [] fs is later = subst (λ (t : Stage). Leads k t fs s'') is later
+leads_then k s s' s'' (e ∷ es) fs (mid, goes, rest) later = (mid, goes, leads_then k mid s' s'' es fs rest later)
+
+-- the events of another connection
+pub leads_other : (k j : ℕ) (s : Stage) (es : List Event) → AreOf j es → (j ≡ k → ⊥) → Leads k s es s
+leads_other k j s [] own differ = refl
+leads_other k j s (e ∷ es) (is, own) differ =
+    (s, record { own = λ w. absurd (differ (sym is ∙ w)); other = λ n. refl }, leads_other k j s es own differ)
+
+pub own_then : (k : ℕ) (es fs : List Event) → AreOf k es → AreOf k fs → AreOf k (es ++ fs)
+own_then k [] fs own later = later
+own_then k (e ∷ es) fs (is, own) later = (is, own_then k es fs own later)
+
+pub quiet_then : (es fs : List Event) → AreQuiet es → AreQuiet fs → AreQuiet (es ++ fs)
+quiet_then [] fs quiet later = later
+quiet_then (e ∷ es) fs (calls, answers, quiet) later = (calls, answers, quiet_then es fs quiet later)
+
+pub told_then : (es fs : List Event) (xs ys : List ℕ) → AreTold es xs → AreTold fs ys → AreTold (es ++ fs) (xs ++ ys)
+told_then [] fs xs ys is later = subst (λ (t : List ℕ). AreTold fs (t ++ ys)) (sym is) later
+told_then (e ∷ es) fs xs ys (now, rest, first, told, is) later =
+    (now, rest ++ ys, first, told_then es fs rest ys told later, ap (λ (t : List ℕ). t ++ ys) is ∙ append_assoc now rest ys)
+
+pub logs_none : (a : Option (List Event)) → Logs a a []
+logs_none None = tt
+logs_none (Some x) = sym (append-nil x)
+
+pub logs_then : (a b c : Option (List Event)) (es fs : List Event) → Logs a b es → Logs b c fs → Logs a c (es ++ fs)
+logs_then None b c es fs p q = tt
+logs_then (Some x) None c es fs p q = absurd p
+logs_then (Some x) (Some y) None es fs p q = absurd q
+logs_then (Some x) (Some y) (Some z) es fs p q = q ∙ ap (λ l. l ++ fs) p ∙ append_assoc x es fs
+
+pub logged_then : (a b c : Option (List Event)) (es fs : List Event) → Logs a b (at_ports es) → Logs b c (at_ports fs)
+    → Logs a c (at_ports (es ++ fs))
+logged_then a b c es fs p q =
+    subst (λ (t : List Event). Logs a c t) (sym (flat_map-append port_in es fs)) (logs_then a b c (at_ports es) (at_ports fs) p q)
+
+pub shows_then : (a b c : Seen) (es fs : List Event) → Shows a b es → Shows b c fs → Shows a c (es ++ fs)
+shows_then a b c es fs p q = record {
+  logged = logged_then a.ports b.ports c.ports es fs p.logged q.logged;
+  text = p.text ++ q.text;
+  told = told_then es fs p.text q.text p.told q.told;
+  written = Appends-trans a.log b.log c.log p.text q.text p.written q.written;
+}
+
+-- nothing of them is in the log of lines
+pub shows_untold : (a b : Option (List Event)) (log : Option (List ℕ)) (es : List Event) → Logs a b (at_ports es) → AreTold es []
+    → Shows (seen_by a log) (seen_by b log) es
+shows_untold a b log es logged told = record { logged = logged; text = []; told = told; written = Appends-nil log }
+
+module _ {B : Type 0} (b : books.Ghosts B) where
+  pub makes_none : (x : B) → Makes b x x [] []
+  makes_none x = record { ran = ran_none (books_state b x) (b.stores x); honest = λ t. t }
+
+  pub makes_then : (x y z : B) (cs ds : List Call) (xs ys : List Answer) → Makes b x y cs xs → Makes b y z ds ys → Makes b x z (cs ++ ds) (xs ++ ys)
+  makes_then x y z cs ds xs ys p q = record {
+    ran =
+        (ran_joins (books_state b x) (books_state b y) (books_state b z) (b.stores x) (b.stores y) (b.stores z)).join cs ds xs ys p.ran
+        q.ran;
+    honest = λ t. p.honest (q.honest t);
+  }
+
+  each_from : (x y z : B) (es : List Event) → Makes b x y [] [] → MakesEach b y es z → MakesEach b x es z
+  each_from x y z [] first later = makes_then x y z [] [] [] [] first later
+  each_from x y z (e ∷ es) first (mid, step, rest) = (mid, makes_then x y mid [] (calls_in e) [] (answers_in e) first step, rest)
+
+  pub each_then : (x y z : B) (es fs : List Event) → MakesEach b x es y → MakesEach b y fs z → MakesEach b x (es ++ fs) z
+  each_then x y z [] fs first later = each_from x y z fs first later
+  each_then x y z (e ∷ es) fs (mid, step, rest) later = (mid, step, each_then mid y z es fs rest later)
+
+  pub each_all : (x y : B) (es : List Event) → MakesEach b x es y → Makes b x y (all_calls es) (all_answers es)
+  each_all x y [] made = made
+  each_all x y (e ∷ es) (mid, step, rest) =
+      makes_then x mid y (calls_in e) (all_calls es) (answers_in e) (all_answers es) step (each_all mid y es rest)
+
+  each_split : (x y : B) (es fs : List Event) → MakesEach b x (es ++ fs) y
+      → (mid : B) × Makes b x mid (all_calls es) (all_answers es) × MakesEach b mid fs y
+  each_split x y [] fs made = (x, makes_none x, made)
+  each_split x y (e ∷ es) fs (mid, step, rest) =
+      let later = each_split mid y es fs rest in
+      (later.0, makes_then x mid later.0 (calls_in e) (all_calls es) (answers_in e) (all_answers es) step later.1, later.2)
+
+  pub moment : (x y : B) (events es fs : List Event) → events ≡ es ++ fs → MakesEach b x events y → IsMoment b x y es fs
+  moment x y events es fs is made =
+      let halves = each_split x y es fs (subst (λ (t : List Event). MakesEach b x t y) is made) in
+      record { books = halves.0; made = halves.1; goes_on = each_all halves.0 y fs halves.2 }
+
+  pub each_quiet : (x : B) (es : List Event) → AreQuiet es → MakesEach b x es x
+  each_quiet x [] quiet = makes_none x
+  each_quiet x (e ∷ es) (calls, answers, quiet) = (
+    x,
+    subst (λ (cs : List Call). Makes b x x cs (answers_in e)) (sym calls)
+        (subst (λ (xs : List Answer). Makes b x x [] xs) (sym answers) (makes_none x)),
+    each_quiet x es quiet,
+  )
+
+module _ {B : Type 0} {b : books.Ghosts B} {x : B} {s : Seen} {n : ℕ} {ls : List Connection} where
+  pub happened_none : Happened b x x s s n n ls ls
+  happened_none = record {
+    events = [];
+    shown = record { logged = logs_none s.ports; text = []; told = refl; written = Appends-nil s.log };
+    makes = makes_none b x;
+    leads = λ k. refl;
+  }
+
+-- nothing yet, and no connection is held
+pub happened_start : {B : Type 0} {b : books.Ghosts B} {x : B} {s : Seen} {n : ℕ} (ls : List Connection) → ls ≡ [] → Happened b x x s s n n [] ls
+happened_start {b} {x} {s} {n} ls e = subst (λ (ms : List Connection). Happened b x x s s n n [] ms) (sym e) happened_none
+
+module _ {B : Type 0} {b : books.Ghosts B} {x y z : B} {s t u : Seen} {n m o : ℕ} {ks ls ms : List Connection} where
+  pub happened_then : Happened b x y s t n m ks ls → Happened b y z t u m o ls ms → Happened b x z s u n o ks ms
+  happened_then p q = record {
+    events = p.events ++ q.events;
+    shown = shows_then s t u p.events q.events p.shown q.shown;
+    makes = each_then b x y z p.events q.events p.makes q.makes;
+    leads = λ k. leads_then k (stage_of k n ks) (stage_of k m ls) (stage_of k o ms) p.events q.events (p.leads k) (q.leads k);
+  }
+
+module _ {B : Type 0} {b : books.Ghosts B} {x y : B} {s t : Seen} {n m : ℕ} {ks ls : List Connection} where
+  pub happened_honest : Happened b x y s t n m ks ls → b.is_honest y → b.is_honest x
+  happened_honest p = (each_all b x y p.events p.makes).honest
+
+module _ {B : Type 0} {b : books.Ghosts B} {x : B} {s t : Seen} {n m : ℕ} {ks ls : List Connection} {cause : Option Event → Type 0} {comes : Bool} where
+  pub happened_passed : Passed cause comes s t n m ks ls → Happened b x x s t n m ks ls
+  happened_passed p = record { events = p.events; shown = p.shown; makes = each_quiet b x p.events p.quiet; leads = p.leads }
+
+-- the events of these
+pub events_then : {B : Type 0} {b : books.Ghosts B} {x y z : B} {s t u : Seen} {n m o : ℕ} {ks ls ms : List Connection}
+    (p : Happened b x y s t n m ks ls) (q : Happened b y z t u m o ls ms) → (happened_then p q).events ≡ p.events ++ q.events
+unfolding happened_then
+events_then p q = refl
+
+pub events_passed : {B : Type 0} (b : books.Ghosts B) (x : B) {s t : Seen} {n m : ℕ} {ks ls : List Connection}
+    {cause : Option Event → Type 0} {comes : Bool} (p : Passed cause comes s t n m ks ls) → (happened_passed {b = b} {x = x} p).events ≡ p.events
+unfolding happened_passed
+events_passed b x p = refl
+
+pub events_none : {B : Type 0} (b : books.Ghosts B) (x : B) (s : Seen) (n : ℕ) (ls : List Connection)
+    → (happened_none {b = b} {x = x} {s = s} {n = n} {ls = ls}).events ≡ []
+unfolding happened_none
+events_none b x s n ls = refl
+
+-- nothing happened
+pub passed_none : (cause : Option Event → Type 0) (comes : Bool) (a a' : Option (List Event)) (log : Option (List ℕ)) (count : ℕ) (ls : List Connection)
+    → Logs a a' [] → Passed cause comes (seen_by a log) (seen_by a' log) count count ls ls
+passed_none cause comes a a' log count ls logged = record {
+  events = [];
+  quiet = tt;
+  one = (0, tt);
+  due = λ before _. due_none before;
+  arrives = record { one = omega arith; none = λ _. refl };
+  shown = shows_untold a a' log [] logged refl;
+  leads = λ k. refl;
+}
+
+-- the ports were asked what can be done next
+reports_moves : (s : Stage) (ready : Ready) → Moves s (reported ready) s
+reports_moves fresh ready = refl
+reports_moves (served u p) ready = refl
+reports_moves (ending end p) ready = refl
+reports_moves gone ready = refl
+
+pub reports_leads : (k : ℕ) (s : Stage) (ready : Ready) → Leads k s (reported ready ∷ []) s
+reports_leads k s ready = (s, record { own = λ _. reports_moves s ready; other = λ _. refl }, refl)
+
+pub happened_asked : {B : Type 0} {b : books.Ghosts B} {x y : B} {s : Seen} {n m : ℕ} {ks ls : List Connection} (a a' : Option (List Event))
+    (log : Option (List ℕ)) (ready : Ready) → Happened b x y s (seen_by a log) n m ks ls → Logs a a' (reported ready ∷ [])
+    → Happened b x y s (seen_by a' log) n m ks ls
+happened_asked {b = b} {y = y} {m = m} {ls = ls} a a' log ready p logged =
+    happened_then p (record {
+      events = reported ready ∷ [];
+      shown = shows_untold a a' log (reported ready ∷ []) logged ([], [], refl, refl, refl);
+      makes = each_quiet b y (reported ready ∷ []) (refl, refl, tt);
+      leads = λ k. reports_leads k (stage_of k m ls) ready;
+    })
+
+pub events_asked : {B : Type 0} {b : books.Ghosts B} {x y : B} {s : Seen} {n m : ℕ} {ks ls : List Connection} (a a' : Option (List Event))
+    (log : Option (List ℕ)) (ready : Ready) (p : Happened b x y s (seen_by a log) n m ks ls) (logged : Logs a a' (reported ready ∷ []))
+    → (happened_asked a a' log ready p logged).events ≡ p.events ++ reported ready ∷ []
+unfolding happened_asked happened_then
+events_asked a a' log ready p logged = refl
+
+-- one connection
+pub went_then : (es fs : List Event) (l m n : Connection) → Went es l m → Went fs m n → Went (es ++ fs) l n
+went_then es fs l m n p q = record {
+  own = own_then l.number es fs p.own (subst (λ (k : ℕ). AreOf k fs) p.same q.own);
+  same = q.same ∙ p.same;
+  untold = told_then es fs [] [] p.untold q.untold;
+  leads =
+      leads_then l.number (stage_in l) (stage_in m) (stage_in n) es fs p.leads
+      (subst (λ (k : ℕ). Leads k (stage_in m) fs (stage_in n)) p.same q.leads);
+}
+
+module _ {B : Type 0} (b : books.Ghosts B) where
+  -- a read of the connection, an answer and a write
+  pub turned_all : (x y : B) (s t u : Option (List Event)) (l m n o : Connection) (reads serves here goes_on : Bool) (over : Option End)
+      (p : Moved s t l m reads reading here) (made : Made b x y m n serves) (q : Moved t u n o false writing goes_on)
+      → IsTurnOf l reads serves (p.events ++ (made.events ++ q.events))
+      → IfSome over (λ end. IsDueTo o end (p.events ++ (made.events ++ q.events)))
+      → Turned b x y s u l o reads serves over
+  turned_all x y s t u l m n o reads serves here goes_on over p made q one why = record {
+    events = p.events ++ (made.events ++ q.events);
+    logged = logged_then s t u p.events (made.events ++ q.events) p.logged
+        (logged_then t t u made.events q.events (subst (λ (es : List Event). Logs t t es) (sym made.unseen) (logs_none t)) q.logged);
+    makes = each_then b x x y p.events (made.events ++ q.events) (each_quiet b x p.events p.quiet)
+        (each_then b x y y made.events q.events made.makes (each_quiet b y q.events q.quiet));
+    went = went_then p.events (made.events ++ q.events) l m o p.went (went_then made.events q.events m n o made.went q.went);
+    one = one;
+    why = why;
+  }
+
+  -- a read that failed
+  pub turned_short : (x : B) (s t : Option (List Event)) (l m : Connection) (reads serves : Bool) (p : Moved s t l m reads reading false)
+      → IsTurnOf l reads serves p.events → Turned b x x s t l m reads serves (Some ReadFailed)
+  turned_short x s t l m reads serves p one = record {
+    events = p.events;
+    logged = p.logged;
+    makes = each_quiet b x p.events p.quiet;
+    went = p.went;
+    one = one;
+    why = inr (λ before. inl (p.lost refl before ∙ ap (λ k. Some (failed k reading)) (sym p.went.same)));
+  }
+
+  -- a write that failed
+  pub lost_write : (x y : B) (s t u : Option (List Event)) (l m n o : Connection) (reads serves here : Bool) (p : Moved s t l m reads reading here)
+      (made : Made b x y m n serves) (q : Moved t u n o false writing false) → IsDueTo o WriteFailed (p.events ++ (made.events ++ q.events))
+  lost_write x y s t u l m n o reads serves here p made q =
+      inr (λ before. inl (last_then before p.events (made.events ++ q.events) ∙ last_then (last_of before p.events) made.events q.events
+      ∙ q.lost refl (last_of (last_of before p.events) made.events) ∙ ap (λ k. Some (failed k writing)) (sym q.went.same)))
+
+  -- faults of the connection were reported
+  pub turned_reported : (x y : B) (s t : Option (List Event)) (l m : Connection) (faults : Faults) (reads serves : Bool) (over : Option End)
+      → Turned b x y s t l m reads serves over → Turned b x y s t l (reporting m faults) reads serves over
+  turned_reported x y s t l m faults reads serves over p = record {
+    events = p.events;
+    logged = p.logged;
+    makes = p.makes;
+    went = record { own = p.went.own; same = p.went.same; untold = p.went.untold; leads = p.went.leads };
+    one = p.one;
+    why = p.why;
+  }

@@ -1,0 +1,55 @@
+-- A service from its start to its end.
+use Rattle.std.proofs.Common.{◌≡◌, ℕ, List, [], None, refl, subst}
+use Rattle.std.specs.Prelude.{Err}
+use Rattle.plant_books.specs.declared.books.Books as books
+use Rattle.plant_model.specs.declared.{call.Call.{Call}, reply.Answer.{Answer}}
+use Rattle.plant_server_clients.specs.Accounts.{AreSent, AreServed, AtEachMoment, HasOpened, Outcome}
+use Rattle.plant_server_clients.specs.{Causes.{AreDue, HaveFailed}, Fairness.{IsFair, IsSteady}, Held.{IsUnderWay}}
+use Rattle.plant_server_clients.specs.{Events.{Event, Seen, all_answers, all_calls}, Stages.{Leads, Stage, fresh, stage_of}}
+use Rattle.plant_server_clients.proofs.{Few.{bounded}, Ordered.{in_order, lasting}}
+use Rattle.plant_server_clients.proofs.{Apart.{apart_from}, Ends.{ends_each}, Held.{none_yet}, Leading.{each_all, moment}, Rounds.{way_start}}
+use Rattle.plant_server_clients.proofs.Moments.{at_each_moment}
+use Rattle.plant_server_clients.specs.declared.{connections.Connection.{Connection}, serving.Halted.TheVariants.{Ports}}
+
+module _ {ran : List Call → List Answer → Type 0} {n : ℕ} {r : Outcome} where
+  abbrev pub sent_from : (events : List Event) (count : ℕ) (ls : List Connection) → ran (all_calls events) (all_answers events)
+      → ((k : ℕ) → Leads k fresh events (stage_of k count ls)) → AtEachMoment IsFair events → AtEachMoment IsSteady events → AreDue None events
+      → HasOpened n count ls r → AreSent ran n r
+  sent_from events count ls made goes fair steady due stops = record {
+    events = events;
+    count = count;
+    held = ls;
+    made = made;
+    answered = λ k. at_each_moment k events (stage_of k count ls) (goes k);
+    goes = goes;
+    ends = ends_each events (λ k. stage_of k count ls) goes;
+    fair = fair;
+    steady = steady;
+    bounded = bounded events (λ k. stage_of k count ls) goes fair steady;
+    in_order = in_order events (λ k. stage_of k count ls) goes;
+    caused = due.caused;
+    offered = due.offered;
+    stops = stops;
+  }
+
+module _ {B : Type 0} {b : books.Ghosts B} {x y : B} {s t : Seen} {n turns count : ℕ} {ls : List Connection} {r : Outcome} where
+  pub served_from : (w : IsUnderWay b x y s t turns count ls) → HasOpened n count ls r → (r ≡ Err Ports → HaveFailed w.happened.events)
+      → AreServed b x y s t n r
+  served_from w stops halts =
+      let h = w.happened in
+      let goes : (k : ℕ) → Leads k fresh h.events (stage_of k count ls) = λ k. subst (λ (a : Stage). Leads k a h.events (stage_of k count ls))
+      (none_yet k) (h.leads k) in
+      let all = each_all b x y h.events h.makes in
+      record {
+        sent = sent_from h.events count ls all.ran goes w.kept.fair w.kept.steady w.kept.due stops;
+        shown = h.shown;
+        halts = halts;
+        moments = λ es fs is. moment b x y h.events es fs is h.makes;
+        lasting = λ es fs is. lasting b x (moment b x y h.events es fs is h.makes).books es (moment b x y h.events es fs is h.makes).made;
+        apart = λ m held w legal holds t. apart_from w h.events (all.ran.run m held w legal holds t).isolated;
+      }
+
+-- no connection was accepted
+module _ {B : Type 0} {b : books.Ghosts B} {x : B} {s : Seen} {n : ℕ} {r : Outcome} where
+  pub served_none : HasOpened n 0 [] r → (r ≡ Err Ports → ⊥) → AreServed b x x s s n r
+  served_none stops halts = served_from (way_start [] refl) stops (λ is. absurd (halts is))

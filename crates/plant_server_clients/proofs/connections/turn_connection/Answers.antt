@@ -1,0 +1,55 @@
+use Rattle.std.proofs.Common.{subst, false, Bool, Some, ◌++◌}
+use Rattle.plant_wire.specs.declared.reads.End.TheVariants.{WriteFailed}
+use Rattle.plant_server_clients.specs.{Events.{reading, writing}, Happens.{Moved}}
+use Rattle.plant_server_clients.proofs.{Due.{over_due}, Leading.{lost_write, turned_all, turned_short}, OneTurn.{short_one, turn_one}}
+use Rattle.plant_server_clients.proofs.connections.turn_connection.Goals as goal
+
+pub returns-then-not-read_if-clause-turned : goal.returns-then-not-read_if-clause-turned
+returns-then-not-read_if-clause-turned g c =
+    let s = g.P.Ports.seen c.args.ports.now in
+    let t = g.P.Ports.seen c.read_if.new.ports in
+    let l = c.args.connection.now in
+    let m = c.read_if.new.connection in
+    let reads = c.args.asked.reads in
+    let lost = subst (λ (b : Bool). Moved s t l m reads reading b) c.if-not-read_if.true c.read_if.ensures.moved in
+    turned_short g.B.Books c.args.office.now.books s t l m reads c.args.asked.serves lost
+    (short_one s t l m reads c.args.asked.serves false lost (c.read_if.ensures.failed c.if-not-read_if.true))
+
+pub returns-then-not-write_connection-clause-turned : goal.returns-then-not-write_connection-clause-turned
+returns-then-not-write_connection-clause-turned g c =
+    let b = g.B.Books in
+    let x = c.args.office.now.books in
+    let y = c.serve_if.new.office.books in
+    let s = g.P.Ports.seen c.args.ports.now in
+    let t = g.P.Ports.seen c.read_if.new.ports in
+    let u = g.P.Ports.seen c.write_connection.new.ports in
+    let l = c.args.connection.now in
+    let m = c.read_if.new.connection in
+    let n = c.serve_if.new.connection in
+    let o = c.write_connection.new.connection in
+    let reads = c.args.asked.reads in
+    let serves = c.args.asked.serves in
+    let lost = subst (λ (goes_on : Bool). Moved t u n o false writing goes_on) c.if-not-write_connection.true c.write_connection.ensures.moved in
+    turned_all b x y s t u l m n o reads serves c.read_if.result false (Some WriteFailed) c.read_if.ensures.moved c.serve_if.ensures.made lost
+    (turn_one b x y s t u l m n o reads serves c.read_if.result false c.read_if.ensures.moved c.serve_if.ensures.made lost)
+    (lost_write b x y s t u l m n o reads serves c.read_if.result c.read_if.ensures.moved c.serve_if.ensures.made lost)
+
+pub returns-clause-turned : goal.returns-clause-turned
+returns-clause-turned g c =
+    let b = g.B.Books in
+    let x = c.args.office.now.books in
+    let y = c.serve_if.new.office.books in
+    let s = g.P.Ports.seen c.args.ports.now in
+    let t = g.P.Ports.seen c.read_if.new.ports in
+    let u = g.P.Ports.seen c.write_connection.new.ports in
+    let l = c.args.connection.now in
+    let m = c.read_if.new.connection in
+    let n = c.serve_if.new.connection in
+    let o = c.write_connection.new.connection in
+    let reads = c.args.asked.reads in
+    let serves = c.args.asked.serves in
+    let here = c.read_if.result in
+    let goes_on = c.write_connection.result in
+    turned_all b x y s t u l m n o reads serves here goes_on c.over.result c.read_if.ensures.moved c.serve_if.ensures.made c.write_connection.ensures.moved
+    (turn_one b x y s t u l m n o reads serves here goes_on c.read_if.ensures.moved c.serve_if.ensures.made c.write_connection.ensures.moved)
+    (over_due o (c.read_if.ensures.moved.events ++ (c.serve_if.ensures.made.events ++ c.write_connection.ensures.moved.events)) c.over.result c.over.ensures.named)

@@ -1,0 +1,36 @@
+//! What reading and answering need for any connection: the routes, room for the fields of a head, and a read buffer. It
+//! is allocated once, before the first connection.
+
+ghost use Rattle.std.specs.Prelude.{◌≤◌, length};
+ghost use Rattle.plant_wire.specs.Limits.{least_room};
+
+use plant_types::Fault;
+use plant_wire_head::FieldRoom;
+use plant_wire_route::Routes;
+use std::alloc::Global;
+
+/// The size of the read buffer, in bytes.
+const CHUNK: usize = 65536;
+
+/// What reading and answering need, allocated once for all connections.
+#[derive(Drop)]
+pub(crate) struct Desk {
+    pub alloc: Global,
+    pub routes: Routes,
+    pub room: FieldRoom,
+    /// The read buffer.
+    pub chunk: Vec<u8>,
+    ghost offers: { least_room ≤ length chunk.items },
+}
+
+impl Desk {
+    /// Allocates it.
+    pub fn new(alloc: Global) -> Result<Desk, Fault> {
+        Ok(Desk {
+            alloc,
+            routes: Routes::new(alloc)?,
+            room: FieldRoom::new(alloc)?,
+            chunk: vec![in alloc; 0u8; CHUNK]?,
+        })
+    }
+}

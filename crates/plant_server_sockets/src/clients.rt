@@ -1,0 +1,187 @@
+//! One client's socket, with what is known of its readiness and its deadlines, and how it is closed so that the last
+//! answer still arrives.
+
+ghost use Rattle.std.specs.Prelude.{None, ℕ};
+ghost use Rattle.plant_server_clients.specs.PortSteps.{IsSent, IsTaken};
+
+use mio::event::Event;
+use mio::net::TcpStream;
+use plant_server_clients::{Connection, Sent, Taken};
+use plant_wire::End;
+use std::io::{ErrorKind, Read, Write};
+use std::net::Shutdown;
+
+/// How many reads at most are made of what a client still sends after its last answer.
+const LAST_READS: u32 = 256;
+
+/// How many of these at most are made in one turn, before others have theirs.
+const READS_A_TURN: u32 = 4;
+
+/// A connection that is open, or whose client may still be sending after its last answer. Times are in milliseconds
+/// since the port was opened.
+#[derive(Drop)]
+pub(crate) struct Client {
+    stream: TcpStream,
+    /// When it will have been silent for too long.
+    pub until: u64,
+    /// When bytes of it were last read or written.
+    pub heard: u64,
+    /// When it was accepted, or its last answer was sent.
+    pub since: u64,
+    /// By when the request that is arriving must be whole, if there is one.
+    pub whole: Option<u64>,
+    /// Whether bytes, or its end, may wait to be read.
+    pub readable: bool,
+    /// Whether it was not read because too many bytes of requests are held.
+    pub crowded: bool,
+    /// Whether nothing more will arrive than what is already waiting.
+    closing: bool,
+    /// Whether it may take bytes.
+    writable: bool,
+    /// Whether it is queued for its turn.
+    pub queued: bool,
+    /// After its last answer: how many more reads are made of what it still sends.
+    pub lingers: Option<u32>,
+}
+
+impl Client {
+    /// A connection that was just accepted.
+    pub fn new(stream: TcpStream, now: u64, until: u64) -> Client {
+        Client {
+            stream,
+            until,
+            heard: now,
+            since: now,
+            whole: None,
+            readable: false,
+            crowded: false,
+            closing: false,
+            writable: false,
+            queued: false,
+            lingers: None,
+        }
+    }
+
+    /// Notes what the system reported of it.
+    pub fn note(&mut self, event: &Event) {
+        if event.is_read_closed() || event.is_error() {
+            self.closing = true;
+        }
+        if event.is_readable() || event.is_read_closed() || event.is_error() {
+            self.readable = true;
+        }
+        if event.is_writable() || event.is_write_closed() || event.is_error() {
+            self.writable = true;
+        }
+    }
+
+    /// Reads once, at most `most` bytes. If fewer were read than there is room for, nothing more is waiting.
+    pub fn take(&mut self, buf: &mut [u8], most: usize) -> Taken
+        ensures { (k : ℕ) → IsTaken None None k buf.new result }
+    {
+        let room = most.min(buf.len());
+        match self.stream.read(&mut buf[..room]) {
+            Ok(0) => Taken::Ended,
+            Ok(n) => {
+                if n < room && !self.closing {
+                    self.readable = false;
+                }
+                Taken::Bytes(n)
+            }
+            Err(error) if error.kind() == ErrorKind::WouldBlock => {
+                self.readable = false;
+                Taken::Nothing
+            }
+            Err(error) if error.kind() == ErrorKind::Interrupted => Taken::Nothing,
+            Err(_) => Taken::Failed,
+        }
+    }
+
+    /// Writes once.
+    pub fn put(&mut self, bytes: &[u8]) -> Sent
+        ensures { (k : ℕ) → IsSent None None k bytes.now result }
+    {
+        match self.stream.write(bytes) {
+            Ok(0) => Sent::Failed,
+            Ok(n) => Sent::Bytes(n),
+            Err(error) if error.kind() == ErrorKind::WouldBlock => {
+                self.writable = false;
+                Sent::Bytes(0)
+            }
+            Err(error) if error.kind() == ErrorKind::Interrupted => Sent::Bytes(0),
+            Err(_) => Sent::Failed,
+        }
+    }
+
+    /// Shuts down the sending side only, if the client may still be sending: closing a socket with unread bytes would
+    /// break the connection, and the client might lose the answers that are on their way. Returns whether what it still
+    /// sends is to be read, until it is quiet.
+    pub fn linger(&mut self, end: End, quiet: u64) -> bool {
+        let may_send = match end {
+            End::BrokenInput | End::Fault => true,
+            End::Closed | End::ReadFailed | End::WriteFailed => false,
+        };
+        if !may_send || self.stream.shutdown(Shutdown::Write).is_err() {
+            return false;
+        }
+        self.lingers = Some(LAST_READS);
+        self.until = quiet;
+        true
+    }
+
+    /// Reads some of what a client still sends after its last answer, and throws it away. Returns whether more may be
+    /// waiting; if nothing more is to be read, `lingers` is 0 afterwards.
+    pub fn read_out(&mut self, scratch: &mut [u8], quiet: u64) -> bool {
+        for _ in 0..READS_A_TURN {
+            let left = match self.lingers {
+                Some(left) if left > 0 => left,
+                _ => return false,
+            };
+            match self.stream.read(scratch) {
+                Err(error) if error.kind() == ErrorKind::WouldBlock => {
+                    self.readable = false;
+                    return false;
+                }
+                Err(error) if error.kind() == ErrorKind::Interrupted => {}
+                Ok(0) | Err(_) => {
+                    self.lingers = Some(0);
+                    return false;
+                }
+                Ok(_) => {
+                    self.lingers = Some(left - 1);
+                    self.until = quiet;
+                }
+            }
+        }
+        true
+    }
+
+    /// Moves all its times on by `passed` milliseconds.
+    pub fn move_on(&mut self, passed: u64) {
+        self.until = self.until.saturating_add(passed);
+        self.heard = self.heard.saturating_add(passed);
+        self.since = self.since.saturating_add(passed);
+        self.whole = match self.whole {
+            Some(whole) => Some(whole.saturating_add(passed)),
+            None => None,
+        };
+    }
+
+    /// Whether what it still sends after its last answer is still to be read.
+    pub fn is_read_out(&self, now: u64) -> bool {
+        match self.lingers {
+            Some(left) => left > 0 && now < self.until,
+            None => false,
+        }
+    }
+
+    /// Whether its connection has an answer to send and a write may succeed.
+    pub fn may_write(&self, connection: &Connection) -> bool {
+        self.writable && !connection.pending.text.is_empty()
+    }
+}
+
+/// Whether the request that is arriving on a connection may be whole with `more` bytes more.
+pub(crate) fn may_finish(connection: &Connection, more: usize) -> bool {
+    connection.wanted <= connection.unread.len().saturating_add(more)
+}

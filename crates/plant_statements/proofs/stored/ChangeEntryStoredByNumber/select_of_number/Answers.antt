@@ -1,5 +1,0 @@
-use Rattle.plant_statements.proofs.public.Queries.{change_read}
-use Rattle.plant_statements.proofs.stored.ChangeEntryStoredByNumber.select_of_number.Goals as goal
-
-pub returns : goal.returns
-returns c = change_read

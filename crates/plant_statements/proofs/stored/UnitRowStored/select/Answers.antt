@@ -1,6 +1,0 @@
-use Rattle.plant_columns.specs.declared.tables.TableKind.TheVariants.{Units}
-use Rattle.plant_statements.proofs.public.Queries.{all_read}
-use Rattle.plant_statements.proofs.stored.UnitRowStored.select.Goals as goal
-
-pub returns-clause-reads : goal.returns-clause-reads
-returns-clause-reads c = all_read Units

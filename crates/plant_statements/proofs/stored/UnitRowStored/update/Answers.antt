@@ -1,7 +1,0 @@
-use Rattle.plant_statements.proofs.WritesOver.{unit_over}
-use Rattle.plant_statements.proofs.stored.UnitRowStored.update.Goals as goal
-
-pub returns-clause-made : goal.returns-clause-made
-returns-clause-made g c clean inside books =
-    unit_over _ g.S.Store c.args.tx.now.conn.now c.run_counting.new.tx.conn.now c.args.unit.now c.args.self.now _ _ c.unit_cells.ensures books
-    (c.run_counting.ensures.made clean inside)

@@ -1,0 +1,6 @@
+use Rattle.plant_store_columns.specs.declared.tables.TableKind.TheVariants.{Bands}
+use Rattle.plant_store_statements.proofs.public.Queries.{all_read}
+use Rattle.plant_store_statements.proofs.stored.BandRowStored.select.Goals as goal
+
+pub returns-clause-reads : goal.returns-clause-reads
+returns-clause-reads c = all_read Bands
