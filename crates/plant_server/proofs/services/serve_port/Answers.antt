@@ -1,7 +1,7 @@
 use Rattle.std.proofs.Common.{Bool, le-ltb, lt-ltb, subst, sym}
 use Rattle.plant_wire.specs.Over.{RanOn}
 use Rattle.plant_server.specs.Services.{AreOfPort}
-use Rattle.plant_server.proofs.commands.serve_port.Goals as goal
+use Rattle.plant_server.proofs.services.serve_port.Goals as goal
 
 pub returns-then-service-gt1 : goal.returns-then-service-gt1
 returns-then-service-gt1 g c =
