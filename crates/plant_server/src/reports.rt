@@ -1,6 +1,6 @@
 //! What the program writes of itself on its output and on standard error, and the exit status that goes with it.
 
-ghost use Rattle.std.specs.{Io.KnownBytes.{Appends}, Prelude.{◌≡◌, IfSome, List, ℕ}};
+ghost use Rattle.std.specs.Prelude.{◌≡◌, IfSome, List, ℕ};
 ghost use Rattle.plant_server.specs.Streams.{IsSaid};
 ghost use Rattle.plant_server.specs.declared.statuses.ExitStatus.TheVariants.{NoBooks};
 ghost use Rattle.plant_server.specs.Statuses as statuses;

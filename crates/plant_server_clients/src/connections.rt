@@ -12,19 +12,13 @@ ghost use Rattle.plant_server_clients.specs.{Events.{reading, writing}, Stages.{
 use crate::answers::{Answers, Draft};
 use crate::desk::Desk;
 use crate::ports::{Ports, Sent, Taken};
-use plant_office::{Books, Faults, Office};
+use plant_office::{Books, Faults, NO_FAULTS, Office};
 use plant_server_log::say_faults;
 use plant_wire::{End, Step, answer_next};
 use plant_wire_head::FieldRoom;
 use plant_wire_route::Routes;
 use std::alloc::Global;
 use std::io::Write;
-
-/// No fault.
-const NO_FAULTS: Faults = Faults {
-    memory: false,
-    store: false,
-};
 
 /// A connection: the received bytes that are not answered yet (`unread`), and how many there must be before they are
 /// parsed again; the answer that is still to be sent; how the connection is to end, once nothing more is read or

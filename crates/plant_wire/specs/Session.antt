@@ -1,7 +1,7 @@
 -- What a session did, by how it ended. `unread` is what the reader has left, if that is known, and `written` what the
 -- writer holds; `failed` counts failed reads, `lost` failed writes, `reads` all reads, each before and after. `ended`
 -- says whether the input's end was seen.
-use Rattle.std.specs.{Io.KnownBytes.{Consumes, IsAtEnd}, Prelude.{◌≡◌, ◌⊎◌, ◌<◌, ◌≤◌, ◌+◌, ℕ, List, [], ◌++◌, length, Bool, IsTrue, Option}}
+use Rattle.std.specs.{Io.KnownBytes.{Consumes, IsAtEnd}, Prelude.{◌≡◌, ◌⊎◌, ◌<◌, ◌≤◌, ◌+◌, ℕ, List, [], ◌++◌, length, Bool, IsTrue, true, false, Option}}
 use Rattle.plant_types.specs.Limits.{max_reads}
 use Rattle.plant_model.specs.declared.{call.Call.{Call}, reply.Answer.{Answer}}
 use Rattle.plant_wire_call.specs.Front.{waits, StandsAtFront}
@@ -22,6 +22,14 @@ IsRead unread unread_after ended ended_after failed failed_after reads reads_aft
     × (reads_after ≤ reads + 1) × (ended_after ≡ ended)
 IsRead unread unread_after ended ended_after failed failed_after reads reads_after old new read.Fault =
     (bytes : List ℕ) × Consumes unread unread_after bytes × (failed_after ≡ failed) × (reads_after ≡ reads + 1)
+
+-- after this end the client may still be sending: the office ended the session, and not because of a failed read or write
+abbrev pub may_send : End → Bool
+may_send Closed = false
+may_send BrokenInput = true
+may_send ReadFailed = false
+may_send WriteFailed = false
+may_send Fault = true
 
 -- nothing is left, or an incomplete request
 abbrev pub IsIdle : List ℕ → Type 0
