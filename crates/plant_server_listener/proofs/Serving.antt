@@ -220,7 +220,8 @@ pub shown_still : (from mid to : ListenerState) (xs : List Exchange) → ((k : �
 shown_still from mid to xs others count it shows =
     seen_still mid.traffic to.traffic from.accepted xs (λ k less. others k (omega (arith, less, count))) (it shows)
 
--- So many connections were served: what is true of the books x and y, of the log, and of the listener, each before and after.
+-- So many connections were served: what is true of the books x and y, of the log, and of the listener, each before and
+-- after.
 pub record ServedSoFar {B : Type 0} (b : books.Ghosts B) (x y : B) (log log' : Option (List ℕ)) (from to : ListenerState) (n : ℕ)
     : Type 0 where
   pub exchanges : List Exchange

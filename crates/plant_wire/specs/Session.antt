@@ -27,7 +27,8 @@ IsRead from to old new read.Failed = Consumes from.unread to.unread [] × (new �
 IsRead from to old new read.Fault = (bytes : List ℕ) × Consumes from.unread to.unread bytes
     × (to.failures ≡ from.failures) × (to.reads ≡ from.reads + 1)
 
--- after this end the client may still be sending: the office ended the session, and not because of a failed read or write
+-- after this end the client may still be sending: the office ended the session, and not because of a failed read or
+-- write
 abbrev pub may_send : End → Bool
 may_send Closed = false
 may_send BrokenInput = true
