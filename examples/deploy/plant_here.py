@@ -235,13 +235,18 @@ def clients(*units):
             it.join()
 
 
-def proposals(name):
-    """The proposals of each unit in the books of an office that runs, by a backup."""
+def proposals(name, file=None):
+    """The proposals of each unit in the books of an office that runs, by a backup; or in a file that nobody has open."""
     copies = pathlib.Path("/var/looks")
     shutil.rmtree(copies, ignore_errors=True)
     copies.mkdir()
-    copy = run(TOOLS / "backup", "--office", name, copies).splitlines()[0]
-    with contextlib.closing(sqlite3.connect(f"{copy}/plant.db")) as books:
+    if file is None:
+        copy = pathlib.Path(run(TOOLS / "backup", "--office", name, copies).splitlines()[0]) / "plant.db"
+    else:
+        copy = copies / file.name
+        for it in file.parent.glob(f"{file.name}*"):
+            shutil.copy(it, copies)
+    with contextlib.closing(sqlite3.connect(copy)) as books:
         found = {}
         for unit, most in books.execute("SELECT unit, max_s FROM changes"):
             found.setdefault(unit, []).append(most)

@@ -4,7 +4,7 @@
 mod office;
 mod starts;
 
-pub use office::{Faults, Office};
+pub use office::{Faults, NO_FAULTS, Office};
 pub use plant_books::{Books, Plain};
 pub use plant_model::{Answer, laws};
 pub use starts::crashes_leave_a_world;

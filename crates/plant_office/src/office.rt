@@ -87,7 +87,7 @@ pub struct Faults {
 }
 
 /// No fault.
-const NO_FAULTS: Faults = Faults {
+pub const NO_FAULTS: Faults = Faults {
     memory: false,
     store: false,
 };

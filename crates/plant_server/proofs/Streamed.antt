@@ -74,7 +74,7 @@ module _ (ran also : List Call → List Answer → Type 0)
     status = is.status;
   }
 
-  port : (many : Bool) (service : Service) (n : ExitStatus) → AreOfPort many ran lost service n → AreOfPort many also gone service n
+  port : (many : Bool) (service : Service) (n : ExitStatus) → AreOfPort many ran lost service s.lines n → AreOfPort many also gone service s.lines n
   port false service n is = record {
     exchanges = is.exchanges;
     each = is.each;
@@ -82,12 +82,14 @@ module _ (ran also : List Call → List Answer → Type 0)
     result = is.result;
     many = is.many;
     status = is.status;
+    said = is.said;
     shut = λ e. ((is.shut e).0, loses (is.shut e).1);
   }
   port true service n is = record {
     result = is.result;
     sent = sent ran also follows s.written s.written_after is.sent;
     status = is.status;
+    said = is.said;
     shut = λ e. ((is.shut e).0, loses (is.shut e).1);
   }
 
@@ -108,7 +110,7 @@ module _ (ran : List Call → List Answer → Type 0) (lost : Type 0) (s : Strea
   made_at bytes r' o o' ended WriteFailed it = (_, _, it.served)
   made_at bytes r' o o' ended Fault (it, is) = (_, _, it.served)
 
-  made_over : (many : Bool) (service : Service) (n : ExitStatus) → AreOfPort many ran lost service n → Made
+  made_over : (many : Bool) (service : Service) (n : ExitStatus) → AreOfPort many ran lost service s.lines n → Made
   made_over false service n is = (_, _, is.made)
   made_over true service n is = (_, _, is.sent.made)
 

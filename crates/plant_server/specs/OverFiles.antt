@@ -31,13 +31,17 @@ pub record AreAnsweredBy (w : World) (calls : List Call) (answers : List Answer)
   pub answered : AreAnswers w calls answers
   pub isolated : AreIsolated w calls answers
 
--- The files at this path hold the rows of this world.
-pub record Begins {D : Type 0} (place : Place D) (path : List ℕ) (w : World) : Type 0 where
-  pub here : path ≡ place.path
+-- The files hold the rows of this world.
+pub record HoldRows (files : Image) (w : World) : Type 0 where
   pub content : Content
-  pub books : HoldBooks place.files content
+  pub books : HoldBooks files content
   pub legal : IsLegalWorld w
   pub holds : Holds content w
+
+-- the files at this path do
+pub record Begins {D : Type 0} (place : Place D) (path : List ℕ) (w : World) : Type 0 where
+  pub here : path ≡ place.path
+  pub rows : HoldRows place.files w
 
 module _ {D : Type 0} {g : Ghosts D} where
   -- Files that were not opened as a database are as they were. They are refused as not this store only if they hold no

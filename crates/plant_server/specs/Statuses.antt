@@ -1,5 +1,5 @@
 -- The exit statuses of the program, and the lines that it prints about them.
-use Rattle.std.specs.Prelude.{if◌then◌else◌, true, false, codes, string_bytes, List, [], ℕ, Err, Ok, Result}
+use Rattle.std.specs.Prelude.{if◌then◌else◌, true, false, codes, string_bytes, List, [], ◌++◌, ℕ, Err, Ok, Result}
 use Rattle.plant_wire.specs.declared.reads.End.{End}
 use Rattle.plant_wire.specs.declared.reads.End.TheVariants.{BrokenInput, Closed, Fault, ReadFailed, WriteFailed}
 use Rattle.plant_server_listener.specs.declared.while_open.Stopped.{Stopped}
@@ -87,6 +87,22 @@ end_text BrokenInput = codes "end: BrokenInput\n"
 end_text ReadFailed = codes "end: ReadFailed\n"
 end_text WriteFailed = codes "end: WriteFailed\n"
 end_text Fault = codes "end: Fault\n"
+
+-- on the output: the address on which a port listens
+abbrev pub listening_text : List ℕ → List ℕ
+listening_text address = codes "listening on " ++ address ++ codes "\n"
+
+-- on standard error: why a port is served no longer, one connection after the other, and many at once
+abbrev pub stopped_text : Result (Unit {0}) Stopped → List ℕ
+stopped_text (Ok u) = []
+stopped_text (Err stopped.Failed) = codes "net: failed\n"
+stopped_text (Err stopped.Shut) = codes "store: fault\n"
+
+abbrev pub halted_text : Outcome → List ℕ
+halted_text (Ok u) = []
+halted_text (Err halted.Memory) = []
+halted_text (Err halted.Ports) = codes "net: failed\n"
+halted_text (Err halted.Shut) = codes "store: fault\n"
 
 -- of a migration: on the output, and on standard error
 abbrev pub migrated_text : {A : Type 0} → Result A StoreFault → List ℕ

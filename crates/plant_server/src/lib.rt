@@ -9,13 +9,16 @@ mod migrations;
 mod openings;
 mod places;
 mod remains;
+mod reports;
+mod services;
 mod sockets;
 mod statuses;
 
-pub use commands::{command, serve_file, serve_port};
+pub use commands::{command, serve_file};
 pub use migrations::{Migrated, migrate_file};
 pub use places::Located;
 pub use plant_server_listener::{Listener, serve_connections};
 pub use remains::Left;
+pub use services::serve_port;
 pub use sockets::Port;
 pub use statuses::ExitStatus;

@@ -16,8 +16,8 @@ use Rattle.plant_server_clients.specs.Events.{came_to, cut_of, marks_of, sent_to
 use Rattle.plant_server_clients.specs.Stages.{Goes, Leads, Moves, Stage, end_for, fresh, served, ending, gone}
 use Rattle.plant_server_clients.specs.Accounts.{AreOfOne, IsAnsweredFor, AtEachMoment}
 
--- Of a connection: c is what came, h whether the end did, m the requests that were answered, x the text that was cut, d and b the
--- calls and their answers, t what was sent; u is unread, p waits to leave.
+-- Of a connection: c is what came, h whether the end did, m the requests that were answered, x the text that was cut, d
+-- and b the calls and their answers, t what was sent; u is unread, p waits to leave.
 
 -- what waits is the end of the last answer
 pub record IsBehind (m : List Mark) (t p : List ℕ) : Type 0 where

@@ -86,7 +86,7 @@ pub record AreSent (ran : List Call → List Answer → Type 0) (n : ℕ) (r : O
   pub stops : HasOpened n count held r
 
 -- From one state of the books and of what is seen to another: the calls are one run of the books, and the ports and the
--- log of lines saw what happened.
+-- log saw what happened.
 pub record AreServed {B : Type 0} (b : books.Ghosts B) (x y : B) (s t : Seen) (n : ℕ) (r : Outcome) : Type 0 where
   pub sent : AreSent (RanOn b x y) n r
   pub shown : Shows s t sent.events

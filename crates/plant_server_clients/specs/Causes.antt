@@ -70,7 +70,7 @@ ExpiredAt ls at before = (l : Connection) → slice_get ls at ≡ Some l → Has
 abbrev pub CausedAt : List Connection → ℕ → End → Option Event → Type 0
 CausedAt ls at end before = (l : Connection) → slice_get ls at ≡ Some l → HasCause before l.number end
 
--- why a connection may be closed with this end after these events: it is to end so, or it has a cause, whatever was before
--- them
+-- why a connection may be closed with this end after these events: it is to end so, or it has a cause, whatever was
+-- before them
 abbrev pub IsDueTo : Connection → End → List Event → Type 0
 IsDueTo l end es = (l.end ≡ Some end) ⊎ ((before : Option Event) → HasCause (last_of before es) l.number end)

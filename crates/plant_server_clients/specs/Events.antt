@@ -226,8 +226,8 @@ Logs None new es = ⊤
 Logs (Some xs) None es = ⊥
 Logs (Some xs) (Some ys) es = ys ≡ xs ++ es
 
--- What the log of lines gets for an event: for a close, a connection with the connection's place among all that were accepted
--- and with how it ended, whole or, if the write fails, a part from the front; for any other event nothing.
+-- What the log gets for an event: for a close, a line with the connection's place among all that were accepted and with
+-- how it ended, whole or, if the write fails, a part from the front; for any other event nothing.
 abbrev pub IsToldBy : Event → List ℕ → Type 0
 IsToldBy (opened k) text = text ≡ []
 IsToldBy (came k bytes) text = text ≡ []
@@ -245,7 +245,7 @@ abbrev pub AreTold : List Event → List ℕ → Type 0
 AreTold [] text = text ≡ []
 AreTold (e ∷ es) text = (now : List ℕ) × (later : List ℕ) × IsToldBy e now × AreTold es later × (text ≡ now ++ later)
 
--- what is seen from outside: by the ports, and in the log of lines, each if it is known
+-- what is seen from outside: by the ports, and in the log, each if it is known
 pub record Seen : Type 0 where
   pub ports : Log
   pub log : Option (List ℕ)

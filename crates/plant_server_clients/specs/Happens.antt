@@ -31,7 +31,7 @@ pub record IsTurnOf (l : Connection) (reads serves : Bool) (events : List Event)
   pub arrives : Arrives reads events
   pub due : (before : Option Event) → AreDue before events
 
--- these events, none of which is in the log of lines, lead the connection from its stage before to that after
+-- these events, none of which is in the log, lead the connection from its stage before to that after
 pub record Went (events : List Event) (before after : Connection) : Type 0 where
   pub own : AreOf before.number events
   pub same : after.number ≡ before.number
@@ -74,9 +74,9 @@ pub record Turned {B : Type 0} (b : Ghosts B) (from to : B) (s t : Log) (before 
   pub one : IsTurnOf before reads serves events
   pub why : IfSome over (λ end. IsDueTo after end events)
 
--- What happened in all, from n accepted connections with the connections ls to m with the connections ms: the events are what the
--- ports saw and what the office did, all calls one after another, whatever the connection, and each connection goes by
--- its own events alone.
+-- What happened in all, from n accepted connections with the connections ls to m with the connections ms: the events
+-- are what the ports saw and what the office did, all calls one after another, whatever the connection, and each
+-- connection goes by its own events alone.
 pub record Happened {B : Type 0} (b : Ghosts B) (x y : B) (s t : Seen) (n m : ℕ) (ls ms : List Connection) : Type 0 where
   pub events : List Event
   pub shown : Shows s t events

@@ -1,4 +1,4 @@
--- The connections of the open connections.
+-- The table of the open connections, and the turns that they have.
 use Rattle.std.specs.Prelude.{Bool, false, true, ℕ, suc, length, List, [], Option, Some, slice_get, remove, ◌⊎◌, ◌≡◌, ◌≤◌}
 use Rattle.std.specs.declared.io.Write as write
 use Rattle.plant_books.specs.declared.books.Books.{Ghosts}
@@ -32,8 +32,8 @@ pub record IsUnderWay {B : Type 0} (b : Ghosts B) (x y : B) (s t : Seen) (turns 
   pub kept : AreKept 0 happened.events
   pub asked : turns ≤ length (reports happened.events)
 
--- One turn, from one state of the books, of what is seen and of the connections to another. If `left` is false, it leaves no
--- request that can be answered now, if there was none before. `given` is assumed of the event before.
+-- One turn, from one state of the books, of what is seen and of the connections to another. If `left` is false, it
+-- leaves no request that can be answered now, if there was none before. `given` is assumed of the event before.
 pub record IsTurn {B : Type 0} (given : Option Event → Type 0) (b : Ghosts B) (x y : B) (s t : Seen) (before after : Held)
     (serves left : Bool) : Type 0 where
   pub happened : Happened b x y s t before.count after.count before.connections.items after.connections.items
@@ -45,7 +45,8 @@ pub record IsTurn {B : Type 0} (given : Option Event → Type 0) (b : Ghosts B) 
       → Keeps given 0 0 (λ k. stage_of k before.count before.connections.items) happened.events
   pub busy : serves ≡ false → Keeps given 0 after.count (λ k. stage_of k before.count before.connections.items) happened.events
 
--- A turn of the connection at this place: it has its turn after those from the bound on, and its number is the next bound.
+-- A turn of the connection at this place: it has its turn after those from the bound on, and its number is the next
+-- bound.
 pub record IsTurnAt {B : Type 0} (b : Ghosts B) (x y : B) (s t : Seen) (before after : Held) (at : ℕ)
     (reads serves left : Bool) : Type 0 where
   pub turn : IsTurn Always b x y s t before after serves left
@@ -55,7 +56,7 @@ pub record IsTurnAt {B : Type 0} (b : Ghosts B) (x y : B) (s t : Seen) (before a
   pub others : (numbers after.connections.items ≡ numbers before.connections.items)
       ⊎ (numbers after.connections.items ≡ remove (numbers before.connections.items) at)
 
--- a turn, with what these ports and this log of lines show as what is seen
+-- a turn, with what these ports and this log show as what is seen
 abbrev pub Turns : {B P W E : Type 0} → (Option Event → Type 0) → Ghosts B → ports.Ghosts P → write.Ghosts W → B → B → P → P
     → Reports W E → Reports W E → Held → Held → Bool → Bool → Type 0
 Turns given b p w x y from to told_before told_after before after serves left =

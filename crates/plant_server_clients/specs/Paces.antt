@@ -1,5 +1,5 @@
--- How the turns of connections keep what a connection waits for small: within a turn of all connections, from the last connection to the
--- first, those from a bound on have had theirs.
+-- How the turns of connections keep what a connection waits for small: within a turn of all connections, from the last
+-- connection to the first, those from a bound on have had theirs.
 use Rattle.std.specs.Prelude.{◌≡◌, ◌≤◌, ◌<◌, ℕ, zero, suc, List, [], ◌∷◌, ◌++◌, length, map, None, Option}
 use Rattle.plant_server_clients.specs.{Accounts.{AtEachMoment}, Causes.{AreDue, last_of}, Events.{Event, arrivals, calls_for}}
 use Rattle.plant_server_clients.specs.Fairness.{HasWaited, IsFair, IsSteady}

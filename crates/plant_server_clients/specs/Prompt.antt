@@ -7,8 +7,9 @@ use Rattle.plant_server_clients.specs.declared.connections.Connection.{Connectio
 abbrev pub AreFew : List ℕ → ℕ → Type 0
 AreFew unread wanted = (unread ≡ []) ⊎ (length unread < wanted)
 
--- A connection that is served and has no answer still to be sent surely holds no whole request: nothing is unread on it, or
--- fewer bytes than it wants. Such a connection is read again. A connection without this property would never be read again.
+-- A connection that is served and has no answer still to be sent surely holds no whole request: nothing is unread on
+-- it, or fewer bytes than it wants. Such a connection is read again. A connection without this property would never be
+-- read again.
 abbrev pub IsSettled : Connection → Type 0
 IsSettled l = l.end ≡ None → l.pending.text.items ≡ [] → AreFew l.unread.items l.wanted
 

@@ -117,7 +117,7 @@ stage_held (Some l) = stage_in l
 abbrev pub stage_of : ℕ → ℕ → List Connection → Stage
 stage_of k count ls = if nat_lt k count then stage_held (connection_with k ls) else fresh
 
--- connections with different numbers, each of a connection that was accepted, and each with a true `wanted`
+-- open connections with different numbers, each of which was accepted, and each with a true `wanted`
 abbrev pub AreOpenConnections : ℕ → List Connection → Type 0
 AreOpenConnections count [] = Unit {0}
 AreOpenConnections count (l ∷ ls) =

@@ -12,19 +12,13 @@ ghost use Rattle.plant_server_clients.specs.{Events.{reading, writing}, Stages.{
 use crate::answers::{Answers, Draft};
 use crate::desk::Desk;
 use crate::ports::{Ports, Sent, Taken};
-use plant_office::{Books, Faults, Office};
+use plant_office::{Books, Faults, NO_FAULTS, Office};
 use plant_server_log::say_faults;
 use plant_wire::{End, Step, answer_next};
 use plant_wire_head::FieldRoom;
 use plant_wire_route::Routes;
 use std::alloc::Global;
 use std::io::Write;
-
-/// No fault.
-const NO_FAULTS: Faults = Faults {
-    memory: false,
-    store: false,
-};
 
 /// A connection: the received bytes that are not answered yet (`unread`), and how many there must be before they are
 /// parsed again; the answer that is still to be sent; how the connection is to end, once nothing more is read or
@@ -196,7 +190,8 @@ pub(crate) fn write_connection<P: Ports>(
     }
 }
 
-/// How many bytes a connection must have before it is parsed again, if these are an incomplete request: at least one more.
+/// How many bytes a connection must have before it is parsed again, if these are an incomplete request: at least one
+/// more.
 fn wanted_next(unread: &[u8], more: usize) -> usize
     requires waiting { StandsAtFront unread.now waits }
     requires below { WaitsBelow unread.now more }
@@ -209,10 +204,10 @@ fn wanted_next(unread: &[u8], more: usize) -> usize
     unread.len() + 1
 }
 
-/// Answers the request at the front of a connection, if it is whole and no earlier answer is still to be sent. After that,
-/// nothing can be answered on the connection before more bytes arrive or the answer was sent. If memory runs out for the
-/// answer, nothing of it is sent; this never happens to the answer to a fault, whose memory is allocated before the
-/// call.
+/// Answers the request at the front of a connection, if it is whole and no earlier answer is still to be sent. After
+/// that, nothing can be answered on the connection before more bytes arrive or the answer was sent. If memory runs out
+/// for the answer, nothing of it is sent; this never happens to the answer to a fault, whose memory is allocated before
+/// the call.
 pub(crate) fn serve_connection<B: Books>(
     alloc: Global,
     routes: &Routes,
@@ -299,8 +294,8 @@ pub(crate) struct Asked {
     pub serves: bool,
 }
 
-/// One turn of a connection: a read and an answer, each if it is asked for, and a write of what is still to be sent. Returns
-/// how the connection is to be closed, if it is.
+/// One turn of a connection: a read and an answer, each if it is asked for, and a write of what is still to be sent.
+/// Returns how the connection is to be closed, if it is.
 pub(crate) fn turn_connection<P: Ports, B: Books>(
     desk: &mut Desk,
     ports: &mut P,
@@ -367,7 +362,8 @@ fn report_faults<B: Books, E: Write>(
     connection.faults = added(connection.faults, faults);
 }
 
-/// One turn of a connection, as `turn_connection` makes it, and a report of the faults that it was answered, if `reports`.
+/// One turn of a connection, as `turn_connection` makes it, and a report of the faults that it was answered, if
+/// `reports`.
 pub(crate) fn turn_and_report<P: Ports, B: Books, E: Write>(
     desk: &mut Desk,
     ports: &mut P,

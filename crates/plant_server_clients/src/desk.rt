@@ -5,12 +5,10 @@ ghost use Rattle.std.specs.Prelude.{◌≤◌, length};
 ghost use Rattle.plant_wire.specs.Limits.{least_room};
 
 use plant_types::Fault;
+use plant_wire::CHUNK;
 use plant_wire_head::FieldRoom;
 use plant_wire_route::Routes;
 use std::alloc::Global;
-
-/// The size of the read buffer, in bytes.
-const CHUNK: usize = 65536;
 
 /// What reading and answering need, allocated once for all connections.
 #[derive(Drop)]

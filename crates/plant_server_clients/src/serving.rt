@@ -93,8 +93,8 @@ fn close_connection<P: Ports, W: Write>(
     drop(held.connections.remove(at));
 }
 
-/// One turn of the connection at this index, which is closed if it is over. Returns whether it may still have a request that
-/// can be answered.
+/// One turn of the connection at this index, which is closed if it is over. Returns whether it may still have a request
+/// that can be answered.
 fn turn_at<P: Ports, B: Books, W: Write, E: Write>(
     desk: &mut Desk,
     ports: &mut P,
@@ -169,8 +169,8 @@ fn accept<P: Ports>(alloc: Global, ports: &mut P, held: &mut Held)
     held.count = number + 1;
 }
 
-/// One turn of each connection, from the last to the first: a request is answered, if the connection has one, and what is still to
-/// be sent is written.
+/// One turn of each connection, from the last to the first: a request is answered, if the connection has one, and what
+/// is still to be sent is written.
 fn serve_turn<P: Ports, B: Books, W: Write, E: Write>(
     desk: &mut Desk,
     ports: &mut P,
@@ -219,8 +219,8 @@ fn turn_of<P: Ports, B: Books, W: Write, E: Write>(
     }
 }
 
-/// Handles one event. A request of its connection is answered at once only if `serves`: while others wait for their turns, it
-/// waits with them. Returns whether the connection may still have a request that can be answered.
+/// Handles one event. A request of its connection is answered at once only if `serves`: while others wait for their
+/// turns, it waits with them. Returns whether the connection may still have a request that can be answered.
 fn step<P: Ports, B: Books, W: Write, E: Write>(
     desk: &mut Desk,
     ports: &mut P,
@@ -276,8 +276,8 @@ fn all_prompt(connections: &[Connection], count: u64) -> bool
     true
 }
 
-/// One turn of the service: handles one event and, if requests were left (`busy`), answers one of each connection that has
-/// any. Returns whether some may be left.
+/// One turn of the service: handles one event and, if requests were left (`busy`), answers one of each connection that
+/// has any. Returns whether some may be left.
 fn turn<P: Ports, B: Books, W: Write, E: Write>(
     desk: &mut Desk,
     ports: &mut P,

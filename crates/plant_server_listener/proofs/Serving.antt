@@ -118,29 +118,34 @@ still_known : (incoming outgoing : List ℕ) (r' : Option (List ℕ)) (ended : B
 still_known incoming outgoing (Some unread) ended ran end s = (unread, s)
 still_known incoming outgoing None ended ran end (bytes, consumes, k) = absurd consumes
 
+abbrev Stops : Option (List ℕ) → Option (List ℕ) → Bool → Bool → ℕ → ℕ → ℕ → ℕ → ℕ → ℕ → End → Type 0
+Stops r r' ended ended' failed failed' reads reads' lost lost' end =
+    StopsAs (record { unread = r; ended = ended; failures = failed; reads = reads })
+    (record { unread = r'; ended = ended'; failures = failed'; reads = reads' }) lost lost' end
+
 -- a session is given up only where a read or a write failed, or all reads were made
-never : (ended ended' : Bool) (failed' reads' lost' : ℕ) (end : End) → StopsAs ended ended' 0 failed' 0 reads' 0 lost' end
+never : (r r' : Option (List ℕ)) (ended ended' : Bool) (failed' reads' lost' : ℕ) (end : End) → Stops r r' ended ended' 0 failed' 0 reads' 0 lost' end
     → IsWhole failed' reads' lost' → is_given_up end ≡ true → ⊥
-never ended ended' failed' reads' lost' Closed stops whole given_up = true≢false (sym given_up)
-never ended ended' failed' reads' lost' BrokenInput stops whole given_up = true≢false (sym given_up)
-never ended ended' failed' reads' lost' ReadFailed stops whole given_up = elim stops.0 [
+never r r' ended ended' failed' reads' lost' Closed stops whole given_up = true≢false (sym given_up)
+never r r' ended ended' failed' reads' lost' BrokenInput stops whole given_up = true≢false (sym given_up)
+never r r' ended ended' failed' reads' lost' ReadFailed stops whole given_up = elim stops.0 [
   | inl is ↦ omega (arith, is, whole.0)
   | inr is ↦ omega (arith, is.1, whole.1)
 ]
-never ended ended' failed' reads' lost' WriteFailed stops whole given_up = omega (arith, stops.1, whole.2)
-never ended ended' failed' reads' lost' Fault stops whole given_up = true≢false (sym given_up)
+never r r' ended ended' failed' reads' lost' WriteFailed stops whole given_up = omega (arith, stops.1, whole.2)
+never r r' ended ended' failed' reads' lost' Fault stops whole given_up = true≢false (sym given_up)
 
-caused : (ended ended' : Bool) (failed' reads' lost' : ℕ) (flag : Bool) (end : End) → StopsAs ended ended' 0 failed' 0 reads' 0 lost' end
+caused : (r r' : Option (List ℕ)) (ended ended' : Bool) (failed' reads' lost' : ℕ) (flag : Bool) (end : End) → Stops r r' ended ended' 0 failed' 0 reads' 0 lost' end
     → IsTrue flag ⊎ IsWhole failed' reads' lost' → is_given_up end ≡ true → IsTrue flag
-caused ended ended' failed' reads' lost' flag end stops cause given_up = elim cause [
+caused r r' ended ended' failed' reads' lost' flag end stops cause given_up = elim cause [
   | inl is ↦ is
-  | inr whole ↦ absurd (never ended ended' failed' reads' lost' end stops whole given_up)
+  | inr whole ↦ absurd (never r r' ended ended' failed' reads' lost' end stops whole given_up)
 ]
 
 -- the session over a connection that was accepted and closed
 pub next_exchange : (seen : Bool) (traffic : Traffic) (k : ℕ) (r r' : Option (List ℕ)) (ended ended' : Bool) (o o' : Option (List ℕ))
     (failed failed' reads reads' lost lost' : ℕ) (ran : List Call → List Answer → Type 0) (end : End)
-    → IsSession r r' ended' o o' ran end → StopsAs ended ended' failed failed' reads reads' lost lost' end
+    → IsSession r r' ended' o o' ran end → Stops r r' ended ended' failed failed' reads reads' lost lost' end
     → (IsTrue seen → r ≡ Some (traffic.incoming k)) → (IsTrue seen → (failed ≡ 0) × (reads ≡ 0))
     → (IsTrue seen → (o ≡ Some []) × (lost ≡ 0)) → (IsTrue seen → o' ≡ Some (traffic.outgoing k))
     → (IsTrue seen → IsTrue (traffic.failed k) ⊎ IsWhole failed' reads' lost') → IsNext ran seen traffic k end
@@ -158,15 +163,15 @@ next_exchange seen traffic k r r' ended ended' o o' failed failed' reads reads' 
           (subst (λ a. IsSession r r' ended' o a (AreOf it.exchange) it.exchange.end) (sent shows) it.session)) in
           let known = still_known (traffic.incoming k) (traffic.outgoing k) r' ended' (AreOf it.exchange) it.exchange.end over in
           let from_none =
-          subst (λ n. StopsAs ended ended' n failed' 0 reads' 0 lost' end) (new shows).0
-          (subst (λ n. StopsAs ended ended' failed failed' n reads' 0 lost' end) (new shows).1
-          (subst (λ n. StopsAs ended ended' failed failed' reads reads' n lost' end) (goes shows).1 stops)) in
+          subst (λ n. Stops r r' ended ended' n failed' 0 reads' 0 lost' end) (new shows).0
+          (subst (λ n. Stops r r' ended ended' failed failed' n reads' 0 lost' end) (new shows).1
+          (subst (λ n. Stops r r' ended ended' failed failed' reads reads' n lost' end) (goes shows).1 stops)) in
           record {
             unread = known.0;
             ended = ended';
             session = known.1;
             cause = λ given_up.
-                caused ended ended' failed' reads' lost' (traffic.failed k) end from_none (cause shows)
+                caused r r' ended ended' failed' reads' lost' (traffic.failed k) end from_none (cause shows)
                 (ap is_given_up (sym it.same) ∙ given_up);
           };
     }
@@ -215,7 +220,8 @@ pub shown_still : (from mid to : ListenerState) (xs : List Exchange) → ((k : �
 shown_still from mid to xs others count it shows =
     seen_still mid.traffic to.traffic from.accepted xs (λ k less. others k (omega (arith, less, count))) (it shows)
 
--- So many connections were served: what is true of the books x and y, of the log, and of the listener, each before and after.
+-- So many connections were served: what is true of the books x and y, of the log, and of the listener, each before and
+-- after.
 pub record ServedSoFar {B : Type 0} (b : books.Ghosts B) (x y : B) (log log' : Option (List ℕ)) (from to : ListenerState) (n : ℕ)
     : Type 0 where
   pub exchanges : List Exchange

@@ -1,6 +1,5 @@
--- Connections served one after the other. Lists of exchanges and of their ends have the latest first.
-use Rattle.std.specs.Io.KnownBytes.{Appends}
-use Rattle.std.specs.Prelude.{None, Option, Result, Ok, Err, Some, Bool, IsTrue, false, true, ℕ, ◌≡◌, ◌<◌, ◌+◌, List, [], ◌∷◌, ◌++◌, codes, decimal, length, map, take}
+-- Connections served one after the other. Lists of exchanges have the latest first.
+use Rattle.std.specs.Prelude.{None, Option, Result, Ok, Err, Some, Bool, IsTrue, false, true, ℕ, ◌≡◌, ◌<◌, ◌+◌, List, [], ◌∷◌, ◌++◌, length, map}
 use Rattle.plant_model.specs.declared.{call.Call.{Call}, reply.Answer.{Answer}}
 use Rattle.plant_types.specs.Limits.{max_reads}
 use Rattle.plant_books.specs.declared.books.Books.{Ghosts}

@@ -8,7 +8,7 @@ ghost use Rattle.plant_server_listener.specs.Connections.{AreServedInTurn, AreSe
 
 use plant_office::{Books, Office};
 use plant_server_log::say_end;
-use plant_wire::{End, Failed, Inlet, Outlet, session};
+use plant_wire::{End, Failed, Inlet, Outlet, may_send, session};
 use std::alloc::Global;
 use std::io::Write;
 
@@ -60,15 +60,6 @@ pub trait Listener {
         ensures seen { is_seen self.new ≡ is_seen self.old }
         ensures incoming { (traffic self.new).incoming ≡ (traffic self.old).incoming }
         ensures others { (k : ℕ) → suc k < accepted self.old → IsShownAs (traffic self.old) (traffic self.new) k };
-}
-
-/// Whether the client may still be sending after this end: the office ended the session, and not because of a failed
-/// read or write.
-fn may_send(end: End) -> bool {
-    match end {
-        End::BrokenInput | End::Fault => true,
-        End::Closed | End::ReadFailed | End::WriteFailed => false,
-    }
 }
 
 /// Accepts the next connection, runs one session over it, and closes it.

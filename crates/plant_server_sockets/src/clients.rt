@@ -7,7 +7,7 @@ ghost use Rattle.plant_server_clients.specs.PortSteps.{IsSent, IsTaken};
 use mio::event::Event;
 use mio::net::TcpStream;
 use plant_server_clients::{Connection, Sent, Taken};
-use plant_wire::End;
+use plant_wire::{End, may_send};
 use std::io::{ErrorKind, Read, Write};
 use std::net::Shutdown;
 
@@ -117,11 +117,7 @@ impl Client {
     /// break the connection, and the client might lose the answers that are on their way. Returns whether what it still
     /// sends is to be read, until it is quiet.
     pub fn linger(&mut self, end: End, quiet: u64) -> bool {
-        let may_send = match end {
-            End::BrokenInput | End::Fault => true,
-            End::Closed | End::ReadFailed | End::WriteFailed => false,
-        };
-        if !may_send || self.stream.shutdown(Shutdown::Write).is_err() {
+        if !may_send(end) || self.stream.shutdown(Shutdown::Write).is_err() {
             return false;
         }
         self.lingers = Some(LAST_READS);

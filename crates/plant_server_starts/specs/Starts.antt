@@ -1,22 +1,16 @@
 -- Several starts of the program over one file, each of which ended, was killed or was cut off.
-use Rattle.std.specs.Prelude.{List, [], ◌∷◌, ◌++◌, ◌≡◌, ◌⊎◌}
+use Rattle.std.specs.Prelude.{List, [], ◌∷◌, ◌++◌, ◌≡◌, ◌⊎◌, Option}
 use Rattle.sqlite_disk.specs.declared.Disk.{Ghosts}
 use Rattle.sqlite_store.specs.{FileStore.{state}, declared.store.FileStore.{FileStore}}
 use Rattle.sqlite_wal.specs.{Files.{outcomes}, Recovery.{Image}}
-use Rattle.plant_books.specs.Contents.{Content}
-use Rattle.plant_model.specs.{Worlds.{IsLegalWorld, World}, declared.call.Call.{Call}}
-use Rattle.plant_office.specs.{Failures.{AreAnsweredBeforeFailure}, Lives.{Life}, Outcomes.{AreMade, after_calls}, Served.{Holds}}
-use Rattle.plant_server.specs.{Files.{HoldBooks}, OverFiles.{IsCleanAfter, RanOnFiles}}
+use Rattle.plant_model.specs.{Worlds.{World}, declared.{call.Call.{Call}, reply.Answer.{Answer}}}
+use Rattle.plant_office.specs.{Failures.{AreAnsweredBeforeFailure}, Lives.{Life}, Outcomes.{AreMade, after_calls}}
+use Rattle.plant_server.specs.{OverFiles.{HoldRows, IsCleanAfter, IsHonestAfter, Place, RanOnFiles}, Promise.{FilesServed}}
+use Rattle.plant_server.specs.{Services.{HasServed}, Streams.{Streams, within}, declared.statuses.ExitStatus.{ExitStatus}}
+use Rattle.plant_server_options.specs.declared.words.Service.{Service}
 use Rattle.plant_server.specs.declared.remains.Left.{Left}
 use Rattle.plant_server.specs.declared.remains.Left.TheVariants as left
 use Rattle.plant_types.specs.Names.{Name}
-
--- The files hold the rows of this world.
-pub record HoldRows (files : Image) (w : World) : Type 0 where
-  pub content : Content
-  pub books : HoldBooks files content
-  pub holds : Holds content w
-  pub legal : IsLegalWorld w
 
 -- For each start, those of its calls that were made: all that were confirmed, and at most one that is in doubt. They
 -- were answered, up to the last confirmed one, as the world answers them that the earlier starts left.
@@ -66,3 +60,16 @@ AreStarts g h admin first (life ∷ lives) last =
 abbrev pub StartsAreOneRun : {D N : Type 0} → Ghosts D → Ghosts N → Type 0
 StartsAreOneRun g h = (first last : Image) (lives : List Life) (w : World) → HoldRows first w
     → AreStarts g h w.admin first lives last → ∥ AreOneRun w lives last ∥₁
+
+-- these are the calls of a start, and its answers
+abbrev pub AreOfLife : Life → List Call → List Answer → Type 0
+AreOfLife life calls answers = (calls ≡ life.calls) × (answers ≡ life.answers)
+
+-- What `FilesServed` states of a command is such a start from what the files at its path held: of whatever the next
+-- start may then find. The same streams or connections were served, with the calls and the answers of this start.
+abbrev pub IsAStart : {D N : Type 0} → Ghosts D → Ghosts N → Place D → Type 0
+IsAStart {D} {N} g h place =
+    (admin : Name) (service : Option Service) (s : Streams) (n : ExitStatus) (after : Left D N g) (to : Image)
+    → (it : FilesServed place place.path admin service s n after) → IsCleanAfter after → MayFind it.store after to
+    → (life : Life) × IsStart g h admin place.files to life
+    × HasServed (AreOfLife life) (¬ IsHonestAfter after) service (within s it.first it.last) n

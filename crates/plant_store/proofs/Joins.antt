@@ -84,7 +84,8 @@ module _ (first second : ℕ) (tests project : List Term) (order : List (Term ×
       let q = plain_query (inner first (inner second end)) tests project order in
       ap (map (output q)) (picked (meets g) (λ u. params ∷ g ∷ u ∷ []) us) ∙ map-map (output q) (λ u. params ∷ g ∷ u ∷ []) (filter (meets g) us)
 
-  -- each row of the first table in the order of its key, beside those of the second that it meets in the order of theirs
+  -- each row of the first table in the order of its key, beside those of the second that it meets in the order of
+  -- theirs
   abbrev by_keys : Trees → List Output
   by_keys trees = flat_map (met pair_shown meets (sort_by (by_columns others) (trees second))) (sort_by (by_columns key) (trees first))
 

@@ -21,7 +21,7 @@ use Rattle.plant_model.specs.steps.{RowChanges.{changed_by, no_rows}, RowFacts.{
 use Rattle.plant_model.specs.declared.rows.{RowEdit.{RowEdit, TheVariants.{Put}}, UnitRow.{UnitRow}, UnitRows.{UnitRows}}
 use Rattle.plant_store_statements.specs.{Changes.{Applies, IsOfficeOf}, Keeping.{HaveRows, has_any}, Making.{AreNew}}
 use Rattle.plant_store_migration.specs.OldTables.{AreOldBooks, old_rows, old_unit_shape}
-use Rattle.plant_store_migration.specs.Upgrading.{AreTakenOver, HaveOldRows, is_among, old_codes, puts_all, puts_of, upgraded_grant, upgraded_rows, upgraded_unit}
+use Rattle.plant_store_migration.specs.Upgrading.{AreTakenOver, HaveOldRows, IsCopyOf, is_among, old_codes, puts_all, puts_of, upgraded_grant, upgraded_rows, upgraded_unit}
 use Rattle.plant_store_statements.specs.Changes.{as_row}
 use Rattle.plant_store_migration.{specs.declared.old_rows.CodeLine.{CodeLine}, proofs.OldQueries.{old_good, old_unit_good}}
 use Rattle.plant_store_statements.proofs.public.Writes.{changed_by-append, with_rows}
@@ -262,3 +262,7 @@ all_taken m db new h it office = record {
     seen : (u : Name) (b : Bool) → is_among (old_codes db.trees) u ≡ b → AreSeen u new (rows_in m u)
     seen u true e = subst (AreSeen u new) (h.seen u) (it.taken u e)
     seen u false e = subst (AreSeen u new) (sym (ap (λ o. unwrap_or o no_rows) (no_some (get m.units u) (sym (known u) ∙ e)))) (it.others u e)
+
+pub copied_rows : (m : Content) (db new : Database) (admin : Name) → m.admin ≡ admin → HaveOldRows m db → IsCopyOf admin db.trees new
+    → HaveRows m new
+copied_rows m db new admin is h it = all_taken m db new h it.taken (subst (λ (a : Name). IsOfficeOf a new) (sym is) it.office)

@@ -4,10 +4,9 @@ use Rattle.std.specs.Prelude.{IsTrue, List, OnOk, Result, [], map, ◌≡◌}
 use Rattle.sqlite.specs.{Held.{Held, state}, State.{HasCleanDisk, State}, Tree.{Trees}, declared.transaction.Transaction.{Transaction}}
 use Rattle.sqlite_trees.specs.declared.store.Store.{Ghosts}
 use Rattle.plant_model.specs.declared.rows.{Row.{Row}, RowEdit.TheVariants.{Put}}
-use Rattle.plant_books.specs.Contents.{Content}
 use Rattle.sqlite.specs.Effect.{Database}
-use Rattle.plant_store_statements.specs.{Changes.{IsHonest}, Keeping.{AreBooksOf}}
-use Rattle.plant_store_migration.specs.{OldTables.{AreOldBooks}, Upgrading.{AreTakenOver, HaveOldRows, old_codes, puts_all, upgraded_rows}}
+use Rattle.plant_store_statements.specs.Changes.{IsHonest}
+use Rattle.plant_store_migration.specs.{OldTables.{AreOldBooks}, Upgrading.{AreTakenOver, IsCopyOf, old_codes, puts_all, upgraded_rows}}
 use Rattle.plant_store_statements.specs.Writing.{Writes}
 use Rattle.plant_store_migration.specs.declared.old_rows.CodeLine.{CodeLine}
 use Rattle.plant_types.specs.Names.{Name}
@@ -41,8 +40,7 @@ TakesUnits g from from_after h tx tx_after lines said =
     → OnOk said (AreTakenOver (old_codes trees) trees (state h tx_after.conn.now).now
     × ((state h tx_after.conn.now).now.trees 0 ≡ (state h tx.conn.now).now.trees 0)))
 
--- these trees are the books that the older tables become
+-- these trees are the whole copy of the older tables, whatever rows these have
 abbrev pub AreTaken : State → State → Name → Trees → Type 0
 AreTaken from from_after admin db =
-    IsHonest from_after → (m : Content) → m.admin ≡ admin → HaveOldRows m from.now
-    → (d : Database) × (d.trees ≡ db) × AreBooksOf m d
+    IsHonest from_after → AreOldBooks from.now → (d : Database) × (d.trees ≡ db) × IsCopyOf admin from.now.trees d

@@ -12,7 +12,7 @@ use Rattle.plant_store_columns.specs.Tables.{AreBooks, AreSeen, all_tables, rows
 use Rattle.plant_model.specs.declared.rows.GrantRow.{GrantRow}
 use Rattle.plant_model.specs.steps.RowChanges.{no_rows}
 use Rattle.plant_model.specs.declared.rows.{RowEdit.{RowEdit, TheVariants.{Put}}, UnitRow.{UnitRow}, UnitRows.{UnitRows}}
-use Rattle.plant_store_statements.specs.{Changes.{as_row}, Keeping.{has_any}}
+use Rattle.plant_store_statements.specs.{Changes.{IsOfficeOf, as_row}, Keeping.{has_any}}
 use Rattle.plant_store_migration.specs.OldTables.{AreOldBooks, old_office_row, old_rows}
 use Rattle.plant_store_migration.specs.declared.old_rows.{OldGrantRow.{OldGrantRow}, OldUnitRow.{OldUnitRow}}
 
@@ -63,3 +63,8 @@ pub record AreTakenOver (us : List Name) (trees : Trees) (db : Database) : Type 
   pub database : IsDatabase db
   pub taken : (u : Name) → is_among us u ≡ true → AreSeen u db (upgraded_rows u trees)
   pub others : (u : Name) → is_among us u ≡ false → AreSeen u db no_rows
+
+-- the database is the whole copy of the older tables, as this administrator's office
+pub record IsCopyOf (admin : Name) (trees : Trees) (db : Database) : Type 0 where
+  pub taken : AreTakenOver (old_codes trees) trees db
+  pub office : IsOfficeOf admin db

@@ -4,9 +4,9 @@ ghost use Rattle.std.specs.Prelude.{◌≡◌, map, IsTrue, OnOk};
 ghost use Rattle.sqlite.specs.{Held.{state}, State.{HasCleanDisk, Survives}};
 ghost use Rattle.plant_books.specs.Contents.{Content};
 ghost use Rattle.plant_model.specs.declared.rows.RowEdit.TheVariants.{Put};
-ghost use Rattle.plant_store_statements.specs.{Changes.{IsHonest}, Keeping.{AreBooksOf, HaveRows}};
+ghost use Rattle.plant_store_statements.specs.{Changes.{IsHonest}, Keeping.{HaveRows}};
 ghost use Rattle.plant_store_statements.specs.{Reading.{HasNoTransaction, IsOnlyRead}, Writing.{IsBlank, SameOnErr, SameReference, StaysOpen, Writes}};
-ghost use Rattle.plant_store_migration.specs.{TakingOver.{AreTaken, Takes, TakesUnit, TakesUnits}, Upgrading.{HaveOldRows}};
+ghost use Rattle.plant_store_migration.specs.{OldTables.{AreOldBooks}, TakingOver.{AreTaken, Takes, TakesUnit, TakesUnits}, Upgrading.{HaveOldRows, IsCopyOf}};
 
 use crate::old_rows::{CodeLine, OldGrantRow, OldRow, OldUnitRow, old_codes_of, old_rows_of};
 use plant_alarm::Event;
@@ -113,8 +113,8 @@ fn fill<O: Alter, N: Alter>(
     ensures same_reference { SameReference tx.old tx.new }
     ensures made { IsHonest (state O.Store from.new) → HasCleanDisk (state N.Store tx.new.conn.now)
         → IsTrue tx.old.conn.now.in_transaction → IsBlank (state N.Store tx.old.conn.now).now
-        → (m : Content) → m.admin ≡ admin.now → HaveOldRows m (state O.Store from.old).now
-        → OnOk result (AreBooksOf m (state N.Store tx.new.conn.now).now) }
+        → AreOldBooks (state O.Store from.old).now
+        → OnOk result (IsCopyOf admin.now (state O.Store from.old).now.trees (state N.Store tx.new.conn.now).now) }
     ensures stays { StaysOpen N.Store tx.old tx.new result }
 {
     let lines = old_codes_of(alloc, from)?;

@@ -1,5 +1,6 @@
 //! The lowest crates, and what is read of requests and written of answers, as tests alone: moments, tables, roles and
-//! faults; copies of changes; floods; what import files add; and the targets, bodies, texts and answers that no request shows.
+//! faults; copies of changes; floods; what import files add; and the targets, bodies, texts and answers that no request
+//! shows.
 #![tactic(auto)]
 
 #[cfg(test)]

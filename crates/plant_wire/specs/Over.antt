@@ -1,7 +1,7 @@
 -- The definitions of a session, applied to a reader, a writer and an office's books before and after.
 use Rattle.std.specs.Prelude.{List, ℕ}
 use Rattle.plant_model.specs.declared.{call.Call.{Call}, reply.Answer.{Answer}}
-use Rattle.plant_wire.specs.{Ran.{Ran}, Session.{IsRead, IsSession, StopsAs}, declared.reads.{End.{End}, Read.{Read}}}
+use Rattle.plant_wire.specs.{Ran.{Ran}, Session.{IsRead, IsSession, Reader, StopsAs}, declared.reads.{End.{End}, Read.{Read}}}
 use Rattle.plant_office.specs.Enduring.{books_state}
 use Rattle.plant_books.specs.declared.books.Books as books
 use Rattle.plant_wire.specs.declared.streams.Inlet as inlet
@@ -11,11 +11,12 @@ use Rattle.plant_wire.specs.declared.streams.Outlet as outlet
 abbrev pub RanOn : {B : Type 0} → books.Ghosts B → B → B → List Call → List Answer → Type 0
 RanOn b before after = Ran (books_state b before) (books_state b after) (b.stores before) (b.stores after)
 
+abbrev pub reader_of : {I : Type 0} → inlet.Ghosts I → I → Reader
+reader_of i x = record { unread = i.remaining x; ended = i.ended x; failures = i.failures x; reads = i.reads x }
+
 -- one read, and the unread bytes before and after it
 abbrev pub ReadsOn : {I : Type 0} → inlet.Ghosts I → I → I → List ℕ → List ℕ → Read → Type 0
-ReadsOn i from to before after read =
-    IsRead (i.remaining from) (i.remaining to) (i.ended from) (i.ended to) (i.failures from) (i.failures to)
-    (i.reads from) (i.reads to) before after read
+ReadsOn i from to before after read = IsRead (reader_of i from) (reader_of i to) before after read
 
 -- a session from a reader to a writer
 abbrev pub IsSessionOn : {I O : Type 0} → inlet.Ghosts I → outlet.Ghosts O → I → I → O → O
@@ -26,5 +27,4 @@ IsSessionOn i o from to before after ran end =
 -- which of its reads and writes failed, by its end
 abbrev pub StopsOn : {I O : Type 0} → inlet.Ghosts I → outlet.Ghosts O → I → I → O → O → End → Type 0
 StopsOn i o from to before after end =
-    StopsAs (i.ended from) (i.ended to) (i.failures from) (i.failures to) (i.reads from) (i.reads to)
-    (o.failures before) (o.failures after) end
+    StopsAs (reader_of i from) (reader_of i to) (o.failures before) (o.failures after) end

@@ -1,7 +1,6 @@
 -- What a session did, by how it ended. `unread` is what the reader has left, if that is known, and `written` what the
--- writer holds; `failed` counts failed reads, `lost` failed writes, `reads` all reads, each before and after. `ended`
--- says whether the input's end was seen.
-use Rattle.std.specs.{Io.KnownBytes.{Consumes, IsAtEnd}, Prelude.{◌≡◌, ◌⊎◌, ◌<◌, ◌≤◌, ◌+◌, ℕ, List, [], ◌++◌, length, Bool, IsTrue, Option}}
+-- writer holds, each before and after. `ended` says whether the input's end was seen.
+use Rattle.std.specs.{Io.KnownBytes.{Consumes, IsAtEnd}, Prelude.{◌≡◌, ◌⊎◌, ◌<◌, ◌≤◌, ◌+◌, ℕ, List, [], ◌++◌, length, Bool, IsTrue, true, false, Option}}
 use Rattle.plant_types.specs.Limits.{max_reads}
 use Rattle.plant_model.specs.declared.{call.Call.{Call}, reply.Answer.{Answer}}
 use Rattle.plant_wire_call.specs.Front.{waits, StandsAtFront}
@@ -9,19 +8,33 @@ use Rattle.plant_wire.specs.{Marks.{IsFaultless}, Step.{AnswersFront, ServesBrok
 use Rattle.plant_wire.specs.declared.reads.{End.TheVariants.{Closed, BrokenInput, ReadFailed, WriteFailed, Fault}, Read.{Read}}
 use Rattle.plant_wire.specs.declared.reads.Read.TheVariants as read
 
--- how one read went, and the buffer before and after
-abbrev pub IsRead : Option (List ℕ) → Option (List ℕ) → Bool → Bool → ℕ → ℕ → ℕ → ℕ → List ℕ → List ℕ → Read → Type 0
-IsRead unread unread_after ended ended_after failed failed_after reads reads_after old new read.More =
-    (bytes : List ℕ) × Consumes unread unread_after bytes × (new ≡ old ++ bytes) × (failed_after ≡ failed)
-    × (reads_after ≡ reads + 1) × (ended_after ≡ ended)
-IsRead unread unread_after ended ended_after failed failed_after reads reads_after old new read.Finished =
-    Consumes unread unread_after [] × (new ≡ old) × (failed_after ≡ failed) × IsTrue ended_after × IsAtEnd unread_after
-    × (reads_after ≡ reads + 1)
-IsRead unread unread_after ended ended_after failed failed_after reads reads_after old new read.Failed =
-    Consumes unread unread_after [] × (new ≡ old) × (failed_after ≡ 1) × (reads ≤ reads_after)
-    × (reads_after ≤ reads + 1) × (ended_after ≡ ended)
-IsRead unread unread_after ended ended_after failed failed_after reads reads_after old new read.Fault =
-    (bytes : List ℕ) × Consumes unread unread_after bytes × (failed_after ≡ failed) × (reads_after ≡ reads + 1)
+-- A reader: the bytes that it has left, if they are known; whether it has seen the input's end; how many of its reads
+-- failed, and how many were made.
+pub record Reader : Type 0 where
+  pub unread : Option (List ℕ)
+  pub ended : Bool
+  pub failures : ℕ
+  pub reads : ℕ
+
+-- how one read went, and the reader and the buffer before and after it
+abbrev pub IsRead : Reader → Reader → List ℕ → List ℕ → Read → Type 0
+IsRead from to old new read.More = (bytes : List ℕ) × Consumes from.unread to.unread bytes × (new ≡ old ++ bytes)
+    × (to.failures ≡ from.failures) × (to.reads ≡ from.reads + 1) × (to.ended ≡ from.ended)
+IsRead from to old new read.Finished = Consumes from.unread to.unread [] × (new ≡ old) × (to.failures ≡ from.failures)
+    × IsTrue to.ended × IsAtEnd to.unread × (to.reads ≡ from.reads + 1)
+IsRead from to old new read.Failed = Consumes from.unread to.unread [] × (new ≡ old) × (to.failures ≡ 1)
+    × (from.reads ≤ to.reads) × (to.reads ≤ from.reads + 1) × (to.ended ≡ from.ended)
+IsRead from to old new read.Fault = (bytes : List ℕ) × Consumes from.unread to.unread bytes
+    × (to.failures ≡ from.failures) × (to.reads ≡ from.reads + 1)
+
+-- after this end the client may still be sending: the office ended the session, and not because of a failed read or
+-- write
+abbrev pub may_send : End → Bool
+may_send Closed = false
+may_send BrokenInput = true
+may_send ReadFailed = false
+may_send WriteFailed = false
+may_send Fault = true
 
 -- nothing is left, or an incomplete request
 abbrev pub IsIdle : List ℕ → Type 0
@@ -61,19 +74,15 @@ IsSession unread unread_after ended written written_after ran end =
     × EndsAs bytes unread_after ended written written_after ran end
 
 -- which reads and writes failed, by the end: at ReadFailed one read did, or 1,000,000 reads were made, of which none
--- saw the input's end; at WriteFailed one write did; otherwise none
-abbrev pub StopsAs : Bool → Bool → ℕ → ℕ → ℕ → ℕ → ℕ → ℕ → End → Type 0
-StopsAs ended ended_after failed failed_after reads reads_after lost lost_after Closed = (failed_after ≡ failed)
-    × (lost_after ≡ lost)
-StopsAs ended ended_after failed failed_after reads reads_after lost lost_after BrokenInput =
-    (failed_after ≡ failed) × (lost_after ≡ lost)
-StopsAs ended ended_after failed failed_after reads reads_after lost lost_after ReadFailed =
-    ((failed_after ≡ 1) ⊎ ((failed_after ≡ failed) × (reads_after ≡ reads + max_reads))) × (lost_after ≡ lost)
-    × (ended_after ≡ ended)
-StopsAs ended ended_after failed failed_after reads reads_after lost lost_after WriteFailed = (failed_after ≡ failed)
-    × (lost_after ≡ 1)
-StopsAs ended ended_after failed failed_after reads reads_after lost lost_after Fault = (failed_after ≡ failed)
-    × (lost_after ≡ lost)
+-- saw the input's end; at WriteFailed one write did; otherwise none. `lost` counts failed writes.
+abbrev pub StopsAs : Reader → Reader → ℕ → ℕ → End → Type 0
+StopsAs from to lost lost_after Closed = (to.failures ≡ from.failures) × (lost_after ≡ lost)
+StopsAs from to lost lost_after BrokenInput = (to.failures ≡ from.failures) × (lost_after ≡ lost)
+StopsAs from to lost lost_after ReadFailed =
+    ((to.failures ≡ 1) ⊎ ((to.failures ≡ from.failures) × (to.reads ≡ from.reads + max_reads)))
+    × (lost_after ≡ lost) × (to.ended ≡ from.ended)
+StopsAs from to lost lost_after WriteFailed = (to.failures ≡ from.failures) × (lost_after ≡ 1)
+StopsAs from to lost lost_after Fault = (to.failures ≡ from.failures) × (lost_after ≡ lost)
 
 -- how many reads were made, whatever the end
 abbrev pub IsFewReads : ℕ → ℕ → Type 0

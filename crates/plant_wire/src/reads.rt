@@ -4,6 +4,7 @@
 ghost use Rattle.std.specs.Prelude.{◌≡◌, ◌≤◌, length, drop, OnOk};
 ghost use Rattle.plant_books.specs.Books.{WasHonest};
 ghost use Rattle.plant_wire.specs.{Limits.{least_room}, Over.{IsSessionOn, RanOn, ReadsOn, StopsOn}, Session.{IsFewReads, IsIdle}};
+ghost use Rattle.plant_wire.specs.Session as session;
 
 use crate::put::bytes_from;
 use crate::step::{Rest, Stop, answer_all};
@@ -30,6 +31,17 @@ pub enum End {
     Fault,
 }
 
+/// Whether the client may still be sending after this end: the office ended the session, and not because of a failed
+/// read or write.
+pub fn may_send(end: End) -> bool
+    ensures { result ≡ session.may_send end }
+{
+    match end {
+        End::BrokenInput | End::Fault => true,
+        End::Closed | End::ReadFailed | End::WriteFailed => false,
+    }
+}
+
 /// How a read went.
 #[derive(Clone, Copy, Debug)]
 pub(crate) enum Read {
@@ -39,8 +51,8 @@ pub(crate) enum Read {
     Fault,
 }
 
-/// The size of the read buffer, in bytes.
-const CHUNK: usize = 65536;
+/// The size of a read buffer, in bytes.
+pub const CHUNK: usize = 65536;
 
 /// One read, appended to the unread bytes. These must not hold a whole request, so that a client that waits for an
 /// answer has it before more is read.

@@ -5,5 +5,5 @@ use Rattle.plant_server_clients.specs.Accounts.{AreSent, Outcome, HasOpened}
 use Rattle.plant_server_clients.proofs.{Due.{due_none}, Held.{none_yet}, Rounds.{fair_none, steady_none}, Whole.{sent_from}}
 
 -- no connection was accepted
-pub sent_none : {ran : List Call → List Answer → Type 0} {n : ℕ} {r : Outcome} → ran [] [] → HasOpened n 0 [] r → AreSent ran n r
+abbrev pub sent_none : {ran : List Call → List Answer → Type 0} {n : ℕ} {r : Outcome} → ran [] [] → HasOpened n 0 [] r → AreSent ran n r
 sent_none made stops = sent_from [] 0 [] made none_yet fair_none steady_none (due_none None) stops

@@ -11,16 +11,16 @@ returns-in-Ok g c =
     inr (files_served _ c.args.admin (place_of g.F.Located.path (image_at g.F.Start) _) c.args.path.now
     (λ w it. record {
       now = λ honest.
-          let own = own_admin it.content it.books.db c.args.admin it.books.rows (opened.office it.here it.books.db it.books.database honest) in
+          let own = own_admin it.rows.content it.rows.books.db c.args.admin it.rows.books.rows (opened.office it.here it.rows.books.db it.rows.books.database honest) in
           record {
-            content = it.content;
-            held = (opened.own.0 ∙ sym own, opened.kept it.here it.content it.books);
-            holds = it.holds;
-            legal = it.legal;
+            content = it.rows.content;
+            held = (opened.own.0 ∙ sym own, opened.kept it.here it.rows.content it.rows.books);
+            holds = it.rows.holds;
+            legal = it.rows.legal;
           };
       after = λ is_own clean.
-          let start = opened.crash it.here it.content it.books clean in
-          after_none w it.content _ (opened.own.0 ∙ sym (it.holds.same_admin ∙ is_own), opened.kept it.here it.content it.books) it.holds it.legal
+          let start = opened.crash it.here it.rows.content it.rows.books clean in
+          after_none w it.rows.content _ (opened.own.0 ∙ sym (it.rows.holds.same_admin ∙ is_own), opened.kept it.here it.rows.content it.rows.books) it.rows.holds it.rows.legal
           start.0 start.1;
     })
     (λ here db held honest. opened.office here db held honest)

@@ -1,13 +1,11 @@
-use Rattle.std.proofs.Common.{◌≡◌, [], ◌∷◌, ap, arith, sym, subst, ◌∙◌}
+use Rattle.std.proofs.Common.{◌≡◌, ap, arith, sym, subst, ◌∙◌}
 use Rattle.sqlite.specs.{Effect.{Database}, Held.{state}, State.{HasCleanDisk}}
-use Rattle.plant_store_columns.specs.Tables.{office_row}
-use Rattle.plant_store_migration.{specs.{OldTables.{AreOldBooks}, Upgrading.{AreTakenOver, old_codes}}, proofs.Upgrades.{all_taken, none_taken, units_of}}
+use Rattle.plant_store_migration.{specs.{OldTables.{AreOldBooks}, Upgrading.{AreTakenOver, old_codes}}, proofs.Upgrades.{none_taken, units_of}}
 use Rattle.plant_store_statements.proofs.public.Writes.{on_ok}
-use Rattle.plant_types.specs.Names.{Name}
 use Rattle.plant_store_migration.proofs.taking.fill.Goals as goal
 
 pub returns-clause-made : goal.returns-clause-made
-returns-clause-made g c honest clean started blank m is had =
+returns-clause-made g c honest clean started blank books =
     let before = (state g.O.Store c.args.from.now).now in
     let between = (state g.O.Store c.old_codes_of.new.conn).now in
     let made = state g.N.Store c.make_tables.new.tx.conn.now in
@@ -18,13 +16,10 @@ returns-clause-made g c honest clean started blank m is had =
     let empty = c.in_ok-make_tables.ensures.made clean_made started blank in
     let inside = c.in_ok-make_tables.ensures.stays.inside clean_made started in
     let lines : units_of c.as_slice.result.now ≡ old_codes between.trees = ap units_of c.as_slice.ensures
-    ∙ c.in_ok-lines.ensures.rows known.0 had.books ∙ ap (λ (d : Database). old_codes d.trees) (sym same) in
+    ∙ c.in_ok-lines.ensures.rows known.0 books ∙ ap (λ (d : Database). old_codes d.trees) (sym same) in
     on_ok c.take_units.result
     (λ it.
     let taken = subst (λ (d : Database). AreTakenOver (old_codes d.trees) d.trees new) same it.0 in
-    record {
-      database = taken.database;
-      rows = all_taken m before new had taken (it.1 ∙ empty.office ∙ ap (λ (a : Name). office_row a ∷ []) (sym is));
-    })
-    (c.take_units.ensures.made honest (subst AreOldBooks (sym same) had.books) lines clean inside
+    record { taken = taken; office = it.1 ∙ empty.office })
+    (c.take_units.ensures.made honest (subst AreOldBooks (sym same) books) lines clean inside
     (none_taken c.args.admin.now between.trees made.now empty))

@@ -1,4 +1,4 @@
-use Rattle.plant_server.proofs.commands.serve_streams.Goals as goal
+use Rattle.plant_server.proofs.services.serve_streams.Goals as goal
 
 pub returns : goal.returns
 returns g c = record {

@@ -1,0 +1,25 @@
+use Rattle.std.specs.Io.KnownBytes.{Appends}
+use Rattle.std.proofs.{Common.{[], arith, refl, subst, sym}, KnownBytes.{Appends-nil}}
+use Rattle.plant_wire.proofs.public.Running.{ran_none}
+use Rattle.plant_server.proofs.services.serve_in_turn.Goals as goal
+
+pub returns-in_default-clause-served : goal.returns-in_default-clause-served
+returns-in_default-clause-served g c =
+    let old = g.W.Write.contents c.args.output.now in
+    let new = g.W.Write.contents c.listen_in_turn.new.output in
+    (
+      [],
+      tt,
+      ran_none _ _,
+      omega arith,
+      [],
+      new,
+      (0, subst (λ it. Appends old it []) (sym c.listen_in_turn.ensures.silent) (Appends-nil old)),
+      ([], refl, Appends-nil new),
+    )
+
+pub returns-clause-served : goal.returns-clause-served
+returns-clause-served g c =
+    let told = c.listen_in_turn-port.ensures.said in
+    let were = c.serve_listener.ensures.served in
+    (were.0, were.1, were.2, were.3, told.0, g.W.Write.contents c.listen_in_turn-port.new.output, told.1, were.4)

@@ -1,0 +1,53 @@
+use Rattle.std.proofs.Common.{Bool, le-ltb, lt-ltb, subst, sym}
+use Rattle.plant_wire.specs.Over.{RanOn}
+use Rattle.plant_server.specs.{Services.{AreOfPort}, Streams.{lines_of}}
+use Rattle.plant_server.proofs.services.serve_port.Goals as goal
+
+pub returns-then-service-gt1 : goal.returns-then-service-gt1
+returns-then-service-gt1 g c =
+    let were = c.serve_at_once-outcome.ensures.sent in
+    subst (λ (many : Bool). AreOfPort many (RanOn g.B.Books c.args.office.now.books c.serve_at_once-outcome.new.office.books)
+    (¬ g.B.Books.is_honest c.serve_at_once-outcome.new.office.books) c.args.service
+    (lines_of g.W.Write g.E.Write (c.args.output.now, c.args.errors.now) (c.serve_at_once-outcome.new.output, c.report_halted.new.errors))
+    c.report_halted.result)
+    (sym (lt-ltb 1 c.args.service.clients c.if-service-gt1.true))
+    (record {
+      result = c.serve_at_once-outcome.result;
+      sent = were.0;
+      status = c.report_halted.ensures.status;
+      said = record {
+        address = were.1;
+        first = were.2;
+        listening = were.3;
+        logged = were.4;
+        last = g.E.Write.contents c.serve_at_once-outcome.new.errors;
+        said = c.report_halted.ensures.said;
+      };
+      shut = c.serve_at_once-outcome.ensures.shut;
+    })
+
+pub returns : goal.returns
+returns g c =
+    let were = c.serve_in_turn-outcome.ensures.served in
+    subst (λ (many : Bool). AreOfPort many (RanOn g.B.Books c.args.office.now.books c.serve_in_turn-outcome.new.office.books)
+    (¬ g.B.Books.is_honest c.serve_in_turn-outcome.new.office.books) c.args.service
+    (lines_of g.W.Write g.E.Write (c.args.output.now, c.args.errors.now) (c.serve_in_turn-outcome.new.output, c.report_stopped.new.errors))
+    c.report_stopped.result)
+    (sym (le-ltb 1 c.args.service.clients c.if-service-gt1.false))
+    (record {
+      exchanges = were.0;
+      each = were.1;
+      made = were.2;
+      result = c.serve_in_turn-outcome.result;
+      many = were.3;
+      status = c.report_stopped.ensures.status;
+      said = record {
+        address = were.4;
+        first = were.5;
+        listening = were.6;
+        logged = were.7;
+        last = g.E.Write.contents c.serve_in_turn-outcome.new.errors;
+        said = c.report_stopped.ensures.said;
+      };
+      shut = c.serve_in_turn-outcome.ensures.shut;
+    })
