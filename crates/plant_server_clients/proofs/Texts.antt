@@ -4,7 +4,7 @@ use Rattle.std.specs.{Fmt.{digits}, Prelude.{Err}}
 use Rattle.plant_types.specs.declared.fault.Fault.{Fault, TheVariants.{Memory, Store}}
 use Rattle.plant_model.specs.declared.reply.Answer.{Answer}
 use Rattle.plant_model.specs.declared.reply.Answer.TheVariants as answers
-use Rattle.plant_wire_answer.specs.{Answers.{answer_bytes}, Json.{quoted}, Response.{response, status_connection}, declared.responses.Media.{Media}}
+use Rattle.plant_wire_answer.specs.{Answers.{answer_bytes}, Json.{quoted}, Response.{response, status_line}, declared.responses.Media.{Media}}
 use Rattle.plant_wire_call.specs.declared.causes.Cause.{Cause}
 use Rattle.plant_wire.specs.{Causes.{cause_text}, Marks.{IsFaultless, Last, Mark, begun, breaking, last_text, malformed, mark_text, nothing, said}}
 use Rattle.plant_wire.specs.Step.{Stalls, StopsFor}
@@ -40,7 +40,7 @@ text_some m before after text none writes is empty =
 
 -- the answer to a fault is shorter than what always finds memory
 fault_short : (f : Fault) → length (answer_bytes (answers.Fault f)) < least_room_of_answers
-unfolding digits quoted response status_connection
+unfolding digits quoted response status_line
 fault_short Memory = omega arith
 fault_short Store = omega arith
 

@@ -10,7 +10,8 @@ use Rattle.plant_wire.specs.{Causes.{cause_text}, Marks.{answers_of, calls_of, l
 use Rattle.plant_wire.specs.{Session.{IsCutShort, IsSession, StopsAs}, Step.{AnswersFront, ServesBroken, ServesPart}, declared.reads.End.{End}}
 use Rattle.plant_wire.specs.declared.reads.End.TheVariants.{BrokenInput, Closed, Fault, ReadFailed, WriteFailed}
 use Rattle.plant_wire.proofs.public.Running.{ran_joins, ran_none}
-use Rattle.plant_server_listener.specs.Connections.{AreServedInTurn, AreOf, AreSeen, Exchange, IsExchange, IsNext, IsOver, IsSeen, IsShownAs, IsWhole, Tells, Traffic, answers_over, calls_over, is_given_up, line_of}
+use Rattle.plant_server_listener.specs.Connections.{AreServedInTurn, AreOf, AreSeen, Exchange, IsExchange, IsNext, IsOver, IsSeen, IsShownAs, IsWhole, Traffic, answers_over, calls_over, is_given_up}
+use Rattle.plant_server_log.specs.Log.{Tells, line_of}
 use Rattle.plant_server_listener.specs.declared.connections.Listener as listeners
 
 module _ {o o' : Option (List ℕ)} {ran : List Call → List Answer → Type 0} (p p' : Option (List ℕ)) {also : List Call → List Answer → Type 0} where
