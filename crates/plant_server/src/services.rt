@@ -114,10 +114,10 @@ fn serve_in_turn<B: Books, W: Write, E: Write>(
     ensures shut { result ≡ Err Stopped.Shut
         → IsTrue service.while_open × (¬ B.is_honest office.new.books) }
 {
-    let Ok(mut port) = listen_in_turn(rt, service, output) else {
-        return Err(Stopped::Failed);
-    };
-    serve_listener(rt.alloc(), &mut port, office, service, output, errors)
+    match listen_in_turn(rt, service, output) {
+        Ok(mut port) => serve_listener(rt.alloc(), &mut port, office, service, output, errors),
+        Err(_) => Err(Stopped::Failed),
+    }
 }
 
 /// The limits of a port of many connections at once.

@@ -3,23 +3,22 @@ use Rattle.std.proofs.{Common.{[], arith, refl, subst, sym}, KnownBytes.{Appends
 use Rattle.plant_wire.proofs.public.Running.{ran_none}
 use Rattle.plant_server.proofs.services.serve_in_turn.Goals as goal
 
-pub returns-in_default-clause-served : goal.returns-in_default-clause-served
-returns-in_default-clause-served g c =
+pub returns-in-Err-clause-served : goal.returns-in-Err-clause-served
+returns-in-Err-clause-served g c =
     let old = g.W.Write.contents c.args.output.now in
-    let new = g.W.Write.contents c.listen_in_turn.new.output in
-    (
+    let new = g.W.Write.contents c.listen_in_turn.new.output in (
       [],
       tt,
       ran_none _ _,
       omega arith,
       [],
       new,
-      (0, subst (λ it. Appends old it []) (sym c.listen_in_turn.ensures.silent) (Appends-nil old)),
+      (0, subst (λ it. Appends old it []) (sym c.in-Err.ensures.silent) (Appends-nil old)),
       ([], refl, Appends-nil new),
     )
 
-pub returns-clause-served : goal.returns-clause-served
-returns-clause-served g c =
-    let told = c.listen_in_turn-port.ensures.said in
+pub returns-in-Ok-clause-served : goal.returns-in-Ok-clause-served
+returns-in-Ok-clause-served g c =
+    let told = c.in-Ok.ensures.said in
     let were = c.serve_listener.ensures.served in
-    (were.0, were.1, were.2, were.3, told.0, g.W.Write.contents c.listen_in_turn-port.new.output, told.1, were.4)
+    (were.0, were.1, were.2, were.3, told.0, g.W.Write.contents c.listen_in_turn.new.output, told.1, were.4)
