@@ -6,7 +6,7 @@ ghost use Rattle.std.specs.Prelude.{Err, IsTrue, OnErr, OnOk};
 ghost use Rattle.plant_server_clients.specs.Accounts.{AreSent};
 ghost use Rattle.plant_server_listener.specs.Connections.{AreExchanges, Exchange, answers_over, calls_over};
 ghost use Rattle.plant_server_log.specs.Log.{Tells};
-ghost use Rattle.plant_server.specs.Services.{AreAsMany, AreLogged, AreOfPort, HasServed, IsStreamed, is_at_once};
+ghost use Rattle.plant_server.specs.Services.{AreAsMany, AreOfPort, HasServed, IsStreamed, is_at_once};
 ghost use Rattle.plant_server.specs.Streams.{Bytes, IsSaid, lines_of, streams_of};
 ghost use Rattle.plant_wire.specs.Over.{RanOn};
 ghost use Rattle.plant_server.specs.Statuses as statuses;
@@ -147,10 +147,7 @@ fn serve_at_once<B: Books, W: Write, E: Write>(
     output: &mut W,
     errors: &mut E,
 ) -> Result<(), Halted>
-    ensures sent { (sent : AreSent (RanOn B.Books office.old.books office.new.books) service.connections result)
-        × (address : List ℕ) × (first : Bytes)
-        × IsSaid (W.contents output.old) first (statuses.listening_text address)
-        × AreLogged sent.events first (W.contents output.new) }
+    ensures sent { AreSent (RanOn B.Books office.old.books office.new.books) service.connections result }
     ensures shut { result ≡ Err Halted.Shut
         → IsTrue service.while_open × (¬ B.is_honest office.new.books) }
 {

@@ -5,7 +5,6 @@ use Rattle.plant_server.proofs.services.serve_port.Goals as goal
 
 pub returns-then-service-gt1 : goal.returns-then-service-gt1
 returns-then-service-gt1 g c =
-    let were = c.serve_at_once-outcome.ensures.sent in
     subst (λ (many : Bool). AreOfPort many (RanOn g.B.Books c.args.office.now.books c.serve_at_once-outcome.new.office.books)
     (¬ g.B.Books.is_honest c.serve_at_once-outcome.new.office.books) c.args.service
     (lines_of g.W.Write g.E.Write (c.args.output.now, c.args.errors.now) (c.serve_at_once-outcome.new.output, c.report_halted.new.errors))
@@ -13,16 +12,8 @@ returns-then-service-gt1 g c =
     (sym (lt-ltb 1 c.args.service.clients c.if-service-gt1.true))
     (record {
       result = c.serve_at_once-outcome.result;
-      sent = were.0;
+      sent = c.serve_at_once-outcome.ensures.sent;
       status = c.report_halted.ensures.status;
-      said = record {
-        address = were.1;
-        first = were.2;
-        listening = were.3;
-        logged = were.4;
-        last = g.E.Write.contents c.serve_at_once-outcome.new.errors;
-        said = c.report_halted.ensures.said;
-      };
       shut = c.serve_at_once-outcome.ensures.shut;
     })
 
@@ -46,8 +37,6 @@ returns g c =
         first = were.5;
         listening = were.6;
         logged = were.7;
-        last = g.E.Write.contents c.serve_in_turn-outcome.new.errors;
-        said = c.report_stopped.ensures.said;
       };
       shut = c.serve_in_turn-outcome.ensures.shut;
     })
