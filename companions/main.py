@@ -7,9 +7,9 @@ import types
 import click
 
 import companions
-from companions import connection, load, sheets
+from companions import approve, connection, load, opening, sheets
 
-COMMANDS: tuple[click.Command, ...] = (load.command,)
+COMMANDS: tuple[click.Command, ...] = (opening.command, load.command, approve.command)
 
 
 @click.group(context_settings={"help_option_names": ["-h", "--help"], "max_content_width": 140})

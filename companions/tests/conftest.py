@@ -1,11 +1,19 @@
 """What the tests share."""
 
 import collections.abc
+import os
 import pathlib
+import tempfile
 
-import pytest
+os.environ["HYPOTHESIS_STORAGE_DIRECTORY"] = tempfile.mkdtemp(prefix="hypothesis-")
 
-from companions.tests import plant
+import hypothesis  # noqa: E402
+import pytest  # noqa: E402
+
+from companions.tests import plant  # noqa: E402
+
+hypothesis.settings.register_profile("companions", database=None, deadline=None)
+hypothesis.settings.load_profile("companions")
 
 
 @pytest.fixture
