@@ -226,7 +226,7 @@ def is_open_elsewhere(file: pathlib.Path) -> bool:
 
 
 @contextlib.contextmanager
-def opened_one(path: pathlib.Path) -> collections.abc.Iterator[Books]:
+def opened(path: pathlib.Path) -> collections.abc.Iterator[Books]:
     backup = newest_in(path)
     try:
         files = files_of(backup)
@@ -252,18 +252,15 @@ def check_schema(rows: sqlite3.Connection, path: pathlib.Path) -> None:
         raise connection.Trouble(f"{path} is not the books of an office, or of another schema than {SCHEMA}")
 
 
-class Shelved:
-    """The books of all offices of a plant, by unit."""
-
-    def __init__(self, books: collections.abc.Sequence[Books]) -> None:
-        self.books = tuple(books)
-        self.by_unit = {unit.unit: it for it in books for unit in it.units()}
-
-    def of(self, unit: str) -> Books | None:
-        return self.by_unit.get(unit)
-
-
 @contextlib.contextmanager
-def opened(paths: collections.abc.Sequence[pathlib.Path]) -> collections.abc.Iterator[Books]:
-    with opened_one(paths[0]) as books:
-        yield books
+def opened_all(paths: collections.abc.Iterable[pathlib.Path]) -> collections.abc.Iterator[dict[str, Books]]:
+    """The books of the offices of a plant, by unit."""
+    with contextlib.ExitStack() as stack:
+        found: dict[str, Books] = {}
+        for path in paths:
+            books = stack.enter_context(opened(path))
+            for unit in books.units():
+                if unit.unit in found:
+                    raise connection.Trouble(f"{unit.unit} is in {found[unit.unit].path} and in {books.path}")
+                found[unit.unit] = books
+        yield found

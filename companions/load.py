@@ -225,7 +225,7 @@ def command(
     wanted = alarms.read_alarms(file, sheets.read_mapping(mapping, alarms.COLUMNS), unit)
     latching: dict[str, bool] = {}
     if backup is not None:
-        with backups.opened([backup]) as books:
+        with backups.opened(backup) as books:
             latching = books.latching(unit)
     with options.office_of(**words) as office:
         if check:

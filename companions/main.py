@@ -1,5 +1,6 @@
 """The command `office` with its sub-commands."""
 
+import collections.abc
 import signal
 import sys
 import types
@@ -7,9 +8,9 @@ import types
 import click
 
 import companions
-from companions import approve, connection, load, opening, sheets
+from companions import approve, connection, feed, joining, leaving, load, opening, sheets
 
-COMMANDS: tuple[click.Command, ...] = (opening.command, load.command, approve.command)
+COMMANDS: tuple[click.Command, ...] = (opening.command, load.command, approve.command, feed.command, joining.command, leaving.command)
 
 
 @click.group(context_settings={"help_option_names": ["-h", "--help"], "max_content_width": 140})
@@ -33,28 +34,27 @@ def stop(number: int, frame: types.FrameType | None) -> None:
     raise KeyboardInterrupt
 
 
-def main() -> None:
-    """Runs the command line, and ends with its status."""
-    signal.signal(signal.SIGTERM, stop)
+def run(words: collections.abc.Sequence[str] | None = None) -> int:
+    """Runs a command line, and gives its status."""
     try:
-        status = office.main(standalone_mode=False)
+        status = office.main(words, standalone_mode=False)
+        return status if isinstance(status, int) else 0
     except click.ClickException as error:
         error.show()
-        sys.exit(2)
-    except click.exceptions.Abort:
-        sys.exit(130)
-    except KeyboardInterrupt:
-        sys.exit(130)
+        return 2
+    except (click.exceptions.Abort, KeyboardInterrupt):
+        return 130
     except sheets.Faulty as error:
         click.echo(str(error), err=True)
-        sys.exit(2)
-    except connection.NotReached as error:
-        click.echo(f"office: {error}", err=True)
-        sys.exit(3)
+        return 2
     except connection.Trouble as error:
         click.echo(f"office: {error}", err=True)
-        sys.exit(1)
+        return 3 if isinstance(error, connection.NotReached) else 1
     except connection.Refusal as error:
         click.echo(f"office: the office refuses: {error.name}: {error.line}", err=True)
-        sys.exit(1)
-    sys.exit(status if isinstance(status, int) else 0)
+        return 1
+
+
+def main() -> None:
+    signal.signal(signal.SIGTERM, stop)
+    sys.exit(run())

@@ -41,24 +41,26 @@ PATIENCE = click.FloatRange(0, 86_400)
 
 
 class Units(click.ParamType):
-    """Units, with commas between them."""
+    """Units, with commas between them; or all."""
 
     name = "units"
 
     def convert(self, value: typing.Any, param: click.Parameter | None, ctx: click.Context | None) -> typing.Any:
         if not isinstance(value, str):
             return value
+        if value == "all":
+            return ()
         found = tuple(UNIT.convert(it.strip(), param, ctx) for it in value.split(","))
         if len(set(found)) < len(found):
             self.fail(f"{value!r} names a unit twice", param, ctx)
         return found
 
 
-def office_of(url: str | None, person: str | None, at: str | None, ca: str | None, patience: float, offices: str | None) -> calls.Office:
-    if at is not None and person is None:
+def office_of(url: str | None, caller: str | None, at: str | None, ca: str | None, patience: float, offices: str | None) -> calls.Office:
+    if at is not None and caller is None:
         raise click.UsageError("--at is for trials, with --as")
-    default = connection.PROXY if person is None else connection.PORT
-    target = connection.Target(url or os.environ.get("OFFICE_URL") or default, person, None if at == "now" else at, ca, patience)
+    default = connection.PROXY if caller is None else connection.PORT
+    target = connection.Target(url or os.environ.get("OFFICE_URL") or default, caller, None if at == "now" else at, ca, patience)
     return calls.Office(target, tuple(it.strip() for it in offices.split(",")) if offices else ())
 
 
@@ -69,7 +71,7 @@ def connected(command: Command) -> Command:
         click.option("--patience", type=PATIENCE, default=120.0, show_default=True, help="Seconds to wait for an office that is away."),
         click.option("--ca", type=click.Path(exists=True), envvar="OFFICE_CA", help="The plant's own certificates, for https."),
         click.option("--at", type=MOMENT_OR_NOW, help="For trials, with --as: the moment of each call.  [default: now]"),
-        click.option("--as", "person", type=PERSON, help="For trials: speaks to the office's own port as this person."),
+        click.option("--as", "caller", type=PERSON, help="For trials: speaks to the office's own port as this person."),
         click.option("--url", help=f"The address.  [default: OFFICE_URL, else {connection.PROXY}, with --as {connection.PORT}]"),
     ):
         command = option(command)

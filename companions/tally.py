@@ -46,22 +46,28 @@ def over(items: collections.abc.Iterable[Item], words: str, total: float | None 
 class Tally:
     """Counts what was done, was there already and was refused, and prints the counts also if the command is stopped."""
 
-    def __init__(self, is_dry: bool = False) -> None:
-        self.is_dry = is_dry
+    def __init__(self, is_dry: bool = False, hopeless: collections.abc.Collection[str] = HOPELESS) -> None:
+        self.is_dry, self.hopeless = is_dry, hopeless
         self.done = self.there = 0
         self.refused: list[str] = []
+        self.shown = 0
 
     def __enter__(self) -> "Tally":
         return self
 
     def __exit__(self, kind: type[BaseException] | None, error: BaseException | None, trace: types.TracebackType | None) -> None:
-        for it in self.refused:
-            click.echo(it)
+        self.show_refused()
         if kind is not None and issubclass(kind, (KeyboardInterrupt, connection.Trouble, connection.Refusal)):
             click.echo("stopped before the end: what is done stands; type the same line again, and it goes on")
         if kind is None or issubclass(kind, (KeyboardInterrupt, connection.Trouble, connection.Refusal)):
             words = "would be done" if self.is_dry else "done"
             click.echo(f"{words} {self.done:,}, there already {self.there:,}, refused {len(self.refused):,}")
+
+    def show_refused(self) -> None:
+        """Prints each refusal once."""
+        for it in self.refused[self.shown :]:
+            click.echo(it)
+        self.shown = len(self.refused)
 
     def count(self, outcome: calls.Outcome) -> None:
         self.done += outcome is calls.Outcome.done
@@ -70,7 +76,7 @@ class Tally:
     def refuse(self, what: str, refusal: connection.Refusal) -> None:
         """Notes a refusal; goes no further where all that follow would be refused alike."""
         self.refused.append(f"refused: {what}: {refusal.name}: {refusal.line}")
-        if refusal.name in HOPELESS:
+        if refusal.name in self.hopeless:
             raise connection.Trouble(f"{refusal.name}: the office would refuse all that follows")
 
     def make(self, what: str, call: collections.abc.Callable[[], calls.Outcome]) -> bool:

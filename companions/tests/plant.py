@@ -1,6 +1,8 @@
 """A plant for tests: the real program over a file of its own, and behind it the real proxy, on ports that are free."""
 
 import contextlib
+import dataclasses
+import io
 import json
 import os
 import pathlib
@@ -11,8 +13,11 @@ import subprocess
 import sys
 import time
 import typing
+import unittest.mock
 import urllib.error
 import urllib.request
+
+from companions import main
 
 TOP = pathlib.Path(__file__).resolve().parent.parent.parent
 PROGRAM = os.environ.get("PROGRAM", str(TOP / "out/shelfoffice"))
@@ -146,11 +151,22 @@ class Plant:
             return found
 
 
-def office(*words: object, stdin: str = "", **settings: str) -> subprocess.CompletedProcess[str]:
-    """Types a command, and gives its status and what it printed on both outputs."""
+@dataclasses.dataclass(frozen=True)
+class Typed:
+    """How a command ended, and what it printed on both outputs."""
+
+    returncode: int
+    stdout: str
+
+
+def office(*words: object, stdin: str = "", **settings: str) -> Typed:
+    """Runs a command in this process."""
     plain = {key: it for key, it in os.environ.items() if not key.startswith("OFFICE_") and key != "NETRC"}
-    pipe, both = subprocess.PIPE, subprocess.STDOUT
-    return subprocess.run(command(*words), input=stdin, stdout=pipe, stderr=both, text=True, env=plain | settings, check=False)
+    said = io.StringIO()
+    with unittest.mock.patch.dict(os.environ, plain | settings, clear=True), unittest.mock.patch("sys.stdin", io.StringIO(stdin)):
+        with contextlib.redirect_stdout(said), contextlib.redirect_stderr(said):
+            status = main.run([str(it) for it in words])
+    return Typed(status, said.getvalue())
 
 
 def command(*words: object) -> list[str]:
