@@ -174,8 +174,12 @@ class Books:
         """How many rows a unit has in a table."""
         return int(self.rows.execute(f"SELECT count(*) FROM {table} WHERE unit = ?", (unit,)).fetchone()[0])
 
+    def first(self, unit: str, table: str, column: str) -> datetime.datetime | None:
+        """The first moment in a column."""
+        return moment_or_none(self.rows.execute(f"SELECT min({column}) FROM {table} WHERE unit = ?", (unit,)).fetchone()[0])
+
     def count_since(self, unit: str, table: str, column: str, since: datetime.datetime) -> int:
-        text = f"SELECT count(*) FROM {table} WHERE unit = ? AND {column} > ?"
+        text = f"SELECT count(*) FROM {table} WHERE unit = ? AND {column} >= ?"
         return int(self.rows.execute(text, (unit, values.seconds_at(since))).fetchone()[0])
 
 

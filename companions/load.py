@@ -4,6 +4,7 @@ import collections
 import collections.abc
 import dataclasses
 import functools
+import operator
 import pathlib
 import typing
 
@@ -83,13 +84,18 @@ def differences(office: calls.Office, unit: str, wanted: alarms.Wanted, there: l
 
 @dataclasses.dataclass(frozen=True)
 class Loading:
-    """A load: where to, by whom, what it counts, and whether what was rejected is proposed anew."""
+    """A load: where to, by whom, what it counts, whether what was rejected is proposed anew, and with which limit an alarm is registered."""
 
     office: calls.Office
     unit: str
     person: str
     count: tally.Tally
-    is_again: bool
+    is_again: bool = False
+    first_limit: collections.abc.Callable[[alarms.Wanted], int] = operator.attrgetter("limit")
+
+    def place(self, wanted: alarms.Wanted) -> str:
+        """The line of the file, if the alarm is of one."""
+        return f"line {wanted.line}: " if wanted.line else ""
 
 
 class Waiting:
@@ -132,17 +138,17 @@ def alike(changes: collections.abc.Iterable[calls.Change], proposal: Proposal) -
 def propose(loading: Loading, proposals: collections.abc.Sequence[Proposal], waiting: Waiting) -> None:
     count = loading.count
     for it in tally.over(proposals, "proposes"):
-        same, refused, line = waiting.same(it), waiting.refused(it), f"line {it.wanted.line}:"
+        same, refused, place = waiting.same(it), waiting.refused(it), loading.place(it.wanted)
         if same is not None:
             count.there += 1
         elif refused is not None and not loading.is_again:
             count.there += 1
-            click.echo(f"{line} {it.words()}: {refused.decider} has rejected it (change {refused.number}); --again proposes it anew")
+            click.echo(f"{place}{it.words()}: {refused.decider} has rejected it (change {refused.number}); --again proposes it anew")
         else:
             for other in waiting.others(it):
                 what = f"the {it.kind.name} of {it.wanted.tag}"
-                click.echo(f"{line} change {other.number} of {other.proposer} on {what} waits too, and says otherwise")
-            count.make(f"{line} propose {it.words()}", functools.partial(proposed, loading, it))
+                click.echo(f"{place}change {other.number} of {other.proposer} on {what} waits too, and says otherwise")
+            count.make(f"{place}propose {it.words()}", functools.partial(proposed, loading, it))
 
 
 def proposed(loading: Loading, it: Proposal) -> calls.Outcome:
@@ -165,8 +171,9 @@ def load(loading: Loading, wanted: collections.abc.Sequence[alarms.Wanted], latc
         if it.tag in there:
             count.there += 1
         else:
-            words = f"line {it.line}: register {it.tag}, limit {it.limit} s" + (", latching" if it.latching else "")
-            count.make(words, functools.partial(office.register, unit, it.tag, it.latching, it.limit))
+            limit = loading.first_limit(it)
+            words = f"{loading.place(it)}register {it.tag}, limit {limit} s" + (", latching" if it.latching else "")
+            count.make(words, functools.partial(office.register, unit, it.tag, it.latching, limit))
     found = compare(office, unit, wanted, latching)
     waiting = Waiting(tally.over(office.changes(unit), "looks at the changes"))
     in_force = sum(it.record is not None for it in wanted) - sum(it.kind is RECORD for it in found.differing)

@@ -8,9 +8,9 @@ import types
 import click
 
 import companions
-from companions import approve, connection, feed, joining, leaving, load, opening, sheets
+from companions import approve, connection, feed, filling, handover, joining, leaving, load, opening, sheets, successor
 
-COMMANDS: tuple[click.Command, ...] = (opening.command, load.command, approve.command, feed.command, joining.command, leaving.command)
+MODULES = (opening, joining, leaving, load, approve, feed, handover, filling, successor)
 
 
 @click.group(context_settings={"help_option_names": ["-h", "--help"], "max_content_width": 140})
@@ -26,8 +26,8 @@ def office() -> None:
     """
 
 
-for it in COMMANDS:
-    office.add_command(it)
+for it in MODULES:
+    office.add_command(it.command)
 
 
 def stop(number: int, frame: types.FrameType | None) -> None:

@@ -86,5 +86,10 @@ def mapping(command: Command) -> Command:
     return click.option("--map", "mapping", type=FILE, help="A TOML file that names the columns.")(command)
 
 
+def backup_of_each(command: Command) -> Command:
+    words = "A folder of backups, or a backup; one for each office."
+    return click.option("--backup", "paths", type=FOLDER, multiple=True, envvar="OFFICE_BACKUP", help=words)(command)
+
+
 def moment_of(text: str | None) -> datetime.datetime | None:
     return None if text is None else values.moment_of(text)
