@@ -8,9 +8,9 @@ import types
 import click
 
 import companions
-from companions import approve, connection, feed, filling, handover, joining, leaving, load, opening, sheets, successor
+from companions import approve, connection, feed, filling, handover, joining, leaving, load, opening, reporting, sheets, successor
 
-MODULES = (opening, joining, leaving, load, approve, feed, handover, filling, successor)
+MODULES = (opening, joining, leaving, load, approve, feed, handover, reporting, filling, successor)
 
 
 @click.group(context_settings={"help_option_names": ["-h", "--help"], "max_content_width": 140})
