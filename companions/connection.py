@@ -15,6 +15,7 @@ import json
 import netrc
 import os
 import pathlib
+import socket
 import ssl
 import time
 import typing
@@ -116,6 +117,13 @@ def pauses() -> collections.abc.Iterator[float]:
         yield PAUSES[-1]
 
 
+def send_at_once(answer: httpx.Response) -> None:
+    """A call goes out as two writes, its fields and its body. Without this the second one waits until the first is acknowledged: 40 ms a call."""
+    stream = answer.extensions.get("network_stream")
+    if stream is not None:
+        stream.get_extra_info("socket").setsockopt(socket.IPPROTO_TCP, socket.TCP_NODELAY, 1)
+
+
 class Connection:
     """One caller's connection to one office, kept between calls."""
 
@@ -130,7 +138,8 @@ class Connection:
         try:
             # nothing of the environment but what is named above: a sign-on goes to no other proxy
             verify: str | bool = (target.authority or True) if parts.scheme == "https" else False
-            self.client = httpx.Client(headers=fields, timeout=TIMES, trust_env=False, verify=verify)
+            hooks = {"response": [send_at_once]}
+            self.client = httpx.Client(headers=fields, timeout=TIMES, trust_env=False, verify=verify, event_hooks=hooks)
         except (OSError, ssl.SSLError) as error:
             raise Trouble(f"the certificates of {target.authority} cannot be read: {error}") from error
 

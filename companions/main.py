@@ -26,7 +26,12 @@ def office() -> None:
     """
 
 
+SIGN_ON = """Sign-on: OFFICE_USER and OFFICE_PASSWORD, or OFFICE_TOKEN, in the environment; or an entry of ~/.netrc (or the file that NETRC names)
+with the proxy's host. For trials --as and --at in place of it."""
+
 for it in MODULES:
+    if any(option.name == "caller" for option in it.command.params):
+        it.command.epilog = SIGN_ON
     office.add_command(it.command)
 
 
@@ -37,7 +42,7 @@ def stop(number: int, frame: types.FrameType | None) -> None:
 def run(words: collections.abc.Sequence[str] | None = None) -> int:
     """Runs a command line, and gives its status."""
     try:
-        status = office.main(words, standalone_mode=False)
+        status = office.main(words, prog_name="office", standalone_mode=False)
         return status if isinstance(status, int) else 0
     except click.ClickException as error:
         error.show()

@@ -7,6 +7,7 @@ import json
 import os
 import pathlib
 import shutil
+import signal
 import socket
 import sqlite3
 import subprocess
@@ -79,7 +80,8 @@ class Plant:
             site = folder / "site"
             site.write_text(site.read_text().replace("8080", str(self.port)).replace("8081", str(self.proxy_port)))
         words = ["nginx", "-c", str(folder / "nginx.conf"), "-e", str(folder / "error.log")]
-        self.proxy = subprocess.Popen(words, env=os.environ | {"TZ": "UTC"})
+        # a session of its own: nginx has a worker, which a kill has to reach, too
+        self.proxy = subprocess.Popen(words, env=os.environ | {"TZ": "UTC"}, start_new_session=True)
         wait_for("the proxy", lambda: listens(self.proxy_port))
 
     def stop_proxy(self) -> None:
@@ -87,6 +89,16 @@ class Plant:
             self.proxy.terminate()
             self.proxy.wait()
             self.proxy = None
+
+    def kill_proxy(self) -> None:
+        if self.proxy is not None:
+            os.killpg(self.proxy.pid, signal.SIGKILL)
+            self.proxy.wait()
+            self.proxy = None
+
+    @property
+    def url(self) -> str:
+        return f"http://127.0.0.1:{self.proxy_port}"
 
     def stop(self) -> None:
         self.stop_proxy()
@@ -126,13 +138,13 @@ class Plant:
         shutil.rmtree(room, ignore_errors=True)
         room.mkdir()
         if self.office is not None:
-            self.office.send_signal(19)
+            self.office.send_signal(signal.SIGSTOP)
             time.sleep(0.05)
         for it in self.folder.glob("plant.db*"):
             if it.name in ("plant.db", "plant.db-wal"):
                 shutil.copy(it, room)
         if self.office is not None:
-            self.office.send_signal(18)
+            self.office.send_signal(signal.SIGCONT)
         return room
 
     def rows(self, text: str) -> list[tuple[typing.Any, ...]]:
