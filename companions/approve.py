@@ -60,6 +60,8 @@ class Unit:
         self.office, self.unit = office, unit
         self.changes = list(tally.over(office.changes(unit), "looks at the changes"))
         self.matrix = changes.matrix_in_force(self.changes)
+        # an alarm without a record has no priority in the list
+        self.recorded = {it.tag for it in office.alarms(unit) if it.priority is not None} if changes.waiting(self.changes) else set()
 
     def shown(self, change: calls.Change) -> Shown:
         content = change.content
@@ -70,7 +72,7 @@ class Unit:
             status = self.office.status(self.unit, tag)
             revision, limit = (status.limit_revision, status.limit) if status else (0, 0)
             return Shown(change, revision, [("limit", f"{limit} s", f"{content} s")])
-        in_force = self.office.record(self.unit, tag)
+        in_force = self.office.record(self.unit, tag) if tag in self.recorded else None
         priority = self.matrix.priority(content.severity, content.response) if self.matrix else "not readable: no matrix was approved as a change"
         before: dict[str, object] = {} if in_force is None else {**in_force.record.members(), "priority": in_force.priority}
         after: dict[str, object] = {**content.members(), "priority": priority or "none: the matrix has no row of this severity"}
@@ -80,6 +82,8 @@ class Unit:
         word = "approve" if state is values.State.Approved else "reject"
         what = f"{word} change {change.number}, {changes.name_of(change)}"
         is_made = count.make(what, functools.partial(self.office.decide, self.unit, change.number, state))
+        if is_made and state is values.State.Approved and change.tag is not None and change.kind is values.Kind.record:
+            self.recorded.add(change.tag)
         if is_made and state is values.State.Approved and isinstance(change.content, matrix.Matrix):
             self.changes = [dataclasses.replace(it, state=state) if it.number == change.number else it for it in self.changes]
             self.matrix = change.content

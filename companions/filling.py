@@ -13,6 +13,7 @@ import rich.table
 from companions import backups, options, pages, values
 
 MONTH = datetime.timedelta(days=30)
+WEEK = datetime.timedelta(days=7)
 DAY = datetime.timedelta(days=1)
 LIMITS = {"alarms": values.MAX_ALARMS, "grants": values.MAX_GRANTS, "changes": values.MAX_CHANGES, "events": values.MAX_EVENTS}
 # where the books have the moments of the rows
@@ -34,14 +35,15 @@ class Level:
 
 
 def level(books: backups.Books, unit: backups.Unit, table: str) -> Level:
-    """The pace is that of the last thirty days before the unit's last change, or of all its days if these are fewer."""
+    """The pace is that of the last thirty days before the unit's last change, or of all its days if these are fewer; of less than a week there is
+    none."""
     count, most, column = books.count(unit.unit, table), LIMITS[table], MOMENTS.get(table)
-    if column is None:
+    first = books.first(unit.unit, table, column) if column else None
+    if column is None or first is None or unit.last - first < WEEK:
         return Level(table, count, most, None, None)
-    first = books.first(unit.unit, table, column)
-    begin = max(unit.last - MONTH, min(first or unit.last, unit.last - DAY))
+    begin = max(unit.last - MONTH, first)
     a_day = books.count_since(unit.unit, table, column, begin) / ((unit.last - begin) / DAY)
-    days = (most - count) / a_day if a_day else None
+    days = (most - count) / a_day if a_day and count < most else None
     full = unit.last + DAY * days if days is not None and days < 36_500 else None
     return Level(table, count, most, round(a_day, 1), full.date() if full else None)
 
@@ -54,7 +56,7 @@ def written(it: Level) -> str:
     text = f"{it.count:,} ({100 * it.share():.0f} %)"
     if it.a_day:
         text += f"\n{it.a_day:,.0f} a day" if it.a_day >= 10 else f"\n{it.a_day:g} a day"
-    return text + (f"\nfull {it.full}" if it.full else "")
+    return text + ("\nFULL" if it.count >= it.most else f"\nfull {it.full}" if it.full else "")
 
 
 def show(found: collections.abc.Mapping[str, list[Level]]) -> None:
@@ -67,14 +69,14 @@ def show(found: collections.abc.Mapping[str, list[Level]]) -> None:
 
 @click.command(name="full")
 @click.argument("backup", type=options.FOLDER)
-@click.option("--warn", type=click.IntRange(0, 100), default=100, show_default=True, help="The percentage from which the status is 1.")
+@click.option("--warn", type=click.IntRange(0, 100), help="The percentage from which the status is 1.  [default: none]")
 @click.option("--json", "as_json", is_flag=True, help="Prints JSON.")
-def command(backup: pathlib.Path, warn: int, as_json: bool) -> int:
+def command(backup: pathlib.Path, warn: int | None, as_json: bool) -> int:
     """Shows how full each unit is, and on which day it will be.
 
     BACKUP is a backup, or a folder of backups, of which the newest is taken; never the file of an office that runs. The pace of events and changes is
-    that of the last thirty days before the unit's last change; of alarms and grants the books have no moments. A full unit stays full: office
-    successor opens the next one.
+    that of the last thirty days before the unit's last change, if they go back for a week; of alarms and grants the books have no moments. A full
+    unit stays full: office successor opens the next one.
 
     Status: 0 shown, 1 a unit is as full as --warn says or the backup cannot be read, 2 the command line is wrong.
     """
@@ -85,4 +87,4 @@ def command(backup: pathlib.Path, warn: int, as_json: bool) -> int:
         else:
             click.echo(f"by the backup of {pages.minute(books.moment())} UTC, {books.path}")
             show(found)
-    return int(any(100 * it.share() >= warn for those in found.values() for it in those))
+    return int(warn is not None and any(100 * it.share() >= warn for those in found.values() for it in those))

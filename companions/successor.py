@@ -19,6 +19,7 @@ from companions import alarms, backups, calls, connection, leaving, load, matrix
 Role = values.Role
 # the limit of an alarm whose limit an approver put into force, until one does so here
 FIRST_LIMIT = 60
+MOST_NAMES = 3
 
 
 @dataclasses.dataclass(frozen=True)
@@ -157,8 +158,7 @@ class Succession:
         needed = [it for it in (Role.Steward, Role.Engineer, Role.Maintainer, Role.Operator) if it not in there]
         if Role.Steward in there and Role.Engineer not in there:
             needed = [it for it in needed if it is not Role.Steward]
-        holders = ((it.name, self.old.holders(it, self.at)) for it in needed)
-        return [f"{role} ({', '.join(those) or 'nobody holds this role'})" for role, those in holders]
+        return [f"{it.name} ({some_of(self.old.holders(it, self.at))})" for it in needed]
 
     def decisions(self) -> collections.abc.Iterator[str]:
         """What no step carries over."""
@@ -184,6 +184,12 @@ class Succession:
         if ended:
             yield f"{tally.plural(len(ended), 'grant')} of {old} that ended are not granted in {to}"
         yield f"send the events of the control system to {to} from now on, and take the roles in {old} once nobody needs it"
+
+
+def some_of(names: collections.abc.Sequence[str]) -> str:
+    """A few of the names."""
+    more = f" and {len(names) - MOST_NAMES} more" if len(names) > MOST_NAMES else ""
+    return ", ".join(names[:MOST_NAMES]) + more if names else "nobody holds this role"
 
 
 @click.command(name="successor")
@@ -219,7 +225,7 @@ def command(backup: pathlib.Path, unit: str, to: str, steward: str | None, dry_r
                 raise connection.Trouble(f"{unit} has no steward but {leaving.NOBODY}: name one with --steward")
             succession.make(roles, stewards[0])
         click.echo(f"by the backup of {pages.minute(old.moment)} UTC")
-        click.echo("next, in this order, this line is typed by: " + ", ".join(succession.next_callers(roles)))
+        click.echo("the others who type this line, in this order: " + ", ".join(succession.next_callers(roles)))
         for it in succession.decisions():
             click.echo(f"to decide: {it}")
     return count.status()

@@ -21,7 +21,7 @@ import urllib.request
 from companions import main
 
 TOP = pathlib.Path(__file__).resolve().parent.parent.parent
-PROGRAM = os.environ.get("PROGRAM", str(TOP / "out/shelfoffice"))
+PROGRAM = os.path.abspath(os.environ.get("PROGRAM") or TOP / "out/shelfoffice")
 DEPLOY = TOP / "examples/deploy"
 MATRIX: dict[str, object] = {"bands": [300], "cells": [["P3", "P4"], ["P1", "P2"]]}
 ROLES = {"eve": "Engineer", "ann": "Operator", "amy": "Approver", "moe": "Maintainer", "vic": "Viewer"}

@@ -107,7 +107,7 @@ def test_it_says_what_is_left_and_does_nothing_twice(plant: Plant) -> None:
     opens = "would: open U2 with the matrix in force, the quota 2000, and ste as its steward"
     assert said[:2] == [opens, "would be done 1, there already 0, refused 0"]
     assert plant.rows("SELECT count(*) FROM units") == [(1,)]
-    assert said[3] == "next, in this order, this line is typed by: Steward (ste), Engineer (eve), Maintainer (moe), Operator (ann)"
+    assert said[3] == "the others who type this line, in this order: Steward (ste), Engineer (eve), Maintainer (moe), Operator (ann)"
     for person in TYPISTS:
         status, said = succeed(plant, person)
     assert [it for it in said if it.startswith("to decide")] == [
@@ -208,7 +208,7 @@ def test_how_full_each_unit_is(plant: Plant) -> None:
     backup = plant.copy("backup")
     said = typed("full", backup)
     assert said.returncode == 0 and f"by the backup of 2026-03-01 10:00 UTC, {backup}" in said.stdout
-    assert "25 (1 %)" in said.stdout and "8 (0 %)" in said.stdout and "full 20" in said.stdout
+    assert "25 (1 %)" in said.stdout and "8 (0 %)" in said.stdout and "full 2045-04-22" in said.stdout
     found = json.loads(typed("full", backup, "--json").stdout)
     assert [(it["what"], it["count"], it["most"]) for it in found["U1"]] == [
         ("alarms", 25, 2000), ("grants", 8, 500), ("changes", 8, 20000), ("events", 2, 100000)]
