@@ -1,4 +1,4 @@
-.PHONY: run build deb check check-companions test conform
+.PHONY: run build deb deb-tools check check-companions test conform
 
 # Runs the example's requests, shows the answers and compares them with the expected ones. Nothing is proved first.
 run:
@@ -11,6 +11,10 @@ build:
 # The Debian package of the program that `make build` left: out/shelfoffice_VERSION_amd64.deb. Needs debhelper.
 deb:
 	packaging/build
+
+# The Debian package of the companions: out/shelfoffice-tools_VERSION_all.deb. Needs debhelper, dh-python and the companions' libraries.
+deb-tools:
+	packaging/build-tools
 
 # In some three minutes all that tests the program that `make build` left; nothing is proved.
 check:
