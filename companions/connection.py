@@ -111,6 +111,12 @@ def of_netrc(path: str, host: str, user: str) -> tuple[str, str]:
     return entry[0], entry[2]
 
 
+def is_safe(url: str) -> bool:
+    """Whether nobody on the network reads what is sent to an address."""
+    parts = urllib.parse.urlsplit(url)
+    return parts.scheme == "https" or parts.hostname in ("localhost", "127.0.0.1", "::1")
+
+
 def pauses() -> collections.abc.Iterator[float]:
     yield from PAUSES
     while True:
@@ -227,12 +233,14 @@ def read_answer(answer: httpx.Response, method: str, path: str) -> str | Missing
         return Missing(Doubt.not_made, "the unit is being moved to another office (503)", waiting_time(answer))
     if status in (502, 504):
         return Missing(Doubt.may_be_made, f"the office is away or too slow ({status})")
+    if status == 500:
+        return Missing(Doubt.not_made, "the proxy cannot ask who signs on (500): its directory is away")
     if status in (401, 403):
         why = "name or password is wrong" if status == 401 else "the proxy knows no person of this sign-on name, or takes no calls from here"
         raise SignOn(f"the proxy answers {status}: {why}")
     if status == 413:
         raise Trouble(f"{method} {path}: the body is too large for the proxy (413)")
-    raise Trouble(f"{method} {path}: answered {status}, which no office says" + (": is its directory away?" if status == 500 else ""))
+    raise Trouble(f"{method} {path}: answered {status}, which no office says")
 
 
 def json_body(members: collections.abc.Mapping[str, object]) -> bytes:

@@ -47,17 +47,25 @@ class Feeding:
                 found = self.office.import_events(self.unit, piece.body())
                 return new + found[0], repeated + found[1]
             except connection.Refusal as refusal:
+                if refusal.name == "MomentBehind" and self.may_wait(until):
+                    # the clock that the office is given is behind that of its last change, for seconds as a rule
+                    time.sleep(self.every)
+                    continue
                 record = self.record_ahead(piece, refusal)
                 before, rest = piece.split(record)
                 if before.rows:
                     found = self.office.import_events(self.unit, before.body())
                     new, repeated = new + found[0], repeated + found[1]
                     until = time.monotonic() + self.longest_wait
-                elif time.monotonic() > until or self.office.link.target.moment is not None:
+                elif not self.may_wait(until):
                     raise Bad(piece.line(record), "MomentAhead", refusal.line) from refusal
                 piece = rest
                 self.wait_for(piece.rows[0])
         return new, repeated
+
+    def may_wait(self, until: float) -> bool:
+        """Whether the office's clock goes on, and may still be waited for."""
+        return self.office.link.target.moment is None and time.monotonic() <= until
 
     def record_ahead(self, piece: events.Piece, refusal: connection.Refusal) -> int:
         """The first record that is ahead of the clock; any other fault of a file is raised."""
@@ -104,6 +112,8 @@ class Feeding:
                     self.import_rows(rows, path.name)
         except events.BadHeader as error:
             raise Bad(1, "Header", str(error)) from error
+        except FileNotFoundError:
+            click.echo(f"{path.name} is there no longer", err=True)
         except OSError as error:
             raise connection.Trouble(f"{path}: {error.strerror}") from error
 
@@ -120,7 +130,7 @@ class Feeding:
                 if not self.count.is_dry:
                     set_aside(path, str(error))
             else:
-                if not self.count.is_dry:
+                if not self.count.is_dry and path.exists():
                     path.rename(place_in(folder / DONE, name))
 
     def follow_spool(self, folder: pathlib.Path) -> typing.NoReturn:

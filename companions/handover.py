@@ -116,14 +116,15 @@ def page_of(office: calls.Office, units: collections.abc.Sequence[str], hours: i
 def text_of(page: Page, form: str) -> str:
     if form == "json":
         return pages.json_text(page)
-    return pages.render(f"handover.{form}", {"page": page, "chart": charts.of_floods, "line": charts.line_of_floods})
+    template = "handover.html" if form == "html" else "handover.txt"
+    return pages.render(template, {"page": page, "chart": charts.of_floods, "line": charts.line_of_floods})
 
 
 @click.command(name="handover")
 @click.option("--units", type=options.Units(), default="all", help="The units with commas.  [default: all in which you hold a role]")
 @click.option("--hours", type=HOURS, default=8, show_default=True, help="How long the shift was that ends.")
 @options.backup_of_each
-@click.option("--format", "form", type=click.Choice(["txt", "html", "json"]), default="txt", show_default=True, help="HTML prints on A4.")
+@click.option("--format", "form", type=click.Choice(["text", "html", "json"]), default="text", show_default=True, help="HTML prints on A4.")
 @click.option("--out", type=click.Path(dir_okay=False, path_type=pathlib.Path), help="The file to write.  [default: standard output]")
 @options.connected
 def command(

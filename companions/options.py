@@ -60,6 +60,8 @@ def office_of(url: str | None, caller: str | None, at: str | None, ca: str | Non
     if at is not None and caller is None:
         raise click.UsageError("--at is for trials, with --as")
     default = connection.PROXY if caller is None else connection.PORT
+    if caller is None and not connection.is_safe(url or os.environ.get("OFFICE_URL") or default):
+        click.echo("office: the sign-on goes over the network as it is: use https", err=True)
     target = connection.Target(url or os.environ.get("OFFICE_URL") or default, caller, None if at == "now" else at, ca, patience)
     return calls.Office(target, tuple(it.strip() for it in offices.split(",")) if offices else ())
 

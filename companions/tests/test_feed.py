@@ -196,6 +196,16 @@ def test_it_waits_until_the_offices_clock_has_passed_a_moment(plant: Plant) -> N
     assert "refused: b.csv: line 2: MomentAhead" in said.stdout
 
 
+def test_it_waits_where_the_clock_is_behind_the_units_last_change(plant: Plant) -> None:
+    ahead = time.strftime("%Y-%m-%dT%H:%M:%SZ", time.gmtime(time.time() + 3))
+    assert plant.call("ann", ahead, "/units/U1/alarms/A/one-shot-shelve", {"words": "ahead"}) == {"done": True}
+    folder = spool(plant, a=HEADER + line(1))
+    said = typed("feed", folder, "--unit", "U1", "--every", "0.2", "--longest-wait", "0", *plant.words("ann", "now"))
+    assert said.returncode == 1 and "MomentBehind" in said.stdout and names(folder) == ["a.csv"]
+    said = typed("feed", folder, "--unit", "U1", "--every", "0.2", *plant.words("ann", "now"))
+    assert said.returncode == 0 and names(folder) == ["done/a.csv"]
+
+
 @contextlib.contextmanager
 def following(*words: object) -> collections.abc.Iterator["subprocess.Popen[str]"]:
     process = subprocess.Popen(plants.command("feed", *words), stdout=subprocess.PIPE, stderr=subprocess.STDOUT, text=True)

@@ -11,7 +11,7 @@ import time
 
 import pytest
 
-from companions.tests import plant as plants
+from companions.tests import measure, plant as plants
 from companions.tests.plant import Plant, office as typed
 
 # moments differ from run to run
@@ -159,14 +159,10 @@ def test_successor(two: tuple[Plant, Plant], tmp_path: pathlib.Path) -> None:
     assert two[1].rows("SELECT count(*) FROM changes WHERE unit = 'U2'") == [(41,)]
 
 
-def test_2000_alarms_with_records_in_two_minutes(office: Plant) -> None:
-    office.open("U1")
-    office.start_proxy()
-    file = office.folder / "alarms.csv"
-    file.write_text(HEADER + "".join(f"A-{it},no,3600,cause,effect,act,2,{1 + it}\n" for it in range(2_000)))
-    begin = time.monotonic()
-    clean(office, "eve", "load", file, "--unit", "U1")
-    took = time.monotonic() - begin
-    print(f"2,000 alarms with records through the proxy: {took:.1f} s")
-    assert took < 120
-    assert office.rows("SELECT (SELECT count(*) FROM alarms), (SELECT count(*) FROM changes)") == [(2_000, 2_000)]
+def test_2000_alarms_with_records_in_two_minutes(tmp_path: pathlib.Path) -> None:
+    assert measure.measure_load(tmp_path / "load") < 120
+
+
+def test_a_feed_takes_at_most_twice_the_offices_own_time(tmp_path: pathlib.Path) -> None:
+    own, fed = measure.measure_events(tmp_path, 100_000)
+    assert fed < 2 * own + 1, (own, fed)
