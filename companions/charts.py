@@ -36,17 +36,17 @@ def bars(found: collections.abc.Sequence[Bar], marks: collections.abc.Sequence[M
     room, foot = WIDTH - MARGIN, HEIGHT - FOOT
     parts = [
         f'<svg viewBox="0 0 {WIDTH} {HEIGHT}" role="img" aria-label="{markupsafe.escape(title)}" xmlns="http://www.w3.org/2000/svg">',
-        f'<line class="axis" x1="{MARGIN}" y1="{foot}" x2="{WIDTH}" y2="{foot}"/>',
+        f'<line class="axis" stroke="#555" x1="{MARGIN}" y1="{foot}" x2="{WIDTH}" y2="{foot}"/>',
         f'<text x="{MARGIN - 4}" y="12" text-anchor="end">{top:g}</text><text x="{MARGIN - 4}" y="{foot}" text-anchor="end">0</text>',
     ]
     for it in found:
         high = (foot - 6) * it.height / top
         left, width = MARGIN + room * it.begin, max(room * (it.end - it.begin) - 1, 1)
         place = f'x="{left:.1f}" y="{foot - high:.1f}" width="{width:.1f}" height="{high:.1f}"'
-        parts.append(f'<rect class="bar" {place}><title>{markupsafe.escape(it.words)}</title></rect>')
+        parts.append(f'<rect class="bar" fill="#2b5d8a" {place}><title>{markupsafe.escape(it.words)}</title></rect>')
     for mark in marks:
         at = MARGIN + room * mark.at
-        parts.append(f'<line class="axis" x1="{at:.1f}" y1="{foot}" x2="{at:.1f}" y2="{foot + 3}"/>')
+        parts.append(f'<line class="axis" stroke="#555" x1="{at:.1f}" y1="{foot}" x2="{at:.1f}" y2="{foot + 3}"/>')
         parts.append(f'<text x="{at:.1f}" y="{HEIGHT - 2}" text-anchor="middle">{markupsafe.escape(mark.words)}</text>')
     return markupsafe.Markup("\n".join([*parts, "</svg>"]))
 
