@@ -104,6 +104,18 @@ def test_one_by_one_of_one_proposer_and_kind(plant: Plant) -> None:
     assert states(plant) == [2, 1, 3, 1, 1, 1, 2, 1]
 
 
+def test_all_that_are_shown_are_rejected(plant: Plant) -> None:
+    propose(plant, RECORD)
+    propose(plant, {"kind": "limit", "base": 0, "tag": "B", "max": 60})
+    assert approve(plant, stdin="r\n")[1].endswith("done 2, there already 0, refused 0\n") and states(plant) == [3, 3]
+    propose(plant, RECORD)
+    assert approve(plant, "--all", "reject")[0] == 0 and states(plant) == [3, 3, 3]
+    assert approve(plant, person="ann", stdin="a\n")[0] == 0
+    propose(plant, RECORD)
+    status, said = approve(plant, "--all", "approve", person="ann")
+    assert status == 1 and "RoleLacking" in said and states(plant) == [3, 3, 3, 1]
+
+
 def test_nobody_decides_their_own(plant: Plant) -> None:
     plant.call("ste", AT, "/units/U1/grants", {"person": "eve", "role": "Approver"})
     propose(plant, RECORD)

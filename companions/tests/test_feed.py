@@ -253,6 +253,21 @@ def test_a_growing_file_is_followed_and_its_successor(plant: Plant) -> None:
     assert path.read_text().endswith("x\n")
 
 
+def test_a_growing_file_is_followed_through_kills(plant: Plant) -> None:
+    path = plant.folder / "events.csv"
+    path.write_text(HEADER)
+    chosen, rows = random.Random(4), [line(it, tag=TAGS[it % 3], second=it // 20) for it in range(1, 6_001)]
+    for begin in range(0, 6_000, 1_000):
+        with following(path, "--unit", "U1", "--follow", "--every", "0.05", *plant.words("ann")):
+            for at in range(begin, begin + 1_000, 100):
+                with path.open("a") as growing:
+                    growing.write("".join(rows[at : at + 100]))
+                time.sleep(0.15 * chosen.random())
+            if begin == 5_000:
+                plants.wait_for("all rows", lambda: count(plant) == 6_000)
+    assert plant.rows("SELECT count(*), min(seq), max(seq) FROM events") == [(6_000, 1, 6_000)]
+
+
 def test_a_full_unit_is_named(plant: Plant) -> None:
     rows = [line(it, second=it // 20) for it in range(1, 100_001)]
     folder = spool(plant, **{f"f{it:02}": HEADER + "".join(rows[it * 20_000 : (it + 1) * 20_000]) for it in range(5)})

@@ -5,6 +5,7 @@ import json
 import random
 import signal
 import subprocess
+import sys
 import typing
 
 import pytest
@@ -232,6 +233,28 @@ def test_the_newest_of_a_folder_of_backups_is_read_if_it_is_whole(plant: Plant) 
     said = typed("full", folder)
     assert said.returncode == 1 and "plant.db-wal is not what was backed up: take another backup" in said.stdout
     assert typed("full", folder / "20260301T030000Z").returncode == 0
+
+
+HOLD = """
+import fcntl, sys, time
+file = open(sys.argv[1], "r+b")
+fcntl.lockf(file, fcntl.LOCK_EX, 510, 0x40000002)
+print("held", flush=True)
+time.sleep(60)
+"""
+
+
+def test_a_file_that_is_locked_is_not_read(plant: Plant) -> None:
+    backup = plant.copy("backup")
+    holder = subprocess.Popen([sys.executable, "-c", HOLD, backup / "plant.db"], stdout=subprocess.PIPE, text=True)
+    try:
+        assert holder.stdout is not None and holder.stdout.readline() == "held\n"
+        said = typed("full", backup)
+        assert said.returncode == 1 and "is open in an office: name a backup of it" in said.stdout
+    finally:
+        holder.kill()
+        holder.wait()
+    assert typed("full", backup).returncode == 0
 
 
 def test_matrix_is_that_of_the_opening_if_none_was_approved(office: Plant) -> None:
