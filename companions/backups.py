@@ -229,21 +229,30 @@ def is_open_elsewhere(file: pathlib.Path) -> bool:
     return False
 
 
-@contextlib.contextmanager
-def opened(path: pathlib.Path) -> collections.abc.Iterator[Books]:
-    backup = newest_in(path)
+def copied(backup: pathlib.Path, room: pathlib.Path) -> pathlib.Path:
+    """A copy of a backup's files in a room, which SQLite may change. Gives the file of the books."""
     try:
         files = files_of(backup)
         if is_open_elsewhere(files[0]):
             raise connection.Trouble(f"{files[0]} is open in an office: name a backup of it")
-        with tempfile.TemporaryDirectory(prefix="office-") as room:
-            for it in files:
-                shutil.copyfile(it, pathlib.Path(room, it.name))
-            with contextlib.closing(sqlite3.connect(pathlib.Path(room, files[0].name))) as rows:
+        for it in files:
+            shutil.copyfile(it, room / it.name)
+        return room / files[0].name
+    except OSError as error:
+        raise connection.Trouble(f"{backup} cannot be read: {error}") from error
+
+
+@contextlib.contextmanager
+def opened(path: pathlib.Path) -> collections.abc.Iterator[Books]:
+    """The books of a backup, or of the newest in a folder of backups."""
+    backup = newest_in(path)
+    with tempfile.TemporaryDirectory(prefix="office-") as room:
+        with contextlib.closing(sqlite3.connect(copied(backup, pathlib.Path(room)))) as rows:
+            try:
                 check_schema(rows, backup)
                 yield Books(rows, backup)
-    except (OSError, sqlite3.DatabaseError) as error:
-        raise connection.Trouble(f"{backup} cannot be read: {error}") from error
+            except sqlite3.DatabaseError as error:
+                raise connection.Trouble(f"{backup} cannot be read: {error}") from error
 
 
 def check_schema(rows: sqlite3.Connection, path: pathlib.Path) -> None:

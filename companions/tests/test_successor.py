@@ -235,6 +235,19 @@ def test_the_newest_of_a_folder_of_backups_is_read_if_it_is_whole(plant: Plant) 
     assert typed("full", folder / "20260301T030000Z").returncode == 0
 
 
+def test_what_the_offices_own_backup_makes_is_read(plant: Plant) -> None:
+    folder = plant.folder / "backups"
+    folder.mkdir()
+    assert plant.office is not None
+    words = [plants.DEPLOY / "backup", "--pid", str(plant.office.pid), "--file", plant.file, folder]
+    made = subprocess.run(words, capture_output=True, text=True, check=True).stdout.splitlines()[0]
+    said = typed("full", folder)
+    assert said.returncode == 0 and made in said.stdout and "25 (1 %)" in said.stdout, said.stdout
+    # of what was called since the backup knows nothing
+    plant.register("U1", "LATE", moment=LATER)
+    assert "25 (1 %)" in typed("full", folder).stdout
+
+
 HOLD = """
 import fcntl, sys, time
 file = open(sys.argv[1], "r+b")
