@@ -239,7 +239,7 @@ def test_what_the_offices_own_backup_makes_is_read(plant: Plant) -> None:
     folder = plant.folder / "backups"
     folder.mkdir()
     assert plant.office is not None
-    words = [plants.DEPLOY / "backup", "--pid", str(plant.office.pid), "--file", plant.file, folder]
+    words = [str(it) for it in (plants.DEPLOY / "backup", "--pid", plant.office.pid, "--file", plant.file, folder)]
     made = subprocess.run(words, capture_output=True, text=True, check=True).stdout.splitlines()[0]
     said = typed("full", folder)
     assert said.returncode == 0 and made in said.stdout and "25 (1 %)" in said.stdout, said.stdout
