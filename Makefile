@@ -1,4 +1,4 @@
-.PHONY: run build deb check test conform
+.PHONY: run build deb deb-tools check check-companions test conform
 
 # Runs the example's requests, shows the answers and compares them with the expected ones. Nothing is proved first.
 run:
@@ -12,6 +12,10 @@ build:
 deb:
 	packaging/build
 
+# The Debian package of the companions: out/shelfoffice-tools_VERSION_all.deb. Needs debhelper, dh-python and the companions' libraries.
+deb-tools:
+	packaging/build-tools
+
 # In some three minutes all that tests the program that `make build` left; nothing is proved.
 check:
 	scripts/check-schema
@@ -21,6 +25,10 @@ check:
 	scripts/try-commands out/shelfoffice
 	scripts/type-docs
 	scripts/conform --seed 1 out/shelfoffice
+
+# In some five minutes the companions, on the program that `make build` left: style, types, tests, and the lines of their page.
+check-companions:
+	companions/check
 
 # The gate: the schema in examples/, the lists in docs/WORKED.md and what the pages name, then every proof, the must-fail edits, the tests,
 # and the programs, and the proved program on the commands and the worked examples. A toolchain that has rt ci --anew does not do again

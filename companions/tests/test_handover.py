@@ -1,0 +1,150 @@
+"""`office handover` against the program."""
+
+import html.parser
+import json
+
+import pytest
+
+from companions.tests.plant import Plant, office as typed
+
+AT = "2026-03-01T10:00:00Z"
+RECORD = {"kind": "record", "base": 0, "tag": "B", "cause": "seal <leak>", "consequence": "loss", "action": "close", "severity": 2, "response": 120}
+
+
+@pytest.fixture
+def plant(office: Plant) -> Plant:
+    """A shift with a flood, shelves, alarms out of service and suppressed, proposals, and a grant that ends."""
+    office.open("U1", "U2", moment="2026-03-01T02:00:00Z")
+    tags = ["A", "B", "C", "D", *(f"F{it}" for it in range(12))]
+    office.register("U1", *tags, moment="2026-03-01T02:00:00Z")
+    rows = [f"{it + 1},2026-03-01T04:0{it // 2}:00Z,F{it},ACT" for it in range(12)]
+    rows += [f"{it + 21},2026-03-01T05:0{it // 2}:00Z,F{it},RTN" for it in range(12)]
+    rows += ["41,2026-03-01T06:00:00Z,A,ACT", "42,2026-03-01T06:30:00Z,B,ACT", "43,2026-03-01T06:40:00Z,C,SUP"]
+    assert office.call("ann", "2026-03-01T07:00:00Z", "/units/U1/imports", "seq,moment,tag,event\n" + "\n".join(rows))["new"] == 27
+    assert office.call("eve", "2026-03-01T08:00:00Z", "/units/U1/changes", RECORD) == {"number": 1}
+    assert office.call("amy", "2026-03-01T08:00:00Z", "/units/U1/changes/1/approve", {}) == {"done": True}
+    assert office.call("eve", "2026-03-01T08:00:00Z", "/units/U1/changes", {"kind": "limit", "base": 0, "tag": "A", "max": 60}) == {"number": 2}
+    office.call("moe", "2026-03-01T08:10:00Z", "/units/U1/alarms/C/remove-from-service", {"words": "valve & cable"})
+    office.call("ste", "2026-03-01T08:20:00Z", "/units/U1/grants", {"person": "con", "role": "Viewer", "end": "2026-03-05T12:00:00Z"})
+    office.call("ste", "2026-03-01T08:20:00Z", "/units/U1/grants", {"person": "far", "role": "Viewer", "end": "2026-04-05T12:00:00Z"})
+    office.call("ann", "2026-03-01T09:30:00Z", "/units/U1/alarms/A/timed-shelve", {"seconds": 3600, "words": "pump <test>"})
+    return office
+
+
+def handover(plant: Plant, *words: object) -> str:
+    said = typed("handover", *words, *plant.words("vic", AT))
+    assert said.returncode == 0, said.stdout
+    return said.stdout
+
+
+def test_the_page_as_text(plant: Plant) -> None:
+    backup = plant.copy("20260301T082500Z")
+    plant.call("moe", "2026-03-01T09:40:00Z", "/units/U1/alarms/D/remove-from-service", {"words": "after the backup"})
+    plant.call("eve", "2026-03-01T09:40:00Z", "/units/U1/changes", {"kind": "limit", "base": 0, "tag": "B", "max": 60})
+    said = handover(plant, "--units", "U1,U2", "--backup", backup)
+    first, second = said.split("==== U2 ====")
+    assert first == """\
+HANDOVER OF U1, U2 AT 2026-03-01 10:00 UTC, written for vic
+The shift from 2026-03-01 02:00 to 2026-03-01 10:00
+
+==== U1 ====
+
+Shelved: 1
+  A                        timed    until 2026-03-01 10:30 by ann: pump <test>
+Suppressed by design: 1
+  C
+Out of service: 2
+  C                        -  since 2026-03-01 08:10 by moe: valve & cable
+  D                        -  not in the backup
+Standing: 2
+  P1 B                        Unacknowledged since 2026-03-01 06:30, 3 h 30 min
+  -  A                        Unacknowledged since 2026-03-01 06:00, 4 h, shelved
+Floods of the shift: 1
+  ············█···································
+  2026-03-01 04:00 to 2026-03-01 04:10: 12 activations, 12 in the worst ten minutes
+Proposals that wait: 2
+      2 limit of A: 60 s, by eve since 2026-03-01 08:00
+      3 limit of B: 60 s, by eve since 2026-03-01 09:40
+Grants that end within a week: 1
+  con                              Viewer     ends 2026-03-05 12:00
+Who took an alarm out of service and when grants end: by the backup of 2026-03-01 08:25
+
+"""
+    assert "Shelved: 0" in second and "Standing: 0" in second and "Proposals that wait: 0" in second
+
+
+def test_without_a_backup_the_page_says_what_is_not_known(plant: Plant) -> None:
+    said = handover(plant, "--units", "U1")
+    assert "not in the backup" in said and "Grants that end within a week: not known without a backup" in said
+    assert "      2 limit of A: 60 s, by eve since 2026-03-01 08:00" in said
+
+
+class Tags(html.parser.HTMLParser):
+    """Sees that each tag is closed, and collects the text."""
+
+    def __init__(self, text: str) -> None:
+        super().__init__()
+        self.open_tags: list[str] = []
+        self.texts: list[str] = []
+        self.feed(text)
+        self.close()
+
+    def handle_starttag(self, tag: str, attrs: list[tuple[str, str | None]]) -> None:
+        if tag not in ("meta", "line", "br"):
+            self.open_tags.append(tag)
+
+    def handle_startendtag(self, tag: str, attrs: list[tuple[str, str | None]]) -> None:
+        pass
+
+    def handle_endtag(self, tag: str) -> None:
+        assert self.open_tags.pop() == tag
+
+    def handle_data(self, data: str) -> None:
+        self.texts.append(data)
+
+
+def test_the_page_as_html(plant: Plant) -> None:
+    out = plant.folder / "page.html"
+    assert handover(plant, "--backup", plant.copy("backup"), "--format", "html", "--out", out) == ""
+    page = Tags(out.read_text())
+    assert page.open_tags == []
+    texts = {it.strip() for it in page.texts}
+    assert {"pump <test>", "valve & cable", "Handover of U1, U2", "con", "12"} <= texts
+    text = out.read_text()
+    assert "size: A4" in text and text.count("<svg") == 1 and text.count('class="bar"') == 1
+    assert "http" not in text.replace("http://www.w3.org/2000/svg", "")
+
+
+def test_the_page_as_json(plant: Plant) -> None:
+    page = json.loads(handover(plant, "--units", "U1", "--format", "json", "--backup", plant.copy("backup")))
+    unit = page["units"][0]
+    assert (page["at"], page["begin"], page["until"]) == (AT, "2026-03-01T02:00:00Z", AT)
+    assert [(it["tag"], it["until"]) for it in unit["shelved"]] == [("A", "2026-03-01T10:30:00Z")]
+    assert unit["ending"] == [{"person": "con", "role": "Viewer", "end": "2026-03-05T12:00:00Z"}]
+    assert [it["priority"] for it in unit["standing"]] == ["P1", None]
+    assert unit["floods"] == [{"start": "2026-03-01T04:00:00Z", "until": "2026-03-01T04:10:00Z", "total": 12, "peak": 12}]
+
+
+def test_a_unit_without_a_role_is_refused(plant: Plant) -> None:
+    said = typed("handover", "--units", "U9", *plant.words("vic", AT))
+    assert said.returncode == 1 and "NotGranted" in said.stdout
+    said = typed("handover", *plant.words("nobody", AT))
+    assert said.returncode == 1 and "you hold a role in no unit" in said.stdout
+
+
+@pytest.mark.parametrize("content, words", [
+    (b"", "is not a backup: it has 0 files of books"),
+    (b"SQLite format 3\0 and no more", "cannot be read"),
+])
+def test_what_is_no_backup_is_refused(plant: Plant, content: bytes, words: str) -> None:
+    folder = plant.folder / "other"
+    folder.mkdir()
+    (folder / "plant.db").write_bytes(content)
+    said = typed("handover", "--backup", folder, *plant.words("vic", AT))
+    assert said.returncode == 1 and words in said.stdout, said.stdout
+
+
+def test_the_running_file_is_refused(plant: Plant) -> None:
+    for path in plant.file, plant.file.parent:
+        said = typed("handover", "--backup", path, *plant.words("vic", AT))
+        assert said.returncode == 1 and "is open in an office: name a backup of it" in said.stdout, said.stdout
