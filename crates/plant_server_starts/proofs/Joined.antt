@@ -6,9 +6,9 @@ use Rattle.sqlite_store.specs.{declared.store.FileStore.{FileStore}}
 use Rattle.sqlite_wal.specs.Recovery.{Image}
 use Rattle.plant_model.specs.{Verdicts.{changes_history}, Worlds.{World, answer_at, next, next_at, unit_named, with_call}, declared.{call.Call.{Call}, reply.Answer.{Answer}}}
 use Rattle.plant_office.specs.{Lives.{Life}, Outcomes.{after_calls}}
-use Rattle.plant_server.specs.{Crashes.{HoldOutcome, LeavesOutcomes}, OverFiles.{LeavesAfter}, declared.remains.Left.{Left}}
+use Rattle.plant_server.specs.{Crashes.{HoldOutcome, LeavesOutcomes}, OverFiles.{HoldRows, LeavesAfter}, declared.remains.Left.{Left}}
 use Rattle.plant_server.specs.declared.remains.Left.TheVariants as left
-use Rattle.plant_server_starts.specs.Starts.{AreOneRun, AreStarts, HoldRows, MayFind, StartsAreOneRun, in_all}
+use Rattle.plant_server_starts.specs.Starts.{AreOneRun, AreStarts, MayFind, StartsAreOneRun, in_all}
 use Rattle.plant_types.specs.Names.{Name}
 
 -- calls leave the administrator
