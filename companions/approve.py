@@ -13,8 +13,6 @@ import rich.text
 
 from companions import calls, changes, matrix, options, tally, values
 
-WIDTH = 140
-
 
 @dataclasses.dataclass(frozen=True)
 class Shown:
@@ -30,6 +28,12 @@ class Shown:
         return f"change {it.number}: {changes.name_of(it)}, by {it.proposer} at {values.text_of(it.proposed)}, for revision {it.base}{late}"
 
     def show(self, console: rich.console.Console) -> None:
+        """As a table where somebody looks at it; elsewhere as lines, which are written faster."""
+        if not console.is_terminal:
+            wide = max(len(before) for _, before, _ in self.lines)
+            rows = (f"  {name:<12} {before:<{wide}} -> {after}" for name, before, after in self.lines)
+            click.echo("\n".join((self.title(), *rows)))
+            return
         console.print(self.title(), markup=False, highlight=False)
         table = rich.table.Table("", "in force", "proposed", box=rich.box.SIMPLE_HEAD, pad_edge=True, show_edge=False)
         for name, before, after in self.lines:
@@ -118,7 +122,7 @@ def command(unit: str, proposer: str | None, kind: str | None, whole: str | None
 
     Status: 0 done, 1 refused, 2 the command line is wrong, 3 the office cannot be reached.
     """
-    console = rich.console.Console(width=None if click.get_text_stream("stdout").isatty() else WIDTH)
+    console = rich.console.Console()
     with options.office_of(**words) as office, tally.Tally(dry_run) as count:
         person = office.caller()[0]
         found = Unit(office, unit)

@@ -1,7 +1,11 @@
 """`office open` and `office approve` against the program."""
 
-import pytest
+import io
 
+import pytest
+import rich.console
+
+from companions import approve as approve_command, calls, values
 from companions.tests.plant import MATRIX, Plant, office as typed
 
 TOML = 'bands = [300]\ncells = [["P3", "P4"], ["P1", "P2"]]\n'
@@ -84,7 +88,7 @@ def test_all_that_are_shown_are_approved(plant: Plant) -> None:
     propose(plant, RECORD | {"base": 1, "response": 600})
     said = approve(plant, stdin="q\n")[1]
     priorities = next(it.split() for it in said.splitlines() if it.split()[:1] == ["priority"])
-    assert priorities == ["priority", "P1", "P2"]
+    assert priorities == ["priority", "P1", "->", "P2"]
 
 
 def test_one_by_one_of_one_proposer_and_kind(plant: Plant) -> None:
@@ -102,6 +106,17 @@ def test_one_by_one_of_one_proposer_and_kind(plant: Plant) -> None:
     assert "OUT OF DATE: revision 1 is in force" in said
     assert status == 1 and 'BaseChanged: {"name":"BaseChanged","refused":21,"value":1}' in said
     assert states(plant) == [2, 1, 3, 1, 1, 1, 2, 1]
+
+
+def test_on_a_terminal_a_proposal_is_a_table() -> None:
+    moment = values.moment_of(AT)
+    change = calls.Change(7, values.Kind.limit, "A", 0, values.State.Proposed, "eve", moment, None, None, 60)
+    written = io.StringIO()
+    console = rich.console.Console(file=written, force_terminal=True, width=200, color_system=None)
+    approve_command.Shown(change, 1, [("limit", "3600 s", "60 s [new]")]).show(console)
+    title, head, rule, row = (it.split() for it in written.getvalue().splitlines())
+    assert title[:5] == ["change", "7:", "limit", "of", "A,"] and "OUT" in title
+    assert head == ["in", "force", "proposed"] and row == ["limit", "3600", "s", "60", "s", "[new]"]
 
 
 def test_all_that_are_shown_are_rejected(plant: Plant) -> None:
