@@ -71,15 +71,18 @@ def machine(folder):
 
 
 def hash_of(command):
-    """The hash of the program that a command starts: its last word that is an executable file."""
+    """The hash of the program that a command starts, its last word that is an executable file, if any is."""
     files = [it for it in map(pathlib.Path, shlex.split(str(command))) if it.is_file() and os.access(it, os.X_OK)]
-    return hashlib.sha256(files[-1].read_bytes()).hexdigest()[:16] if files else "?"
+    return hashlib.sha256(files[-1].read_bytes()).hexdigest()[:16] if files else None
 
 
 def run_now(programs, folder=None):
     """Of what a run is that begins now; `programs` are commands by name. It ends here if the crates have changes."""
     if changed := output_of("git", "status", "--porcelain", "--", "crates"):
         sys.exit(f"bench: commit or put away the changes of crates first\n{changed}")
+    hashes = {name: hash_of(command) for name, command in programs.items()}
+    if lacking := [str(programs[name]) for name, it in hashes.items() if it is None]:
+        sys.exit(f"bench: there is no program {', '.join(lacking)} (make build)")
     load = os.getloadavg()[0]
     if load > QUIET:
         print(f"bench: the load is {load:.1f}: times will say little", file=sys.stderr)
@@ -89,7 +92,7 @@ def run_now(programs, folder=None):
         "date": f"{datetime.date.today():%Y-%m-%d}",
         "machine": machine(folder),
         "load": round(load, 1),
-        "programs": {name: hash_of(command) for name, command in programs.items()},
+        "programs": hashes,
     }
 
 
@@ -115,3 +118,12 @@ def add_options(parser):
     """Options of all scripts that write their results."""
     parser.add_argument("--write", action="store_true", help="keep what was measured, and write docs/PERFORMANCE.md anew")
     parser.add_argument("--results", type=pathlib.Path, default=RESULTS, metavar="FOLDER", help="where --write keeps it; default bench/results")
+
+
+def check_options(parser, words, *whole):
+    """Ends here if --write has no --folder, or if bench/results would be of less than a whole run: of one whose options of these names differ from
+    their defaults."""
+    if words.write and not words.folder:
+        parser.error("--write needs a --folder on a disk")
+    if words.write and words.results.resolve() == RESULTS and any(getattr(words, it) != parser.get_default(it) for it in whole):
+        parser.error("bench/results is of whole runs: give --results FOLDER too")
