@@ -51,8 +51,9 @@ pub fn shelved_alarms(
     // Gives the proof the order of the alarms; checks nothing at run time.
     let _alarms = alarms.as_slice();
     let mut found = List::new(alloc);
+    let mut next = 0;
     for shelf in shelves.as_slice() {
-        if let Some(alarm) = alarms.get(&shelf.tag) {
+        if let Some(alarm) = alarms.get_next(&mut next, &shelf.tag) {
             found.push(alarm.copy(alloc)?)?;
         }
     }

@@ -89,6 +89,7 @@ module _ (ran also : List Call → List Answer → Type 0)
     result = is.result;
     sent = sent ran also follows s.written s.written_after is.sent;
     status = is.status;
+    said = is.said;
     shut = λ e. ((is.shut e).0, loses (is.shut e).1);
   }
 

@@ -5,9 +5,9 @@ use Rattle.sqlite_disk.specs.declared.Disk.{Ghosts}
 use Rattle.sqlite_store.specs.{FileStore.{view}, declared.store.FileStore.{FileStore}}
 use Rattle.sqlite_trees.specs.View.{IsClean}
 use Rattle.plant_server_options.specs.declared.words.Service.{Service}
-use Rattle.plant_model.specs.{Worlds.{World}, declared.{call.Call.{Call}, reply.Answer.{Answer}}}
-use Rattle.plant_office.specs.Enduring.{AreAfter, BooksState, HoldsWorld}
-use Rattle.plant_server.specs.{Crashes.{LeavesOutcomes}, OverFiles.{AreServed, IsCleanAfter, IsHonestAfter, LeavesAfter, RanOnFiles, closing_text}, declared.remains.Left.{Left}}
+use Rattle.plant_model.specs.{Worlds.{World, empty_world}, declared.{call.Call.{Call}, reply.Answer.{Answer}}}
+use Rattle.plant_office.specs.{Enduring.{AreAfter, BooksState, HoldsWorld}, Failures.{AreAnsweredBeforeFailure}}
+use Rattle.plant_server.specs.{Crashes.{LeavesOutcomes}, OverFiles.{AreAnsweredBy, AreServed, IsCleanAfter, IsHonestAfter, LeavesAfter, RanOnFiles, closing_text}, declared.remains.Left.{Left}}
 use Rattle.plant_server.specs.{Services.{HasServed}, Statuses.{no_rows_text}, Streams.{Bytes, IsSaid, Streams, within}, declared.statuses.ExitStatus.{ExitStatus}}
 use Rattle.plant_server.specs.declared.remains.Left.TheVariants as left
 use Rattle.plant_types.specs.Names.{Name}
@@ -17,6 +17,19 @@ use Rattle.plant_types.specs.Names.{Name}
 pub record IsAtHand (books : BooksState) (admin : Name) (w : World) : Type 0 where
   pub now : books.honest → HoldsWorld w books
   pub after : w.admin ≡ admin → books.clean → AreAfter w [] [] books
+
+module _ {D : Type 0} {g : Ghosts D} where
+  -- the calls that were made on new books, from this world, if the disk has returned what was written
+  pub record RanAnew (w : World) (store : FileStore D g) (calls : List Call) (answers : List Answer) : Type 0 where
+    pub answered : IsClean (view store) → IsTrue (view store).is_open → AreAnsweredBy w calls answers
+    pub before_failure : IsClean (view store) → AreAnsweredBeforeFailure w calls answers
+
+  -- new books were served, which have no units
+  pub record IsServedAnew (admin : Name) (service : Option Service) (s : Streams) (n : ExitStatus) (store : FileStore D g) : Type 0 where
+    pub first : Bytes
+    pub said : IsSaid s.lines.reported first no_rows_text
+    pub served : HasServed (RanAnew (empty_world admin) store) (IsClean (view store) → ¬ IsTrue (view store).is_open) service
+        (within s first s.lines.reported_after) n
 
 module _ {D N : Type 0} {g : Ghosts D} where
   -- what closing leaves of a store after serving

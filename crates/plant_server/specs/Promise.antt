@@ -1,13 +1,15 @@
 -- What the program promises of its command line, its streams, and the files at the path that its command line names.
-use Rattle.std.specs.Prelude.{◌≡◌, ◌≢◌, ◌⊎◌, IfOk, IfSome, IsErr, IsSomeAnd, List, ℕ, None, Option, Some, Result, Ok, Err, string_bytes}
+use Rattle.std.specs.Prelude.{◌≡◌, ◌≢◌, ◌⊎◌, IfOk, IfSome, IsErr, IsSomeAnd, IsTrue, List, ℕ, None, Option, Some, Result, Ok, Err, string_bytes}
 use Rattle.sqlite.specs.{Effect.{Database}, Files.{file_state}, Held.{Held}}
 use Rattle.sqlite_disk.specs.declared.{Disk.{Ghosts}, Files.{Files}}
-use Rattle.sqlite_store.specs.declared.store.FileStore.{FileStore}
+use Rattle.sqlite_store.specs.{FileStore.{view}, declared.store.FileStore.{FileStore}}
 use Rattle.sqlite_wal.specs.Reads.{AreClean}
 use Rattle.plant_books.specs.Contents.{Content}
 use Rattle.plant_server_options.specs.{CommandLines.{IsReadAs}, declared.words.{CommandLine.{CommandLine}, CommandLineError.{CommandLineError}, Service.{Service}, Task.{Task}}}
 use Rattle.plant_server_options.specs.declared.words.Task.TheVariants.{Migrate, Serve}
-use Rattle.plant_model.specs.Worlds.{empty_world}
+use Rattle.plant_model.specs.{Worlds.{World, empty_world}, declared.{call.Call.{Call}, reply.Answer.{Answer}}}
+use Rattle.plant_office.specs.Failures.{AreAnsweredBeforeFailure}
+use Rattle.plant_store_memory.specs.{Memory.{memory}, declared.file.MemoryFile.{MemoryFile}}
 use Rattle.plant_server.specs.{Crashes.{HoldWholeBooks}, Files.{HoldDatabase, HoldOldBooks, HoldsStill}}
 use Rattle.plant_server.specs.OverFiles.{AreAnsweredBy, AreServed, Begins, IsHonestAfter, IsRefusal, Place, RanOnFiles, closing_text}
 use Rattle.plant_server.specs.{Services.{HasServed}, Streams.{Bytes, IsSaid, Lines, Streams, within}}
@@ -27,18 +29,27 @@ pub record IsUnserved (fault : StoreFault) (s : Streams) (n : ExitStatus) : Type
   pub printed : s.lines.printed_after ≡ s.lines.printed
   pub said : IsSaid s.lines.reported s.lines.reported_after (unopened_text fault)
 
--- In memory the office began with no units, and no failure shut its store.
-pub record IsServedInMemory (admin : Name) (service : Option Service) (s : Streams) (n : ExitStatus) : Type 0 where
+-- The calls that were made on books in memory, from this world. If no failure has shut the store, all were answered
+-- as the world answers them; otherwise those up to the last that was confirmed.
+pub record RanInMemory (w : World) (store : FileStore MemoryFile memory) (calls : List Call) (answers : List Answer) : Type 0 where
+  pub answered : IsTrue (view store).is_open → AreAnsweredBy w calls answers
+  pub before_failure : AreAnsweredBeforeFailure w calls answers
+
+-- In memory the office began with no units. If a service ended because its store had shut, the store is indeed shut.
+pub record IsServedInMemory (admin : Name) (service : Option Service) (s : Streams) (n : ExitStatus)
+    (store : FileStore MemoryFile memory) : Type 0 where
   pub first : Bytes
   pub said : IsSaid s.lines.reported first no_rows_text
-  pub served : HasServed (AreAnsweredBy (empty_world admin)) ⊥ service (within s first s.lines.reported_after) n
-
--- it was served in memory, or books could not be made and nothing was served
-abbrev pub IsDoneInMemory : Name → Option Service → Streams → ExitStatus → Type 0
-IsDoneInMemory admin service s n =
-    ((fault : StoreFault) × IsUnserved fault s n × (fault ≢ NotThisStore)) ⊎ IsServedInMemory admin service s n
+  pub served : HasServed (RanInMemory (empty_world admin) store) (¬ IsTrue (view store).is_open) service
+      (within s first s.lines.reported_after) n
 
 module _ {D N : Type 0} {g : Ghosts D} where
+  -- it was served in memory, or books could not be made and nothing was served
+  abbrev pub IsDoneInMemory : Name → Option Service → Streams → ExitStatus → Left D N g → Type 0
+  IsDoneInMemory admin service s n left.Nothing = (fault : StoreFault) × IsUnserved fault s n × (fault ≢ NotThisStore)
+  IsDoneInMemory admin service s n (left.InMemory store) = IsServedInMemory admin service s n store
+  IsDoneInMemory admin service s n _ = ⊥
+
   -- The files of the administrator's office were served. If a service ended because a failure had shut the store, the
   -- store is indeed shut.
   pub record FilesServed (place : Place D) (path : List ℕ) (admin : Name) (service : Option Service) (s : Streams)
@@ -78,7 +89,7 @@ module _ {D N : Type 0} {g : Ghosts D} where
 
   -- a task was done, or the reason why it was not was reported
   abbrev pub IsDone : Ghosts N → Place D → Name → Task → Streams → ExitStatus → Left D N g → Type 0
-  IsDone h place admin (Serve None service) s n after = IsDoneInMemory admin service s n
+  IsDone h place admin (Serve None service) s n after = IsDoneInMemory admin service s n after
   IsDone h place admin (Serve (Some path) service) s n after =
       IsDoneOnFile place (string_bytes path) admin service s n after
   IsDone h place admin (Migrate old new) s n after =

@@ -1,15 +1,16 @@
 -- How one session over the streams, or the connections of a port, were served.
-use Rattle.std.specs.Prelude.{Bool, true, false, IsTrue, List, ℕ, length, map, nat_lt, ◌≡◌, ◌≤◌}
+use Rattle.std.specs.Io.KnownBytes.{Appends}
+use Rattle.std.specs.Prelude.{Bool, true, false, IsTrue, List, [], ℕ, length, map, nat_lt, ◌≡◌, ◌≤◌}
 use Rattle.std.specs.Prelude.{Err, None, Ok, Option, Result, Some}
 use Rattle.plant_server_listener.specs.Connections.{AreExchanges, Exchange, answers_over, calls_over}
 use Rattle.plant_server_listener.specs.declared.while_open.Stopped.{Stopped}
 use Rattle.plant_server_listener.specs.declared.while_open.Stopped.TheVariants as stopped
 use Rattle.plant_server_options.specs.declared.words.Service.{Service}
-use Rattle.plant_server_clients.specs.Accounts.{AreSent, Outcome}
-use Rattle.plant_server_log.specs.Log.{Tells}
+use Rattle.plant_server_clients.specs.{Accounts.{AreSent, Outcome}, Events.{AreTold, Event}}
+use Rattle.plant_server_log.specs.Log.{Tells, TellsFaults}
 use Rattle.plant_server_clients.specs.declared.serving.Halted.TheVariants as halted
 use Rattle.plant_model.specs.declared.{call.Call.{Call}, reply.Answer.{Answer}}
-use Rattle.plant_server.specs.Statuses.{end_text, exit_status_of, listening_text, served, served_at_once}
+use Rattle.plant_server.specs.Statuses.{end_text, exit_status_of, few_descriptors_text, halted_text, listening_text, served, served_at_once, stopped_text}
 use Rattle.plant_server.specs.Streams.{Bytes, IsSaid, Lines, Streams}
 use Rattle.plant_server.specs.declared.statuses.ExitStatus.{ExitStatus}
 use Rattle.plant_wire.specs.{Session.{IsSession}, declared.reads.End.{End}}
@@ -26,12 +27,23 @@ pub record IsStreamed (ran : OfCalls) (s : Streams) (n : ExitStatus) : Type 0 wh
   pub said : IsSaid s.lines.reported s.lines.reported_after (end_text end)
   pub status : n ≡ exit_status_of end
 
--- What a port printed: the address on which it listens, and then the lines of the log.
-pub record ArePortLines (log : Bytes → Bytes → Type 0) (lines : Lines) : Type 0 where
+-- What was written while a port was served. On the output: the address on which it listens, and then the log. On
+-- standard error: a warning, if there is one; then lines about faults that were answered; then why it is served no
+-- longer.
+pub record ArePortLines (log : Bytes → Bytes → Type 0) (warning why : List ℕ) (lines : Lines) : Type 0 where
   pub address : List ℕ
   pub first : Bytes
   pub listening : IsSaid lines.printed first (listening_text address)
   pub logged : log first lines.printed_after
+  pub warned : Bytes
+  pub told : Bytes
+  pub warning : IsSaid lines.reported warned warning
+  pub faults : TellsFaults warned told
+  pub ended : IsSaid told lines.reported_after why
+
+-- the log got the lines of these events
+abbrev pub IsLogged : List Event → Bytes → Bytes → Type 0
+IsLogged events before after = (text : List ℕ) × AreTold events text × Appends before after text
 
 -- all of n connections were served, or fewer
 abbrev pub AreAsMany : ℕ → ℕ → Result (Unit {0}) Stopped → Type 0
@@ -48,16 +60,17 @@ pub record AreInTurn (ran : OfCalls) (lost : Type 0) (service : Service) (lines 
   pub result : Result (Unit {0}) Stopped
   pub many : AreAsMany service.connections (length exchanges) result
   pub status : n ≡ served result
-  pub said : ArePortLines (λ before after. Tells before (map (λ x. x.end) exchanges) after) lines
+  pub said : ArePortLines (λ before after. Tells before (map (λ x. x.end) exchanges) after) [] (stopped_text result) lines
   pub shut : result ≡ Err stopped.Shut → IsTrue service.while_open × lost
 
 -- They were served many at once: as many in all as the service asks for, or fewer if the port failed, or if the store
 -- has shut and the service goes on only while it is open. Of what happened at all of them the office's calls are one
 -- list, and each was sent the answers to its own requests.
-pub record AreAtOnce (ran : OfCalls) (lost : Type 0) (service : Service) (n : ExitStatus) : Type 0 where
+pub record AreAtOnce (ran : OfCalls) (lost : Type 0) (service : Service) (lines : Lines) (n : ExitStatus) : Type 0 where
   pub result : Outcome
   pub sent : AreSent ran service.connections result
   pub status : n ≡ served_at_once result
+  pub said : ArePortLines (IsLogged sent.events) few_descriptors_text (halted_text result) lines
   pub shut : result ≡ Err halted.Shut → IsTrue service.while_open × lost
 
 -- whether connections are served many at once
@@ -67,7 +80,7 @@ is_at_once service = nat_lt 1 service.clients
 -- the connections of a port, many at once or not
 abbrev pub AreOfPort : Bool → OfCalls → Type 0 → Service → Lines → ExitStatus → Type 0
 AreOfPort false ran lost service lines n = AreInTurn ran lost service lines n
-AreOfPort true ran lost service lines n = AreAtOnce ran lost service n
+AreOfPort true ran lost service lines n = AreAtOnce ran lost service lines n
 
 -- Over an office of which `ran` is true: one session ended, or the connections of a port were served. If a service
 -- ended because a failure had shut the store, `lost` is true.

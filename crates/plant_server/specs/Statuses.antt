@@ -92,6 +92,10 @@ end_text Fault = codes "end: Fault\n"
 abbrev pub listening_text : List ℕ → List ℕ
 listening_text address = codes "listening on " ++ address ++ codes "\n"
 
+-- on standard error: that a port of many connections may want for file descriptors
+abbrev pub few_descriptors_text : List ℕ
+few_descriptors_text = codes "net: few file descriptors\n"
+
 -- on standard error: why a port is served no longer, one connection after the other, and many at once
 abbrev pub stopped_text : Result (Unit {0}) Stopped → List ℕ
 stopped_text (Ok u) = []

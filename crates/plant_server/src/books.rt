@@ -1,26 +1,51 @@
-//! Makes new books in memory, for a service that is not given a file.
+//! Makes new books in memory, for a service that is not given a file: in the store that files have too, over two files in
+//! memory.
 
-ghost use Rattle.std.specs.Prelude.{◌≡◌, ◌≢◌, IfErr, IfOk};
-ghost use Rattle.sqlite.specs.{Held.{state}, Steps.{over_memory}};
+ghost use Rattle.std.specs.Prelude.{◌≡◌, ◌≢◌, IsTrue, IfErr, IfOk};
+ghost use Rattle.sqlite.specs.Files.{file_state};
 ghost use Rattle.plant_books.specs.Contents.{no_units};
-ghost use Rattle.plant_store_statements.specs.Keeping.{Represents};
+ghost use Rattle.plant_store_statements.specs.{Keeping.{Represents}, Reading.{HasNoTransaction}};
 
+use crate::files::create_books;
+use crate::openings::PAGES_IN_LOG;
 use plant_store::{StoreFault, Tables};
+use plant_store_memory::MemoryFile;
 use plant_types::{Fault, Person};
-use sqlite::{Connection, MemStore};
+use sqlite::{Connection, FileStore, Options};
+use sqlite_disk::{Disk, Files};
 use std::alloc::Global;
 
-/// New books in memory.
-pub fn in_memory(alloc: Global, admin: Person) -> Result<Tables<MemStore>, StoreFault>
-    ensures own { IfOk result (λ books. (books.0.1 ≡ admin) × (books.1 ≡ 0)) }
-    ensures new { IfOk result (λ books. Represents (state over_memory books.0.0) (no_units admin)) }
-    ensures made { IfErr result (λ e. e ≢ StoreFault.NotThisStore) }
+/// Opens a new database over two empty files that end with the program. Their pages need no checksums, and the log's
+/// number need not be random, since nothing but this program ever reads them.
+fn open_over<D: Disk + Drop>(
+    alloc: Global,
+    files: Files<D>,
+) -> Result<Connection<FileStore<D>>, StoreFault>
+    requires log { IsTrue (D.Disk.is_usable files.log) }
+    requires db { IsTrue (D.Disk.is_usable files.db) }
+    ensures opened { IfOk result HasNoTransaction }
+    ensures named { IfErr result (λ e. e ≢ StoreFault.NotThisStore) }
 {
-    let Ok(conn) = Connection::open_in_memory(alloc) else {
-        return Err(StoreFault::Fault(Fault::Memory));
+    let mut options = Options::new(0);
+    options.checkpoint_frames = PAGES_IN_LOG;
+    match Connection::open_files_with(alloc, files, options, false) {
+        Ok(conn) => Ok(conn),
+        Err(_) => Err(StoreFault::Fault(Fault::Memory)),
+    }
+}
+
+/// New books in memory.
+pub fn in_memory(alloc: Global, admin: Person) -> Result<Tables<FileStore<MemoryFile>>, StoreFault>
+    ensures own { IfOk result (λ books. (books.0.1 ≡ admin) × (books.1 ≡ 0)) }
+    ensures new { IfOk result (λ books. Represents (file_state books.0.0) (no_units admin)) }
+    ensures named { IfErr result (λ e. e ≢ StoreFault.NotThisStore) }
+{
+    let files = Files {
+        log: MemoryFile::new(alloc),
+        db: MemoryFile::new(alloc),
     };
-    match Tables::create(alloc, conn, admin) {
-        Ok(books) => Ok(books),
-        Err(unopened) => Err(unopened.fault),
+    match open_over(alloc, files) {
+        Ok(conn) => create_books(alloc, conn, admin),
+        Err(fault) => Err(fault),
     }
 }

@@ -7,12 +7,15 @@ ghost use Rattle.sqlite_store.specs.FileStore.{view};
 ghost use Rattle.sqlite_trees.specs.View.{IsClean};
 ghost use Rattle.sqlite_wal.specs.Files.{image_at};
 ghost use Rattle.plant_server_options.specs.{CommandLines.{IsReadAs}, declared.words.{CommandLine.{CommandLine}, CommandLineError.{CommandLineError}}};
+ghost use Rattle.plant_books.specs.Contents.{no_units};
 ghost use Rattle.plant_office.specs.Enduring.{books_state};
-ghost use Rattle.plant_server.specs.{Crashes.{IsWhole}, OverFiles.{closing_text, place_of}, Parts.{BooksServed, IsClosing}};
+ghost use Rattle.plant_server.specs.{Crashes.{IsWhole}, OverFiles.{closing_text, place_of}, Parts.{BooksServed, IsClosing, IsServedAnew}};
 ghost use Rattle.plant_server.specs.Promise.{IsDone, IsDoneInMemory, IsDoneOnFile, IsKept, IsMigration, IsObeyed};
 ghost use Rattle.plant_server.specs.Services.{HasServed};
 ghost use Rattle.plant_server.specs.Streams.{Bytes, IsSaid, lines_of, streams_of, within};
+ghost use Rattle.plant_store_statements.specs.Keeping.{Represents};
 ghost use Rattle.plant_types.specs.Names.{Name};
+ghost use Rattle.sqlite.specs.Files.{file_state};
 ghost use Rattle.plant_wire.specs.Over.{RanOn};
 ghost use Rattle.plant_server.specs.Statuses as statuses;
 
@@ -105,25 +108,43 @@ fn serve_books<S: Alter + Drop, I: Inlet, O: Outlet + Write, E: Write>(
     }
 }
 
-/// Serves new books in memory, and returns the status.
-fn serve_memory<I: Inlet, O: Outlet + Write, E: Write>(
+/// Serves new books over any two files, and returns the status and the store as serving left it.
+fn serve_new<D: Disk + Drop, I: Inlet, O: Outlet + Write, E: Write>(
+    rt: &HostRuntime,
+    books: Tables<FileStore<D>>,
+    service: Option<Service>,
+    inlet: &mut I,
+    outlet: &mut O,
+    errors: &mut E,
+) -> (ExitStatus, FileStore<D>)
+    ensures { (admin : Name) → books.0.1 ≡ admin → Represents (file_state books.0.0) (no_units admin)
+        → IsServedAnew admin service
+        (streams_of I.Inlet O.Outlet O.Write E.Write (inlet.old, outlet.old, errors.old) (inlet.new, outlet.new, errors.new))
+        result.0 result.1 }
+{
+    let (status, served) = serve_books(rt, books, service, inlet, outlet, errors);
+    (status, leave(served))
+}
+
+/// Serves new books in memory, and returns the status and the store as serving left it, if books could be made.
+fn serve_memory<D: Disk, N: Disk, I: Inlet, O: Outlet + Write, E: Write>(
     rt: &HostRuntime,
     admin: Person,
     service: Option<Service>,
     inlet: &mut I,
     outlet: &mut O,
     errors: &mut E,
-) -> ExitStatus
+) -> (ExitStatus, Left<D, N>)
     ensures { IsDoneInMemory admin service
         (streams_of I.Inlet O.Outlet O.Write E.Write (inlet.old, outlet.old, errors.old) (inlet.new, outlet.new, errors.new))
-        result }
+        result.0 result.1 }
 {
     match in_memory(rt.alloc(), admin) {
         Ok(books) => {
-            let (status, _) = serve_books(rt, books, service, inlet, outlet, errors);
-            status
+            let (status, store) = serve_new(rt, books, service, inlet, outlet, errors);
+            (status, Left::InMemory(store))
         }
-        Err(fault) => report_unopened(errors, &fault),
+        Err(fault) => (report_unopened(errors, &fault), Left::Nothing),
     }
 }
 
@@ -210,10 +231,7 @@ fn serve<F: Start + Located, I: Inlet, O: Outlet + Write, E: Write>(
         result.0 result.1 }
 {
     match db {
-        None => {
-            let status = serve_memory(rt, admin, service, inlet, outlet, errors);
-            (status, Left::Nothing)
-        }
+        None => serve_memory(rt, admin, service, inlet, outlet, errors),
         Some(path) => serve_file(
             rt,
             path.as_str(),

@@ -1,7 +1,7 @@
 //! Opens the books that a file keeps, or creates the file if neither it nor its log exists. A new file is made under
 //! another name and renamed once it is whole, so that a start that is cut off leaves no half file.
 
-ghost use Rattle.std.specs.Prelude.{◌≡◌, false, true, IsTrue, IfErr, IfOk, IfSome};
+ghost use Rattle.std.specs.Prelude.{◌≡◌, ◌≢◌, false, true, IsTrue, IfErr, IfOk, IfSome};
 ghost use Rattle.sqlite.specs.{Effect.{Database}, Files.{file_state, IsBlankAs, IsOpened}, Start.{FindsIn}};
 ghost use Rattle.sqlite.specs.State.{HasCleanDisk};
 ghost use Rattle.sqlite_std_file.specs.File.{IsFresh};
@@ -192,13 +192,15 @@ pub fn remove(rt: &HostRuntime, path: &str) -> Result<(), StoreFault> {
 }
 
 /// Makes new books in a new database. Generic over the store: the prover is slow on the concrete one.
-fn create_books<S: Alter + Drop>(
+pub(crate) fn create_books<S: Alter + Drop>(
     alloc: Global,
     conn: Connection<S>,
     admin: Person,
 ) -> Result<Tables<S>, StoreFault>
     requires { HasNoTransaction conn }
-    ensures { IfOk result (λ books. Represents (state S.Store books.0.0) (no_units admin)) }
+    ensures own { IfOk result (λ books. (books.0.1 ≡ admin) × (books.1 ≡ 0)) }
+    ensures new { IfOk result (λ books. Represents (state S.Store books.0.0) (no_units admin)) }
+    ensures named { IfErr result (λ e. e ≢ StoreFault.NotThisStore) }
 {
     match Tables::create(alloc, conn, admin) {
         Ok(books) => Ok(books),

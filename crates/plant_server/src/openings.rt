@@ -15,7 +15,7 @@ use std::hash::{BuildHasher, RandomState};
 use std::io::ErrorKind;
 
 /// After how many pages the log is copied into the file: it stays below 256 KiB, unless a single call writes more.
-const PAGES_IN_LOG: usize = 56;
+pub(crate) const PAGES_IN_LOG: usize = 56;
 
 const CANNOT_OPEN: Error = Error::SqliteFailure(ErrorCode::CannotOpen);
 

@@ -14,6 +14,7 @@ ghost use Rattle.plant_server.specs.Crashes.{HoldCommitted, HoldWholeBooks, Hold
 ghost use Rattle.plant_store_statements.specs.Keeping.{LeavesBooks, LeavesContent, Represents};
 
 use plant_store::{StoreFault, Tables};
+use plant_store_memory::MemoryFile;
 use sqlite::{Alter, Connection, FileStore, Leftover};
 use sqlite_disk::{Disk, Files};
 use sqlite_trees::error::StoreError;
@@ -31,6 +32,8 @@ pub enum Left<D: Disk, N: Disk> {
     Closed(Files<D>),
     /// Files that were served, but whose log could not be copied.
     Unclosed(FileStore<D>),
+    /// The store of books in memory that were served.
+    InMemory(FileStore<MemoryFile>),
     /// The older file, if it was opened, and the closed files of the new one, or why there are none.
     Migrated(Option<Connection<FileStore<D>>>, Result<Files<N>, StoreFault>),
 }
@@ -44,6 +47,7 @@ impl<D: Disk + Drop, N: Disk + Drop> Drop for Left<D, N> {
             Left::Refused(_database) => {}
             Left::Closed(_files) => {}
             Left::Unclosed(_store) => {}
+            Left::InMemory(_store) => {}
             Left::Migrated(_old, _made) => {}
         }
     }

@@ -5,8 +5,8 @@ ghost use Rattle.std.specs.{Duration.{as_nanos}, Prelude.{◌≡◌, ◌+◌, �
 ghost use Rattle.std.specs.Prelude.{Err, IsTrue, OnErr, OnOk};
 ghost use Rattle.plant_server_clients.specs.Accounts.{AreSent};
 ghost use Rattle.plant_server_listener.specs.Connections.{AreExchanges, Exchange, answers_over, calls_over};
-ghost use Rattle.plant_server_log.specs.Log.{Tells};
-ghost use Rattle.plant_server.specs.Services.{AreAsMany, AreOfPort, HasServed, IsStreamed, is_at_once};
+ghost use Rattle.plant_server_log.specs.Log.{Tells, TellsFaults};
+ghost use Rattle.plant_server.specs.Services.{AreAsMany, AreOfPort, HasServed, IsLogged, IsStreamed, is_at_once};
 ghost use Rattle.plant_server.specs.Streams.{Bytes, IsSaid, lines_of, streams_of};
 ghost use Rattle.plant_wire.specs.Over.{RanOn};
 ghost use Rattle.plant_server.specs.Statuses as statuses;
@@ -15,7 +15,7 @@ use crate::reports::{report_end, report_halted, report_stopped, say_address};
 use crate::sockets::Port;
 use crate::statuses::ExitStatus;
 use plant_office::{Books, Office};
-use plant_server_clients::{Halted, Reports, serve_clients};
+use plant_server_clients::{Halted, Plan, serve_clients};
 use plant_server_listener::{Listener, Stopped, serve_connections, serve_while_open};
 use plant_server_log::say;
 use plant_server_options::Service;
@@ -71,6 +71,7 @@ fn serve_listener<L: Listener, B: Books, W: Write, E: Write>(
         × Tells (W.contents output.old) (map (λ x. x.end) exchanges) (W.contents output.new) }
     ensures shut { result ≡ Err Stopped.Shut
         → IsTrue service.while_open × (¬ B.is_honest office.new.books) }
+    ensures told { TellsFaults (E.contents errors.old) (E.contents errors.new) }
 {
     if service.while_open {
         return serve_while_open(alloc, listener, service.connections, office, output, errors);
@@ -113,6 +114,7 @@ fn serve_in_turn<B: Books, W: Write, E: Write>(
         × Tells first (map (λ x. x.end) exchanges) (W.contents output.new) }
     ensures shut { result ≡ Err Stopped.Shut
         → IsTrue service.while_open × (¬ B.is_honest office.new.books) }
+    ensures told { TellsFaults (E.contents errors.old) (E.contents errors.new) }
 {
     match listen_in_turn(rt, service, output) {
         Ok(mut port) => serve_listener(rt.alloc(), &mut port, office, service, output, errors),
@@ -139,6 +141,15 @@ fn listen(rt: &HostRuntime, service: Service) -> Result<(Sockets<'_>, SocketAddr
     Ok((sockets, address))
 }
 
+/// Says on standard error if the system grants fewer file descriptors than a service of so many clients may need.
+fn warn_of_few_descriptors<E: Write>(service: Service, errors: &mut E)
+    ensures { IsSaid (E.contents errors.old) (E.contents errors.new) statuses.few_descriptors_text }
+{
+    if has_few_descriptors(service.clients as usize) {
+        say(errors, b"net: few file descriptors\n");
+    }
+}
+
 /// Serves the connections of a port, many at once.
 fn serve_at_once<B: Books, W: Write, E: Write>(
     rt: &HostRuntime,
@@ -147,7 +158,12 @@ fn serve_at_once<B: Books, W: Write, E: Write>(
     output: &mut W,
     errors: &mut E,
 ) -> Result<(), Halted>
-    ensures sent { AreSent (RanOn B.Books office.old.books office.new.books) service.connections result }
+    ensures sent { (sent : AreSent (RanOn B.Books office.old.books office.new.books) service.connections result)
+        × (address : List ℕ) × (first : Bytes)
+        × IsSaid (W.contents output.old) first (statuses.listening_text address)
+        × IsLogged sent.events first (W.contents output.new) }
+    ensures told { (warned : Bytes) × IsSaid (E.contents errors.old) warned statuses.few_descriptors_text
+        × TellsFaults warned (E.contents errors.new) }
     ensures shut { result ≡ Err Halted.Shut
         → IsTrue service.while_open × (¬ B.is_honest office.new.books) }
 {
@@ -155,21 +171,12 @@ fn serve_at_once<B: Books, W: Write, E: Write>(
         return Err(Halted::Ports);
     };
     say_address(rt.alloc(), output, address);
-    if has_few_descriptors(service.clients as usize) {
-        say(errors, b"net: few file descriptors\n");
-    }
-    let mut reports = Reports {
-        log: output,
-        errors,
+    warn_of_few_descriptors(service, errors);
+    let plan = Plan {
+        connections: service.connections,
+        while_open: service.while_open,
     };
-    let outcome = serve_clients(
-        rt.alloc(),
-        &mut sockets,
-        service.connections,
-        service.while_open,
-        office,
-        &mut reports,
-    );
+    let outcome = serve_clients(rt.alloc(), &mut sockets, plan, office, output, errors);
     sockets.finish();
     outcome
 }

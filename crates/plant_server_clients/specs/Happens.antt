@@ -12,7 +12,7 @@ abbrev pub AreOf : ℕ → List Event → Type 0
 AreOf k [] = Unit {0}
 AreOf k (e ∷ es) = (who e ≡ k) × AreOf k es
 
--- if a request could be answered on the connection, one was, or the connection is no longer served
+-- where a whole request waits on the connection, one is answered, or the connection is no longer served
 abbrev pub Answers : Connection → List Event → Type 0
 Answers l events = (unread : List ℕ) → stage_in l ≡ served unread [] → (IsIdle unread → ⊥) → marks_of l.number events ≡ []
     → (v : List ℕ) → Leads l.number (stage_in l) events (served v []) → ⊥

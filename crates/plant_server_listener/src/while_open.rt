@@ -4,6 +4,7 @@
 ghost use Rattle.std.specs.Prelude.{◌≡◌, ◌+◌, Err, IsTrue, List, length};
 ghost use Rattle.plant_books.specs.Books.{WasHonest};
 ghost use Rattle.plant_server_listener.specs.Connections.{AreServedInTurn, AreSeen, Exchange, HaltsAfter};
+ghost use Rattle.plant_server_log.specs.Log.{TellsFaults};
 
 use crate::connections::{Listener, serve_next};
 use plant_office::{Books, Office};
@@ -22,7 +23,7 @@ pub enum Stopped {
 
 /// Serves `n` connections as `serve_connections` does, but only while the store is open: if a failure shuts it, the
 /// current connection is served to its end, and none after it. After each connection it also writes to the errors which
-/// kinds of faults the connection was answered.
+/// kinds of faults the connection was answered, and nothing else.
 pub fn serve_while_open<L: Listener, B: Books, W: Write, E: Write>(
     alloc: Global,
     listener: &mut L,
@@ -38,6 +39,7 @@ pub fn serve_while_open<L: Listener, B: Books, W: Write, E: Write>(
         × HaltsAfter n (L.failures listener.old) (L.failures listener.new) (length exchanges) result }
     ensures honest { WasHonest B.is_honest office.old.books office.new.books }
     ensures shut { result ≡ Err Stopped.Shut → ¬ B.is_honest office.new.books }
+    ensures told { TellsFaults (E.contents errors.old) (E.contents errors.new) }
 {
     'connections: for count in 0..n {
         if office.is_shut() {

@@ -30,3 +30,15 @@ AreLines (end ∷ earlier) text = (before : List ℕ) × (part : ℕ) × AreLine
 
 abbrev pub Tells : Option (List ℕ) → List End → Option (List ℕ) → Type 0
 Tells written ends written_after = (text : List ℕ) × AreLines ends text × Appends written written_after text
+
+-- Each time, lines for the kinds of fault that were answered (of memory, of the store), whole or, if the write failed, a
+-- part from the front. The latest come first.
+abbrev pub AreFaultLines : List (Bool × Bool) → List ℕ → Type 0
+AreFaultLines [] text = text ≡ []
+AreFaultLines (kinds ∷ earlier) text = (before : List ℕ) × (part : ℕ) × AreFaultLines earlier before
+    × (text ≡ before ++ take part (fault_lines kinds.0 kinds.1))
+
+-- nothing but such lines was written
+abbrev pub TellsFaults : Option (List ℕ) → Option (List ℕ) → Type 0
+TellsFaults written written_after = (kinds : List (Bool × Bool)) × (text : List ℕ) × AreFaultLines kinds text
+    × Appends written written_after text

@@ -203,10 +203,9 @@ impl<T: Keyed> Sorted<T> {
     }
 
     /// The place of the row with the key, if any. Looks first at the place `next`, and then at the one before or after
-    /// it.
-    /// Then `next` becomes the place after the row, or the row's own place if it lies before `next`; if no row has the
-    /// key,
-    /// the place where it belongs. So rows asked for one after another, or twice, are found without a binary search.
+    /// it. Then `next` becomes the place after the row, or the row's own place if it lies before `next`; if no row has
+    /// the key, the place where it belongs. So rows asked for one after another, or twice, are found without a binary
+    /// search.
     pub fn place_next(&self, next: &mut usize, key: &T::Key) -> Option<usize>
         ensures { IsPlaceOf T.order T.key key.now self.now result }
     {

@@ -36,7 +36,7 @@ pub fn shelf_of<'a>(shelves: &'a [ShelfRow], tag: &Tag) -> Option<&'a ShelfRow>
     shelves.iter().find(|row| *tag == row.tag)
 }
 
-/// The shelf that a row describes. Without a row there is no shelf.
+/// The shelf that a row describes; clear if there is no row.
 pub fn shelf_left(row: Option<&ShelfRow>) -> Shelf
     ensures { result ≡ shelves.shelf_left (option_copied row.entry) }
 {
@@ -74,13 +74,6 @@ fn is_unshelved(state: ShelfState) -> bool
     matches!(state, ShelfState::Unshelved)
 }
 
-/// When the alarm with the tag last returned to normal, if ever.
-fn returned_at(part: &UnitPart, tag: &Tag) -> Option<Moment>
-    ensures { result ≡ returned (facts_in part.now) tag.now }
-{
-    part.rows.alarms.get(tag).and_then(|alarm| alarm.return_s)
-}
-
 /// When the alarm with the tag last returned to normal. The alarm is looked for at the place `next` first.
 pub fn returned_next(alarms: &Sorted<AlarmRow>, next: &mut usize, tag: &Tag) -> Option<Moment>
     ensures { result ≡ last_return_in alarms.now tag.now }
@@ -88,13 +81,22 @@ pub fn returned_next(alarms: &Sorted<AlarmRow>, next: &mut usize, tag: &Tag) -> 
     alarms.get_next(next, tag).and_then(|alarm| alarm.return_s)
 }
 
-fn is_other_shelved(part: &UnitPart, tag: &Tag, row: &ShelfRow, now: Moment) -> bool
+/// Whether the shelf is that of another alarm, and shelves it at the moment. The alarm is looked for at the place `next`
+/// first.
+fn is_other_shelved(
+    part: &UnitPart,
+    next: &mut usize,
+    tag: &Tag,
+    row: &ShelfRow,
+    now: Moment,
+) -> bool
     ensures { result ≡ shelving.is_other_shelved (facts_in part.now) tag.now row.now now }
 {
     if *tag == row.tag {
         return false;
     }
-    !is_unshelved(state_of(Some(row), returned_at(part, &row.tag), now))
+    let returned = returned_next(&part.rows.alarms, next, &row.tag);
+    !is_unshelved(state_of(Some(row), returned, now))
 }
 
 /// How many other alarms are shelved at the moment.
@@ -102,8 +104,12 @@ pub fn others_shelved(part: &UnitPart, tag: &Tag, now: Moment) -> usize
     ensures { result ≡ others_shelved (facts_in part.now) tag.now now }
 {
     let shelves = part.rows.shelves.as_slice();
-    shelves
-        .iter()
-        .filter(|row| is_other_shelved(part, tag, row, now))
-        .count()
+    let mut next = 0;
+    let mut others = 0;
+    for row in shelves {
+        if is_other_shelved(part, &mut next, tag, row, now) {
+            others += 1;
+        }
+    }
+    others
 }

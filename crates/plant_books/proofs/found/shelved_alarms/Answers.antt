@@ -13,16 +13,16 @@ loop-shelf-preserved c =
     let so_far = c.loop-shelf.found in
     let so = c.loop-shelf.invariant in
     let shelves_rise = subst (IsInOrder name_cmp shelf_tag) (sym c.as_slice-shelf-items.ensures.value) c.as_slice-shelf-items.ensures.order in
-    elim c.match-get.branch [
+    elim c.match-get_next.branch [
       | in-Some+in_ok-copy+in_ok-push w ↦
           ap (λ l. l ++ shelved (drop (i + 1) shelves) alarms)
           (w.found-is ∙ w.in_ok-push.ensures.ok ∙ ap (λ x. so_far ++ x ∷ []) w.in_ok-copy.ensures.value)
           ∙ next_shelved shelves alarms i c.shelf-item.result (Some w.in-Some.alarm.now) so_far c.as_slice-alarms.ensures.order shelves_rise c.loop-shelf-test.true
-          c.shelf-item.is (sym (ap option_copied w.in-Some.is) ∙ c.get.ensures) so
+          c.shelf-item.is (sym (ap option_copied w.in-Some.is) ∙ c.get_next.ensures) so
       | in_default w ↦
           ap (λ l. l ++ shelved (drop (i + 1) shelves) alarms) (w.found-is ∙ sym (append-nil so_far))
           ∙ next_shelved shelves alarms i c.shelf-item.result None so_far c.as_slice-alarms.ensures.order shelves_rise c.loop-shelf-test.true c.shelf-item.is
-          (sym (ap option_copied w.in_default.is) ∙ c.get.ensures) so
+          (sym (ap option_copied w.in_default.is) ∙ c.get_next.ensures) so
     ]
 
 pub of-requires : goal.of-requires

@@ -1,10 +1,12 @@
-use Rattle.std.proofs.Common.{Bool, le-ltb, lt-ltb, subst, sym}
+use Rattle.std.proofs.{Common.{Bool, le-ltb, lt-ltb, subst, sym}, KnownBytes.{Appends-nil}}
 use Rattle.plant_wire.specs.Over.{RanOn}
 use Rattle.plant_server.specs.{Services.{AreOfPort}, Streams.{lines_of}}
 use Rattle.plant_server.proofs.services.serve_port.Goals as goal
 
 pub returns-then-service-gt1 : goal.returns-then-service-gt1
 returns-then-service-gt1 g c =
+    let were = c.serve_at_once-outcome.ensures.sent in
+    let told = c.serve_at_once-outcome.ensures.told in
     subst (λ (many : Bool). AreOfPort many (RanOn g.B.Books c.args.office.now.books c.serve_at_once-outcome.new.office.books)
     (¬ g.B.Books.is_honest c.serve_at_once-outcome.new.office.books) c.args.service
     (lines_of g.W.Write g.E.Write (c.args.output.now, c.args.errors.now) (c.serve_at_once-outcome.new.output, c.report_halted.new.errors))
@@ -12,8 +14,19 @@ returns-then-service-gt1 g c =
     (sym (lt-ltb 1 c.args.service.clients c.if-service-gt1.true))
     (record {
       result = c.serve_at_once-outcome.result;
-      sent = c.serve_at_once-outcome.ensures.sent;
+      sent = were.0;
       status = c.report_halted.ensures.status;
+      said = record {
+        address = were.1;
+        first = were.2;
+        listening = were.3;
+        logged = were.4;
+        warned = told.0;
+        told = g.E.Write.contents c.serve_at_once-outcome.new.errors;
+        warning = told.1;
+        faults = told.2;
+        ended = c.report_halted.ensures.said;
+      };
       shut = c.serve_at_once-outcome.ensures.shut;
     })
 
@@ -37,6 +50,11 @@ returns g c =
         first = were.5;
         listening = were.6;
         logged = were.7;
+        warned = g.E.Write.contents c.args.errors.now;
+        told = g.E.Write.contents c.serve_in_turn-outcome.new.errors;
+        warning = (0, Appends-nil (g.E.Write.contents c.args.errors.now));
+        faults = c.serve_in_turn-outcome.ensures.told;
+        ended = c.report_stopped.ensures.said;
       };
       shut = c.serve_in_turn-outcome.ensures.shut;
     })

@@ -1,23 +1,29 @@
 use Rattle.std.proofs.Common.{◌∙◌, arith}
+use Rattle.plant_server_log.proofs.public.FaultLines.{tells_faults, tells_no_faults}
 use Rattle.plant_server_listener.proofs.Serving.{served_more, served_none, shown_still, state_of}
 use Rattle.plant_server_listener.proofs.while_open.serve_while_open.Goals as goal
 
 pub connections-init : goal.connections-init
-connections-init g c =
-    served_none g.B.Books c.args.office.now.books (g.W.Write.contents c.args.log.now) (state_of g.L.Listener c.args.listener.now)
+connections-init g c = (
+  served_none g.B.Books c.args.office.now.books (g.W.Write.contents c.args.log.now) (state_of g.L.Listener c.args.listener.now),
+  tells_no_faults (g.E.Write.contents c.args.errors.now),
+)
 
 pub connections-preserved : goal.connections-preserved
-connections-preserved g c =
-    rw c.take_faults.ensures
+connections-preserved g c = (
+  rw c.take_faults.ensures
     (served_more g.B.Books c.args.office.now.books (g.W.Write.contents c.args.log.now) (state_of g.L.Listener c.args.listener.now)
     c.connections.office.books c.serve_next.new.office.books (g.W.Write.contents c.connections.log) (g.W.Write.contents c.say_end.new.log)
     (state_of g.L.Listener c.connections.listener) (state_of g.L.Listener c.serve_next.new.listener) c.connections.count c.in-Ok.end
-    c.connections.invariant c.in-Ok.ensures.does c.in-Ok.ensures.honest c.in-Ok.ensures.counted c.in-Ok.ensures.ok c.in-Ok.ensures.seen
-    c.in-Ok.ensures.others c.say_end.ensures)
+    c.connections.invariant.0 c.in-Ok.ensures.does c.in-Ok.ensures.honest c.in-Ok.ensures.counted c.in-Ok.ensures.ok c.in-Ok.ensures.seen
+    c.in-Ok.ensures.others c.say_end.ensures),
+  tells_faults (g.E.Write.contents c.args.errors.now) (g.E.Write.contents c.connections.errors) (g.E.Write.contents c.say_faults.new.errors)
+    _ _ c.say_faults.ensures.0 c.connections.invariant.1 c.say_faults.ensures.1,
+)
 
 pub returns-in_default-clause-served : goal.returns-in_default-clause-served
 returns-in_default-clause-served g c =
-    let so_far = c.connections.invariant in
+    let so_far = c.connections.invariant.0 in
     let none = c.in_default.ensures in (
       so_far.exchanges,
       rw none.unmade so_far.turn,
