@@ -1,7 +1,7 @@
 //! The program's command in full: reads the command line, opens the books, serves or migrates, closes the files, and
 //! returns the exit status.
 
-ghost use Rattle.std.specs.Prelude.{◌≡◌, [], Result, map, true, false};
+ghost use Rattle.std.specs.Prelude.{◌≡◌, [], Result, map, true, false, string_bytes};
 ghost use Rattle.sqlite_std_file.specs.File.{IsFresh};
 ghost use Rattle.sqlite_store.specs.FileStore.{view};
 ghost use Rattle.sqlite_trees.specs.View.{IsClean};
@@ -61,23 +61,30 @@ fn serve_over<B: Books + Drop, I: Inlet, O: Outlet + Write, E: Write>(
     (status, left)
 }
 
+/// Tables, and the empty cache that is put over them.
+#[derive(Drop)]
+struct Uncached<S: Alter> {
+    books: Tables<S>,
+    cache: Cache,
+}
+
 /// The same over tables, with cached rows.
 fn serve_cached<S: Alter + Drop, I: Inlet, O: Outlet + Write, E: Write>(
     rt: &HostRuntime,
-    copies: Cache,
-    books: Tables<S>,
+    tables: Uncached<S>,
     service: Option<Service>,
     inlet: &mut I,
     outlet: &mut O,
     errors: &mut E,
 ) -> (ExitStatus, Tables<S>)
-    requires { copies.units.entries ≡ [] }
-    ensures { HasServed (RanOn ⟦<Tables<S> as Books>⟧ books result.1)
+    requires { tables.cache.units.entries ≡ [] }
+    ensures { HasServed (RanOn ⟦<Tables<S> as Books>⟧ tables.books result.1)
         (¬ ⟦<Tables<S> as Books>⟧.is_honest result.1) service
         (streams_of I.Inlet O.Outlet O.Write E.Write (inlet.old, outlet.old, errors.old) (inlet.new, outlet.new, errors.new))
         result.0 }
 {
-    let cached_books = CachedBooks::new(rt.alloc(), copies, books);
+    let Uncached { books, cache } = tables;
+    let cached_books = CachedBooks::new(rt.alloc(), cache, books);
     let (status, left) = serve_over(rt, cached_books, service, inlet, outlet, errors);
     let below = left.into_books();
     (status, below)
@@ -100,7 +107,10 @@ fn serve_books<S: Alter + Drop, I: Inlet, O: Outlet + Write, E: Write>(
         (within s first s.lines.reported_after) result.0 }
 {
     match Cache::new(rt.alloc(), MAX_CACHED_ROWS) {
-        Ok(copies) => serve_cached(rt, copies, books, service, inlet, outlet, errors),
+        Ok(cache) => {
+            let tables = Uncached { books, cache };
+            serve_cached(rt, tables, service, inlet, outlet, errors)
+        }
         Err(_) => {
             say(errors, b"memory: no rows at hand\n");
             serve_over(rt, books, service, inlet, outlet, errors)
@@ -186,6 +196,17 @@ fn serve_kept<D: Disk + Drop, N: Disk + Drop, I: Inlet, O: Outlet + Write, E: Wr
     (status, left)
 }
 
+/// An office to be served over a file.
+#[derive(Drop)]
+pub struct FileOffice {
+    /// The file's path.
+    pub path: String,
+    /// The office's administrator.
+    pub admin: Person,
+    /// How a port is served; without it, the streams are.
+    pub service: Option<Service>,
+}
+
 /// Serves the books of a file, and returns the status and what is left of the file. If the file held the rows of a
 /// world, and the disk has returned what was written, then whatever a crash now leaves of it is books: those after all
 /// confirmed calls, or after these and one that was answered by a fault. The same is true at each moment of the
@@ -193,9 +214,7 @@ fn serve_kept<D: Disk + Drop, N: Disk + Drop, I: Inlet, O: Outlet + Write, E: Wr
 /// listened on, and the file is as it was.
 pub fn serve_file<F: Start + Located, I: Inlet, O: Outlet + Write, E: Write>(
     rt: &HostRuntime,
-    path: &str,
-    admin: Person,
-    service: Option<Service>,
+    office: FileOffice,
     inlet: &mut I,
     outlet: &mut O,
     errors: &mut E,
@@ -203,65 +222,45 @@ pub fn serve_file<F: Start + Located, I: Inlet, O: Outlet + Write, E: Write>(
 ) -> (ExitStatus, Left<FileFrom<F>, File>)
     ensures { IsDoneOnFile
         (place_of F.Located.path (image_at F.Start) (λ files. IsFresh true files.log × IsFresh false files.db))
-        path.now admin service
+        (string_bytes office.path) office.admin office.service
         (streams_of I.Inlet O.Outlet O.Write E.Write (inlet.old, outlet.old, errors.old) (inlet.new, outlet.new, errors.new))
         result.0 result.1 }
 {
-    match in_file(rt, path, admin, start) {
+    let FileOffice {
+        path,
+        admin,
+        service,
+    } = office;
+    match in_file(rt, path.as_str(), admin, start) {
         Ok(books) => serve_kept(rt, books, service, inlet, outlet, errors),
         Err((fault, left)) => (report_unopened(errors, &fault), left),
     }
 }
 
-/// Serves the books of a file, or new books in memory, and returns the status and what is left of the file.
-fn serve<F: Start + Located, I: Inlet, O: Outlet + Write, E: Write>(
-    rt: &HostRuntime,
+/// An older file, and where its rows are to go.
+#[derive(Drop)]
+struct Migration {
     admin: Person,
-    db: Option<String>,
-    service: Option<Service>,
-    inlet: &mut I,
-    outlet: &mut O,
-    errors: &mut E,
-    start: F,
-) -> (ExitStatus, Left<FileFrom<F>, File>)
-    ensures { IsDone ⟦<File as Disk>⟧
-        (place_of F.Located.path (image_at F.Start) (λ files. IsFresh true files.log × IsFresh false files.db))
-        admin (Task.Serve db service)
-        (streams_of I.Inlet O.Outlet O.Write E.Write (inlet.old, outlet.old, errors.old) (inlet.new, outlet.new, errors.new))
-        result.0 result.1 }
-{
-    match db {
-        None => serve_memory(rt, admin, service, inlet, outlet, errors),
-        Some(path) => serve_file(
-            rt,
-            path.as_str(),
-            admin,
-            service,
-            inlet,
-            outlet,
-            errors,
-            start,
-        ),
-    }
+    old: String,
+    new: String,
 }
 
 /// Migrates an older file to a new one, and returns the status and what is left of both.
 fn migrate_and_say<F: Start + Located, W: Write, E: Write>(
     rt: &HostRuntime,
-    admin: Person,
-    old: &str,
-    new: &str,
+    migration: Migration,
     output: &mut W,
     errors: &mut E,
     start: F,
 ) -> (ExitStatus, Left<FileFrom<F>, File>)
     ensures { IsMigration ⟦<File as Disk>⟧
         (place_of F.Located.path (image_at F.Start) (λ files. IsFresh true files.log × IsFresh false files.db))
-        old.now admin
+        (string_bytes migration.old) migration.admin
         (lines_of W.Write E.Write (output.old, errors.old) (output.new, errors.new))
         result.0 result.1 }
 {
-    let (old, made) = migrate_file(rt, old, new, admin, start);
+    let Migration { admin, old, new } = migration;
+    let (old, made) = migrate_file(rt, old.as_str(), new.as_str(), admin, start);
     let status = report_migration(output, errors, &made);
     (status, Left::Migrated(old, made))
 }
@@ -283,9 +282,23 @@ fn run<F: Start + Located, I: Inlet, O: Outlet + Write, E: Write>(
 {
     let CommandLine { admin, task } = line;
     match task {
-        Task::Serve { db, service } => serve(rt, admin, db, service, inlet, outlet, errors, start),
+        Task::Serve { db: None, service } => {
+            serve_memory(rt, admin, service, inlet, outlet, errors)
+        }
+        Task::Serve {
+            db: Some(path),
+            service,
+        } => {
+            let office = FileOffice {
+                path,
+                admin,
+                service,
+            };
+            serve_file(rt, office, inlet, outlet, errors, start)
+        }
         Task::Migrate { old, new } => {
-            migrate_and_say(rt, admin, old.as_str(), new.as_str(), outlet, errors, start)
+            let migration = Migration { admin, old, new };
+            migrate_and_say(rt, migration, outlet, errors, start)
         }
     }
 }

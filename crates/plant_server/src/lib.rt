@@ -14,7 +14,7 @@ mod services;
 mod sockets;
 mod statuses;
 
-pub use commands::{command, serve_file};
+pub use commands::{FileOffice, command, serve_file};
 pub use migrations::{Migrated, migrate_file};
 pub use places::Located;
 pub use plant_server_listener::{Listener, serve_connections};

@@ -5,6 +5,6 @@ returns g c = record {
   status = c.report_migration-status.ensures.status;
   printed = c.report_migration-status.ensures.printed;
   said = c.report_migration-status.ensures.said;
-  taken = c.migrate_file-old.ensures.taken;
-  still = c.migrate_file-old.ensures.read;
+  taken = rw c.as_str.ensures.value at c.migrate_file-old.ensures.taken;
+  still = rw c.as_str.ensures.value at c.migrate_file-old.ensures.read;
 }
