@@ -11,6 +11,7 @@ ghost use Rattle.plant_unit.specs.FromFacts.{AddsFrom, AddsProposal, ApprovesFro
 ghost use Rattle.plant_model.specs.Rows as rows;
 ghost use Rattle.plant_unit.specs.Deciding as deciding;
 
+use crate::facts::alarm_of;
 use crate::matrices::push_matrix;
 use crate::proposals::{
     decision_refusal, limit_refusal, matrix_refusal, proposal_refusal, record_priority,
@@ -20,7 +21,7 @@ use crate::reading::{change_from, entry_of, source_of};
 use crate::verdicts::unit_change;
 use plant_model::{
     AlarmRow, Call, ChangeEntry, ChangeRow, ChangeTopic, RecordEntry, Refused, Reply, Row, RowEdit,
-    UnitPart, UnitRow, Verdict, alarm_of,
+    UnitPart, UnitRow, Verdict,
 };
 use plant_ration::{Cell, ChangeKind, ChangeState, Matrix, Proposal, Sheet};
 use plant_types::{Fault, List, Moment, Person, Seconds, Tag, TryCopy, Words};
@@ -316,7 +317,7 @@ fn push_limit(
         ++ in_force (facts_in part.now) change.now.number (Limit tag.now max)) }
     ensures err { OnlyMemory result }
 {
-    let alarm = alarm_of(part.rows.alarms.as_slice(), tag);
+    let alarm = alarm_of(part, tag);
     if let Some(refused) = limit_refusal(alarm, change.base) {
         return Ok(Some(refused));
     }

@@ -4,7 +4,7 @@ ghost use Rattle.std.specs.Prelude.{◌≡◌, count_by, option_copied};
 ghost use Rattle.plant_types.specs.{KeyedRows.{row_at}, Names.{name_cmp}};
 ghost use Rattle.plant_alarm.specs.Shelves.{is_unshelved};
 ghost use Rattle.plant_model.specs.Facts.{is_steward_row, others_shelved, returned, shelf_now};
-ghost use Rattle.plant_model.specs.steps.RowFacts.{facts_in, last_return_in, shelf_tag};
+ghost use Rattle.plant_model.specs.steps.RowFacts.{alarm_tag, facts_in, last_return_in, shelf_tag};
 ghost use Rattle.plant_model.specs.Shelves as shelves;
 ghost use Rattle.plant_unit.specs.Shelving as shelving;
 
@@ -29,11 +29,18 @@ pub fn stewards(grants: &[GrantRow]) -> usize
         .count()
 }
 
-/// The shelf that the last shelving of the alarm with the tag left.
-pub fn shelf_of<'a>(shelves: &'a [ShelfRow], tag: &Tag) -> Option<&'a ShelfRow>
-    ensures { option_copied result ≡ row_at name_cmp shelf_tag tag.now shelves.now }
+/// The row of the alarm with the tag.
+pub fn alarm_of<'a>(part: &'a UnitPart, tag: &Tag) -> Option<&'a AlarmRow>
+    ensures { option_copied result ≡ row_at name_cmp alarm_tag tag.now part.now.rows.alarms }
 {
-    shelves.iter().find(|row| *tag == row.tag)
+    part.rows.alarms.get(tag)
+}
+
+/// The shelf that the last shelving of the alarm with the tag left.
+pub fn shelf_of<'a>(part: &'a UnitPart, tag: &Tag) -> Option<&'a ShelfRow>
+    ensures { option_copied result ≡ row_at name_cmp shelf_tag tag.now part.now.rows.shelves }
+{
+    part.rows.shelves.get(tag)
 }
 
 /// The shelf that a row describes; clear if there is no row.
@@ -65,7 +72,7 @@ pub fn state_now(part: &UnitPart, tag: &Tag, now: Moment) -> ShelfState
     ensures { result ≡ shelf_now (facts_in part.now) tag.now now }
 {
     let returned = last_return(part.rows.alarms.as_slice(), tag);
-    state_of(shelf_of(part.rows.shelves.as_slice(), tag), returned, now)
+    state_of(shelf_of(part, tag), returned, now)
 }
 
 fn is_unshelved(state: ShelfState) -> bool

@@ -11,9 +11,10 @@ ghost use Rattle.plant_unit.specs.Judged.{IsRefusalOf, base_refusal, if_not_prop
 ghost use Rattle.plant_model.specs.Refusals as refusals;
 ghost use Rattle.plant_unit.specs.Readings as readings;
 
+use crate::facts::alarm_of;
 use crate::matrices::matrix_of;
 use crate::reading::{revision_of, source_of};
-use plant_model::{AlarmRow, ChangeEntry, Full, RecordEntry, Refused, UnitPart, UnitRow, alarm_of};
+use plant_model::{AlarmRow, ChangeEntry, Full, RecordEntry, Refused, UnitPart, UnitRow};
 use plant_ration::{Cell, ChangeKind, ChangeState, Matrix, Proposal, Sheet};
 use plant_types::limits::MAX_CHANGES;
 use plant_types::{Fault, Person, Seconds, Tag};
@@ -134,7 +135,7 @@ fn kind_refusal(
         }
         ChangeKind::Matrix(matrix) => Ok(matrix_refusal(unit, part, base, matrix)),
         ChangeKind::Limit(tag, _) => {
-            let alarm = alarm_of(part.rows.alarms.as_slice(), tag);
+            let alarm = alarm_of(part, tag);
             Ok(limit_refusal(alarm, base))
         }
     }
@@ -146,7 +147,7 @@ fn unknown_refusal(part: &UnitPart, kind: &ChangeKind) -> Option<Refused>
 {
     match kind {
         ChangeKind::Rationale(tag, _) | ChangeKind::Limit(tag, _) => {
-            if alarm_of(part.rows.alarms.as_slice(), tag).is_some() {
+            if alarm_of(part, tag).is_some() {
                 None
             } else {
                 Some(Refused::AlarmUnknown)

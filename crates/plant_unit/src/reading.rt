@@ -16,18 +16,17 @@ use plant_types::{Fault, Tag, TryCopy};
 use std::alloc::Global;
 
 /// The row of an alarm's record, if any. It searches all rows, in whatever order they are.
-pub fn record_of<'a>(records: &'a [RecordEntry], tag: &Tag) -> Option<&'a RecordEntry>
-    ensures { option_copied result ≡ row_at name_cmp record_tag tag.now records.now }
+pub fn record_of<'a>(part: &'a UnitPart, tag: &Tag) -> Option<&'a RecordEntry>
+    ensures { option_copied result ≡ row_at name_cmp record_tag tag.now part.now.rows.records }
 {
-    records.iter().find(|row| *tag == row.tag)
+    part.rows.records.get(tag)
 }
 
-/// The row of the change with a number, if any. It searches all rows, in whatever order they are.
+/// The row of the change with a number, if any.
 pub fn entry_of<'a>(part: &'a UnitPart, number: u32) -> Option<&'a ChangeEntry>
     ensures { option_copied result ≡ change_found part.now.rows number }
 {
-    let changes = part.rows.changes.as_slice();
-    changes.iter().find(|row| number == row.number)
+    part.rows.changes.get(&number)
 }
 
 /// The row of the change that a record came from.
@@ -41,7 +40,7 @@ pub fn source_of<'a>(part: &'a UnitPart, row: &RecordEntry) -> Option<&'a Change
 pub fn revision_of(part: &UnitPart, tag: &Tag) -> u32
     ensures { result ≡ (facts_in part.now).revision tag.now }
 {
-    record_of(part.rows.records.as_slice(), tag).map_or(0, |row| row.rev)
+    record_of(part, tag).map_or(0, |row| row.rev)
 }
 
 /// The priority of an alarm, if it has a record. The record is looked for at the place `next` first.
@@ -104,7 +103,7 @@ pub fn rationale_of(alloc: Global, part: &UnitPart, tag: &Tag) -> Result<Option<
     ensures value { GivesFrom part.now result (λ f. f.rationale tag.now) }
     ensures err { OnlyMemory result }
 {
-    let Some(row) = record_of(part.rows.records.as_slice(), tag) else {
+    let Some(row) = record_of(part, tag) else {
         return Ok(None);
     };
     let Some(entry) = source_of(part, row) else {

@@ -9,13 +9,12 @@ ghost use Rattle.plant_model.specs.declared.reply.Reply.TheVariants.{Shelves as 
 ghost use Rattle.plant_unit.specs.Shelving.{is_shelved, line_at, lines_among};
 ghost use Rattle.plant_model.specs.Replies as replies;
 
-use crate::facts::{returned_next, state_now, state_of};
+use crate::facts::{alarm_of, returned_next, state_now, state_of};
 use crate::flood_list::{flood_lines, is_aligned};
 use crate::reading::{change_of, priority_next, rationale_of};
 use plant_alarm::ShelfState;
 use plant_model::{
     AlarmLine, AlarmRow, Refused, Reply, ShelfLine, ShelfRow, StandingLine, StatusRow, UnitPart,
-    alarm_of,
 };
 use plant_types::{Fault, List, Moment, Sorted, Tag, TryCopy, UnitCode};
 use std::alloc::Global;
@@ -30,7 +29,7 @@ pub fn status(
     ensures value { (p u : Name) → Answers part.now p now (StatusCall u tag.now) result }
     ensures err { OnlyMemory result }
 {
-    let Some(alarm) = alarm_of(part.rows.alarms.as_slice(), tag) else {
+    let Some(alarm) = alarm_of(part, tag) else {
         return Ok(Err(Refused::AlarmUnknown));
     };
     let shelf = state_now(part, tag, now);
@@ -291,7 +290,7 @@ pub fn record(alloc: Global, part: &UnitPart, tag: &Tag) -> Result<Result<Reply,
     ensures value { AreKept part.now → AnswersAlways part.now (λ u. RecordCall u tag.now) result }
     ensures err { OnlyMemory result }
 {
-    if alarm_of(part.rows.alarms.as_slice(), tag).is_none() {
+    if alarm_of(part, tag).is_none() {
         return Ok(Err(Refused::AlarmUnknown));
     }
     match rationale_of(alloc, part, tag)? {

@@ -6,7 +6,8 @@ ghost use Rattle.plant_model.specs.steps.RowChanges.{placed_in, taken_out};
 ghost use Rattle.plant_model.specs.declared.call.Request.TheVariants.{PlaceInService, Register, RemoveFromService};
 ghost use Rattle.plant_unit.specs.FromFacts.{Decides, DecidesAlways};
 
-use plant_model::{AlarmRow, Call, Full, Refused, Row, RowEdit, UnitPart, alarm_of};
+use crate::facts::alarm_of;
+use plant_model::{AlarmRow, Call, Full, Refused, Row, RowEdit, UnitPart};
 use plant_types::limits::MAX_ALARMS;
 use plant_types::{Fault, Seconds, Tag, TryCopy, Words};
 use std::alloc::Global;
@@ -54,7 +55,7 @@ pub fn register(
     if u64::from(part.count) >= MAX_ALARMS {
         return Ok(Err(Refused::UnitFull(Full::Alarms)));
     }
-    if alarm_of(part.rows.alarms.as_slice(), tag).is_some() {
+    if alarm_of(part, tag).is_some() {
         return Ok(Err(Refused::AlarmTaken));
     }
     let alarm = AlarmRow::new(alloc, tag, latching, max)?;
@@ -72,7 +73,7 @@ pub fn remove_from_service(
     ensures value { Decides part.now call.now (λ u. RemoveFromService u tag.now words.now) result }
     ensures err { OnlyMemory result }
 {
-    let Some(alarm) = alarm_of(part.rows.alarms.as_slice(), tag) else {
+    let Some(alarm) = alarm_of(part, tag) else {
         return Ok(Err(Refused::AlarmUnknown));
     };
     if alarm.out_s.is_some() {
@@ -91,7 +92,7 @@ pub fn place_in_service(
     ensures value { DecidesAlways part.now (λ u. PlaceInService u tag.now) result }
     ensures err { OnlyMemory result }
 {
-    let Some(alarm) = alarm_of(part.rows.alarms.as_slice(), tag) else {
+    let Some(alarm) = alarm_of(part, tag) else {
         return Ok(Err(Refused::AlarmUnknown));
     };
     if alarm.out_s.is_none() {

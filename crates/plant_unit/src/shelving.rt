@@ -7,9 +7,9 @@ ghost use Rattle.plant_model.specs.steps.RowFacts.{unit_read};
 ghost use Rattle.plant_unit.specs.{Additions.{AreKept}, FromFacts.{DecidesAs, DecidesFrom, GivesOne}, Shelving.{shelf_decision}};
 ghost use Rattle.plant_unit.specs.Shelving as shelving;
 
-use crate::facts::{others_shelved, shelf_left, shelf_of};
+use crate::facts::{alarm_of, others_shelved, shelf_left, shelf_of};
 use plant_alarm::{Shelf, ShelfRefused, one_shot, timed, unshelve};
-use plant_model::{Call, Key, Refused, Row, RowEdit, ShelfRow, UnitPart, UnitRow, alarm_of};
+use plant_model::{Call, Key, Refused, Row, RowEdit, ShelfRow, UnitPart, UnitRow};
 use plant_types::{Fault, Moment, Person, Seconds, Tag, Words};
 use std::alloc::Global;
 
@@ -86,10 +86,10 @@ pub fn shelve_for(
         (λ u. TimedShelve u tag.now seconds words.now) result }
     ensures err { OnlyMemory result }
 {
-    let Some(alarm) = alarm_of(part.rows.alarms.as_slice(), tag) else {
+    let Some(alarm) = alarm_of(part, tag) else {
         return Ok(Err(Refused::AlarmUnknown));
     };
-    let left = shelf_left(shelf_of(part.rows.shelves.as_slice(), tag));
+    let left = shelf_left(shelf_of(part, tag));
     match timed(&left, alarm.return_s, call.moment, seconds, alarm.max_s) {
         Err(refused) => Ok(Err(refusal_of(refused))),
         Ok(shelf) => shelve(alloc, unit, part, call, tag, words, shelf),
@@ -109,10 +109,10 @@ pub fn shelve_once(
     ensures value { DecidesFrom part.now call.now (λ u. OneShotShelve u tag.now words.now) result }
     ensures err { OnlyMemory result }
 {
-    let Some(alarm) = alarm_of(part.rows.alarms.as_slice(), tag) else {
+    let Some(alarm) = alarm_of(part, tag) else {
         return Ok(Err(Refused::AlarmUnknown));
     };
-    let left = shelf_left(shelf_of(part.rows.shelves.as_slice(), tag));
+    let left = shelf_left(shelf_of(part, tag));
     match one_shot(&left, alarm.return_s, call.moment, alarm.max_s) {
         Err(refused) => Ok(Err(refusal_of(refused))),
         Ok(shelf) => shelve(alloc, unit, part, call, tag, words, shelf),
@@ -129,10 +129,10 @@ pub fn end_shelf(
     ensures value { (p u : Name) → DecidesAs part.now p now (Unshelve u tag.now) result }
     ensures err { OnlyMemory result }
 {
-    let Some(alarm) = alarm_of(part.rows.alarms.as_slice(), tag) else {
+    let Some(alarm) = alarm_of(part, tag) else {
         return Ok(Err(Refused::AlarmUnknown));
     };
-    let left = shelf_left(shelf_of(part.rows.shelves.as_slice(), tag));
+    let left = shelf_left(shelf_of(part, tag));
     match unshelve(&left, alarm.return_s, now) {
         Err(refused) => Ok(Err(refusal_of(refused))),
         Ok(_) => Ok(Ok(RowEdit::Remove(Key::Shelf(tag.copy(alloc)?)))),
