@@ -1,12 +1,11 @@
 -- Sessions over connections, one after the other.
 use Rattle.std.{specs.Io.KnownBytes.{Appends, IsAtEnd}, proofs.KnownBytes.{Appends-trans}}
-use Rattle.std.proofs.Common.{◌≡◌, ◌<◌, ℕ, suc, true≢false, false, ◌≤◌, ◌+◌, List, [], ◌∷◌, ◌++◌, length, map, take, Bool, IsTrue, true, Option, None, Some, refl, sym, subst, ap, inl, inr, ◌⊎◌}
+use Rattle.std.proofs.Common.{◌≡◌, ◌<◌, ℕ, suc, true≢false, ◌+◌, List, [], ◌∷◌, ◌++◌, length, map, take, Bool, IsTrue, true, Option, None, Some, refl, sym, subst, ap, inl, inr, ◌⊎◌}
 use Rattle.std.proofs.{Common.{arith, ◌∙◌}, KnownBytes.{Appends-nil}}
-use Rattle.plant_types.specs.Limits.{max_reads}
 use Rattle.plant_model.specs.declared.{call.Call.{Call}, reply.Answer.{Answer}}
 use Rattle.plant_books.specs.declared.books.Books as books
-use Rattle.plant_office.specs.Enduring.{BooksState, books_state}
-use Rattle.plant_wire.specs.{Causes.{cause_text}, Marks.{answers_of, calls_of, last_marks, last_text, out_of}, Over.{RanOn}, Ran.{Ran}}
+use Rattle.plant_office.specs.Enduring.{books_state}
+use Rattle.plant_wire.specs.{Causes.{cause_text}, Marks.{answers_of, calls_of, last_marks, last_text, out_of}, Over.{RanOn}}
 use Rattle.plant_wire.specs.{Session.{IsCutShort, IsSession, StopsAs}, Step.{AnswersFront, ServesBroken, ServesPart}, declared.reads.End.{End}}
 use Rattle.plant_wire.specs.declared.reads.End.TheVariants.{BrokenInput, Closed, Fault, ReadFailed, WriteFailed}
 use Rattle.plant_wire.proofs.public.Running.{ran_joins, ran_none}

@@ -12,13 +12,13 @@ connections-init g c = (
 pub connections-preserved : goal.connections-preserved
 connections-preserved g c = (
   rw c.take_faults.ensures
-    (served_more g.B.Books c.args.office.now.books (g.W.Write.contents c.args.log.now) (state_of g.L.Listener c.args.listener.now)
-    c.connections.office.books c.serve_next.new.office.books (g.W.Write.contents c.connections.log) (g.W.Write.contents c.say_end.new.log)
-    (state_of g.L.Listener c.connections.listener) (state_of g.L.Listener c.serve_next.new.listener) c.connections.count c.in-Ok.end
-    c.connections.invariant.0 c.in-Ok.ensures.does c.in-Ok.ensures.honest c.in-Ok.ensures.counted c.in-Ok.ensures.ok c.in-Ok.ensures.seen
-    c.in-Ok.ensures.others c.say_end.ensures),
+      (served_more g.B.Books c.args.office.now.books (g.W.Write.contents c.args.log.now) (state_of g.L.Listener c.args.listener.now)
+      c.connections.office.books c.serve_next.new.office.books (g.W.Write.contents c.connections.log) (g.W.Write.contents c.say_end.new.log)
+      (state_of g.L.Listener c.connections.listener) (state_of g.L.Listener c.serve_next.new.listener) c.connections.count c.in-Ok.end
+      c.connections.invariant.0 c.in-Ok.ensures.does c.in-Ok.ensures.honest c.in-Ok.ensures.counted c.in-Ok.ensures.ok c.in-Ok.ensures.seen
+      c.in-Ok.ensures.others c.say_end.ensures),
   tells_faults (g.E.Write.contents c.args.errors.now) (g.E.Write.contents c.connections.errors) (g.E.Write.contents c.say_faults.new.errors)
-    _ _ c.say_faults.ensures.0 c.connections.invariant.1 c.say_faults.ensures.1,
+      _ _ c.say_faults.ensures.0 c.connections.invariant.1 c.say_faults.ensures.1,
 )
 
 pub returns-in_default-clause-served : goal.returns-in_default-clause-served
