@@ -9,15 +9,15 @@ use Rattle.plant_wire.specs.Session.{IsIdle}
 use Rattle.plant_wire_call.specs.declared.causes.Cause.{Cause}
 use Rattle.plant_wire.specs.declared.{reads.End.{End, TheVariants.{BrokenInput, Fault}}, step.{Step.{Step}, Stop.{Stop}}}
 use Rattle.plant_server_log.specs.Log.{line_of}
-use Rattle.plant_server_clients.specs.Events.{Event, IsToldBy, Log, Logs, Seen, Shows, Trial, answered, answers_in, broke, calls_in, came, closed, ended, failed}
+use Rattle.plant_server_clients.specs.Events.{Event, IsToldBy, Log, Logs, Shows, Trial, answered, answers_in, broke, calls_in, came, closed, ended, failed}
 use Rattle.plant_server_clients.specs.Events.{all_calls, arrivals, left, marks_of, opened, port_in, reading, seen_by, stopped, who, writing}
 use Rattle.plant_server_clients.specs.{Causes.{Always, AreDue, CausedAt, ExpiredAt, OffersTo}, Drafts.{least_room_of_answers}}
 use Rattle.plant_server_clients.specs.Stages.{AreOpenConnections, Goes, IsOpen, Leads, MayClose, Moves, Stage, end_for, served, ending, stage_by, stage_in}
-use Rattle.plant_server_clients.specs.Happens.{Answers, Happened, Made, Moved, Passed, Turned, Went}
+use Rattle.plant_server_clients.specs.Happens.{Answers, ConnectionState, Happened, Made, Moved, Passed, ServiceState, Turned, Went, connection_state}
 use Rattle.plant_server_clients.proofs.Due.{due_answered, due_broke, due_came, due_closed, due_ended, due_failed, due_left, due_none, due_opened, due_stopped}
 use Rattle.plant_server_clients.proofs.{Due.{due_then, late_cause}, Held.{lifted, lifted_closed, lifted_opened}, Leading.{makes_none, shows_untold}}
 use Rattle.plant_server_clients.proofs.{Texts.{cause_some, mark_some, stop_faultless}, Waited.{idle_stage}}
-use Rattle.plant_server_clients.specs.declared.connections.Connection.{Connection}
+use Rattle.plant_server_clients.specs.declared.connections.{Asked.{Asked}, Connection.{Connection}}
 
 own_goes : (k : ℕ) (s s' : Stage) (e : Event) → who e ≡ k → Moves s e s' → Goes k s e s'
 own_goes k s s' e is moves = record { own = λ w. moves; other = λ n. absurd (n is) }
@@ -269,22 +269,29 @@ made_none b x l serves idle = record {
   due = λ last later each offers. each last;
 }
 
--- one connection, among all
-pub happened_connection : {B : Type 0} (b : books.Ghosts B) (x y : B) (s t : Log) (log : Option (List ℕ)) (count : ℕ)
-    (ls : List Connection) (at : ℕ) (l l' : Connection) (reads serves : Bool) (over : Option End) → AreOpenConnections count ls → slice_get ls at ≡ Some l → Turned b x y s t l l' reads serves over
-    → Happened b x y (seen_by s log) (seen_by t log) count count ls (slice_set ls at l')
-happened_connection b x y s t log count ls at l l' reads serves over ok is p = record {
-  events = p.events;
-  shown = shows_untold s t log p.events p.logged p.went.untold;
-  makes = p.makes;
-  leads = lifted count ls at l l' p.events ok is p.went.same p.went.own p.went.leads;
+-- the service, after the connection at this place had a turn
+abbrev pub turned_at : ServiceState → ℕ → ConnectionState → ServiceState
+turned_at s at after = record {
+  seen = seen_by after.seen s.seen.log;
+  count = s.count;
+  connections = slice_set s.connections at after.connection;
 }
 
-pub events_connection : {B : Type 0} (b : books.Ghosts B) (x y : B) (s t : Log) (log : Option (List ℕ)) (count : ℕ)
-    (ls : List Connection) (at : ℕ) (l l' : Connection) (reads serves : Bool) (over : Option End) (ok : AreOpenConnections count ls) (is : slice_get ls at ≡ Some l)
-    (p : Turned b x y s t l l' reads serves over) → (happened_connection b x y s t log count ls at l l' reads serves over ok is p).events ≡ p.events
-unfolding happened_connection
-events_connection b x y s t log count ls at l l' reads serves over ok is p = refl
+-- one connection, among all
+module _ {B : Type 0} {b : books.Ghosts B} {x y : B} {l : Connection} {after : ConnectionState} {asked : Asked} {over : Option End}
+    (s : ServiceState) (at : ℕ) (ok : AreOpenConnections s.count s.connections) (is : slice_get s.connections at ≡ Some l)
+    (p : Turned b x y (connection_state s.seen.ports l) after asked over) where
+  pub happened_connection : Happened b x y s (turned_at s at after)
+  happened_connection = record {
+    events = p.events;
+    shown = shows_untold s.seen.ports after.seen s.seen.log p.events p.logged p.went.untold;
+    makes = p.makes;
+    leads = lifted s.count s.connections at l after.connection p.events ok is p.went.same p.went.own p.went.leads;
+  }
+
+  pub events_connection : happened_connection.events ≡ p.events
+  unfolding happened_connection
+  events_connection = refl
 
 -- what the log of lines gets for a close
 shows_closed : (s t : Option (List Event)) (log log' : Option (List ℕ)) (k : ℕ) (end : End) (part : ℕ)
@@ -296,36 +303,37 @@ shows_closed s t log log' k end part logged written = record {
   written = written;
 }
 
-pub passed_closed : (s t : Option (List Event)) (log log' : Option (List ℕ)) (count : ℕ) (ls : List Connection) (at : ℕ) (l : Connection) (end : End)
-    → AreOpenConnections count ls → slice_get ls at ≡ Some l
-    → MayClose l end → Logs s t (closed l.number end ∷ []) → (part : ℕ) × Appends log log' (take part (line_of (l.number + 1) end))
-    → Passed (CausedAt ls at end) false (seen_by s log) (seen_by t log') count count ls (remove ls at)
-passed_closed s t log log' count ls at l end ok is may logged (part, written) = record {
+pub passed_closed : (s : ServiceState) (ports : Log) (log : Option (List ℕ)) (at : ℕ) (l : Connection) (end : End)
+    → AreOpenConnections s.count s.connections → slice_get s.connections at ≡ Some l
+    → MayClose l end → Logs s.seen.ports ports (closed l.number end ∷ [])
+    → (part : ℕ) × Appends s.seen.log log (take part (line_of (l.number + 1) end))
+    → Passed (CausedAt s.connections at end) false s (record { seen = seen_by ports log; count = s.count; connections = remove s.connections at })
+passed_closed s ports log at l end ok is may logged (part, written) = record {
   events = closed l.number end ∷ [];
   quiet = (refl, refl, tt);
   one = (l.number, (refl, tt));
   due = λ before cause. due_closed before l.number end (cause l is);
   arrives = record { one = omega arith; none = λ _. refl };
-  shown = shows_closed s t log log' l.number end part logged written;
-  leads = lifted_closed count ls at l end ok is may;
+  shown = shows_closed s.seen.ports ports s.seen.log log l.number end part logged written;
+  leads = lifted_closed s.count s.connections at l end ok is may;
 }
 
-pub passed_opened : (s t : Option (List Event)) (log : Option (List ℕ)) (count : ℕ) (ls : List Connection) (l : Connection) → AreOpenConnections count ls
-    → l.number ≡ count → stage_in l ≡ served [] []
-    → Logs s t (opened count ∷ []) → Passed Always true (seen_by s log) (seen_by t log) count (count + 1) ls (ls ++ l ∷ [])
-passed_opened s t log count ls l ok is new logged = record {
-  events = opened count ∷ [];
+pub passed_opened : (s : ServiceState) (ports : Log) (l : Connection) → AreOpenConnections s.count s.connections → l.number ≡ s.count
+    → stage_in l ≡ served [] [] → Logs s.seen.ports ports (opened s.count ∷ [])
+    → Passed Always true s (record { seen = seen_by ports s.seen.log; count = s.count + 1; connections = s.connections ++ l ∷ [] })
+passed_opened s ports l ok is new logged = record {
+  events = opened s.count ∷ [];
   quiet = (refl, refl, tt);
-  one = (count, (refl, tt));
-  due = λ before _. due_opened before count;
+  one = (s.count, (refl, tt));
+  due = λ before _. due_opened before s.count;
   arrives = record { one = omega arith; none = λ (no : true ≡ false). cc };
-  shown = shows_untold s t log (opened count ∷ []) logged ([], [], refl, refl, refl);
-  leads = lifted_opened count ls l ok is new;
+  shown = shows_untold s.seen.ports ports s.seen.log (opened s.count ∷ []) logged ([], [], refl, refl, refl);
+  leads = lifted_opened s.count s.connections l ok is new;
 }
 
 -- the same, where the time of the connection is over
-pub passed_expired : {s t : Seen} {n m : ℕ} {ls ms : List Connection} (at : ℕ) (end : End) → Passed (CausedAt ls at end) false s t n m ls ms
-    → Passed (ExpiredAt ls at) false s t n m ls ms
+pub passed_expired : {s t : ServiceState} (at : ℕ) (end : End) → Passed (CausedAt s.connections at end) false s t
+    → Passed (ExpiredAt s.connections at) false s t
 passed_expired at end p = record {
   events = p.events;
   quiet = p.quiet;

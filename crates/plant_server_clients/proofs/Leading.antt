@@ -9,11 +9,11 @@ use Rattle.plant_wire.proofs.public.Running.{ran_none, ran_joins}
 use Rattle.plant_server_clients.specs.Books.{AreQuiet, IsMoment, Makes, MakesEach}
 use Rattle.plant_server_clients.specs.Events.{AreTold, Event, Logs, Seen, Shows, all_answers, all_calls, answers_in, at_ports, calls_in, failed, port_in, reading}
 use Rattle.plant_server_clients.specs.Events.{reported, seen_by, writing}
-use Rattle.plant_server_clients.specs.Stages.{Leads, Moves, Stage, fresh, gone, served, ending, stage_in, stage_of}
-use Rattle.plant_server_clients.specs.Happens.{AreOf, Happened, IsTurnOf, Made, Moved, Passed, Turned, Went}
+use Rattle.plant_server_clients.specs.Stages.{Leads, Moves, Stage, fresh, gone, served, ending, stage_in}
+use Rattle.plant_server_clients.specs.Happens.{AreOf, Happened, IsTurnOf, Made, Moved, Passed, ServiceState, Turned, Went, ConnectionState, connection_state, stages}
 use Rattle.plant_server_clients.specs.Faults.{reporting}
 use Rattle.plant_server_clients.{proofs.Due.{due_none, last_then}, specs.Causes.{IsDueTo, last_of}}
-use Rattle.plant_server_clients.specs.declared.{connections.Connection.{Connection}, ports.Ready.{Ready}}
+use Rattle.plant_server_clients.specs.declared.{connections.{Asked.{Asked}, Connection.{Connection}}, ports.Ready.{Ready}}
 use Rattle.plant_wire.specs.declared.reads.End.{End, TheVariants.{ReadFailed, WriteFailed}}
 use Rattle.plant_office.specs.declared.office.Faults.{Faults}
 
@@ -114,62 +114,61 @@ module _ {B : Type 0} (b : books.Ghosts B) where
     each_quiet x es quiet,
   )
 
-module _ {B : Type 0} {b : books.Ghosts B} {x : B} {s : Seen} {n : ℕ} {ls : List Connection} where
-  pub happened_none : Happened b x x s s n n ls ls
+module _ {B : Type 0} {b : books.Ghosts B} {x : B} {s : ServiceState} where
+  pub happened_none : Happened b x x s s
   happened_none = record {
     events = [];
-    shown = record { logged = logs_none s.ports; text = []; told = refl; written = Appends-nil s.log };
+    shown = record { logged = logs_none s.seen.ports; text = []; told = refl; written = Appends-nil s.seen.log };
     makes = makes_none b x;
     leads = λ k. refl;
   }
 
--- nothing yet, and no connection is held
-pub happened_start : {B : Type 0} {b : books.Ghosts B} {x : B} {s : Seen} {n : ℕ} (ls : List Connection) → ls ≡ [] → Happened b x x s s n n [] ls
-happened_start {b} {x} {s} {n} ls e = subst (λ (ms : List Connection). Happened b x x s s n n [] ms) (sym e) happened_none
-
-module _ {B : Type 0} {b : books.Ghosts B} {x y z : B} {s t u : Seen} {n m o : ℕ} {ks ls ms : List Connection} where
-  pub happened_then : Happened b x y s t n m ks ls → Happened b y z t u m o ls ms → Happened b x z s u n o ks ms
+module _ {B : Type 0} {b : books.Ghosts B} {x y z : B} {s t u : ServiceState} where
+  pub happened_then : Happened b x y s t → Happened b y z t u → Happened b x z s u
   happened_then p q = record {
     events = p.events ++ q.events;
-    shown = shows_then s t u p.events q.events p.shown q.shown;
+    shown = shows_then s.seen t.seen u.seen p.events q.events p.shown q.shown;
     makes = each_then b x y z p.events q.events p.makes q.makes;
-    leads = λ k. leads_then k (stage_of k n ks) (stage_of k m ls) (stage_of k o ms) p.events q.events (p.leads k) (q.leads k);
+    leads = λ k. leads_then k (stages s k) (stages t k) (stages u k) p.events q.events (p.leads k) (q.leads k);
   }
 
-module _ {B : Type 0} {b : books.Ghosts B} {x y : B} {s t : Seen} {n m : ℕ} {ks ls : List Connection} where
-  pub happened_honest : Happened b x y s t n m ks ls → b.is_honest y → b.is_honest x
+module _ {B : Type 0} {b : books.Ghosts B} {x y : B} {s t : ServiceState} where
+  pub happened_honest : Happened b x y s t → b.is_honest y → b.is_honest x
   happened_honest p = (each_all b x y p.events p.makes).honest
 
-module _ {B : Type 0} {b : books.Ghosts B} {x : B} {s t : Seen} {n m : ℕ} {ks ls : List Connection} {cause : Option Event → Type 0} {comes : Bool} where
-  pub happened_passed : Passed cause comes s t n m ks ls → Happened b x x s t n m ks ls
+module _ {B : Type 0} {b : books.Ghosts B} {x : B} {s t : ServiceState} {cause : Option Event → Type 0} {comes : Bool} where
+  pub happened_passed : Passed cause comes s t → Happened b x x s t
   happened_passed p = record { events = p.events; shown = p.shown; makes = each_quiet b x p.events p.quiet; leads = p.leads }
 
 -- the events of these
-pub events_then : {B : Type 0} {b : books.Ghosts B} {x y z : B} {s t u : Seen} {n m o : ℕ} {ks ls ms : List Connection}
-    (p : Happened b x y s t n m ks ls) (q : Happened b y z t u m o ls ms) → (happened_then p q).events ≡ p.events ++ q.events
+pub events_then : {B : Type 0} {b : books.Ghosts B} {x y z : B} {s t u : ServiceState} (p : Happened b x y s t) (q : Happened b y z t u)
+    → (happened_then p q).events ≡ p.events ++ q.events
 unfolding happened_then
 events_then p q = refl
 
-pub events_passed : {B : Type 0} (b : books.Ghosts B) (x : B) {s t : Seen} {n m : ℕ} {ks ls : List Connection}
-    {cause : Option Event → Type 0} {comes : Bool} (p : Passed cause comes s t n m ks ls) → (happened_passed {b = b} {x = x} p).events ≡ p.events
+pub events_passed : {B : Type 0} (b : books.Ghosts B) (x : B) {s t : ServiceState} {cause : Option Event → Type 0} {comes : Bool}
+    (p : Passed cause comes s t) → (happened_passed {b = b} {x = x} p).events ≡ p.events
 unfolding happened_passed
 events_passed b x p = refl
 
-pub events_none : {B : Type 0} (b : books.Ghosts B) (x : B) (s : Seen) (n : ℕ) (ls : List Connection)
-    → (happened_none {b = b} {x = x} {s = s} {n = n} {ls = ls}).events ≡ []
+pub events_none : {B : Type 0} (b : books.Ghosts B) (x : B) (s : ServiceState) → (happened_none {b = b} {x = x} {s = s}).events ≡ []
 unfolding happened_none
-events_none b x s n ls = refl
+events_none b x s = refl
+
+-- the service, once the ports saw this
+abbrev pub sees : ServiceState → Option (List Event) → ServiceState
+sees s ports = record s { seen = seen_by ports s.seen.log }
 
 -- nothing happened
-pub passed_none : (cause : Option Event → Type 0) (comes : Bool) (a a' : Option (List Event)) (log : Option (List ℕ)) (count : ℕ) (ls : List Connection)
-    → Logs a a' [] → Passed cause comes (seen_by a log) (seen_by a' log) count count ls ls
-passed_none cause comes a a' log count ls logged = record {
+pub passed_none : (cause : Option Event → Type 0) (comes : Bool) (s : ServiceState) (ports : Option (List Event)) → Logs s.seen.ports ports []
+    → Passed cause comes s (sees s ports)
+passed_none cause comes s ports logged = record {
   events = [];
   quiet = tt;
   one = (0, tt);
   due = λ before _. due_none before;
   arrives = record { one = omega arith; none = λ _. refl };
-  shown = shows_untold a a' log [] logged refl;
+  shown = shows_untold s.seen.ports ports s.seen.log [] logged refl;
   leads = λ k. refl;
 }
 
@@ -183,22 +182,21 @@ reports_moves gone ready = refl
 pub reports_leads : (k : ℕ) (s : Stage) (ready : Ready) → Leads k s (reported ready ∷ []) s
 reports_leads k s ready = (s, record { own = λ _. reports_moves s ready; other = λ _. refl }, refl)
 
-pub happened_asked : {B : Type 0} {b : books.Ghosts B} {x y : B} {s : Seen} {n m : ℕ} {ks ls : List Connection} (a a' : Option (List Event))
-    (log : Option (List ℕ)) (ready : Ready) → Happened b x y s (seen_by a log) n m ks ls → Logs a a' (reported ready ∷ [])
-    → Happened b x y s (seen_by a' log) n m ks ls
-happened_asked {b = b} {y = y} {m = m} {ls = ls} a a' log ready p logged =
+pub happened_asked : {B : Type 0} {b : books.Ghosts B} {x y : B} {s t : ServiceState} (ports : Option (List Event)) (ready : Ready)
+    → Happened b x y s t → Logs t.seen.ports ports (reported ready ∷ []) → Happened b x y s (sees t ports)
+happened_asked {b = b} {y = y} {t = t} ports ready p logged =
     happened_then p (record {
       events = reported ready ∷ [];
-      shown = shows_untold a a' log (reported ready ∷ []) logged ([], [], refl, refl, refl);
+      shown = shows_untold t.seen.ports ports t.seen.log (reported ready ∷ []) logged ([], [], refl, refl, refl);
       makes = each_quiet b y (reported ready ∷ []) (refl, refl, tt);
-      leads = λ k. reports_leads k (stage_of k m ls) ready;
+      leads = λ k. reports_leads k (stages t k) ready;
     })
 
-pub events_asked : {B : Type 0} {b : books.Ghosts B} {x y : B} {s : Seen} {n m : ℕ} {ks ls : List Connection} (a a' : Option (List Event))
-    (log : Option (List ℕ)) (ready : Ready) (p : Happened b x y s (seen_by a log) n m ks ls) (logged : Logs a a' (reported ready ∷ []))
-    → (happened_asked a a' log ready p logged).events ≡ p.events ++ reported ready ∷ []
+pub events_asked : {B : Type 0} {b : books.Ghosts B} {x y : B} {s t : ServiceState} (ports : Option (List Event)) (ready : Ready)
+    (p : Happened b x y s t) (logged : Logs t.seen.ports ports (reported ready ∷ []))
+    → (happened_asked ports ready p logged).events ≡ p.events ++ reported ready ∷ []
 unfolding happened_asked happened_then
-events_asked a a' log ready p logged = refl
+events_asked ports ready p logged = refl
 
 -- one connection
 pub went_then : (es fs : List Event) (l m n : Connection) → Went es l m → Went fs m n → Went (es ++ fs) l n
@@ -213,12 +211,12 @@ went_then es fs l m n p q = record {
 
 module _ {B : Type 0} (b : books.Ghosts B) where
   -- a read of the connection, an answer and a write
-  pub turned_all : (x y : B) (s t u : Option (List Event)) (l m n o : Connection) (reads serves here goes_on : Bool) (over : Option End)
-      (p : Moved s t l m reads reading here) (made : Made b x y m n serves) (q : Moved t u n o false writing goes_on)
-      → IsTurnOf l reads serves (p.events ++ (made.events ++ q.events))
+  pub turned_all : (x y : B) (s t u : Option (List Event)) (l m n o : Connection) (asked : Asked) (here goes_on : Bool) (over : Option End)
+      (p : Moved s t l m asked.reads reading here) (made : Made b x y m n asked.serves) (q : Moved t u n o false writing goes_on)
+      → IsTurnOf l asked.reads asked.serves (p.events ++ (made.events ++ q.events))
       → IfSome over (λ end. IsDueTo o end (p.events ++ (made.events ++ q.events)))
-      → Turned b x y s u l o reads serves over
-  turned_all x y s t u l m n o reads serves here goes_on over p made q one why = record {
+      → Turned b x y (connection_state s l) (connection_state u o) asked over
+  turned_all x y s t u l m n o asked here goes_on over p made q one why = record {
     events = p.events ++ (made.events ++ q.events);
     logged = logged_then s t u p.events (made.events ++ q.events) p.logged
         (logged_then t t u made.events q.events (subst (λ (es : List Event). Logs t t es) (sym made.unseen) (logs_none t)) q.logged);
@@ -230,9 +228,9 @@ module _ {B : Type 0} (b : books.Ghosts B) where
   }
 
   -- a read that failed
-  pub turned_short : (x : B) (s t : Option (List Event)) (l m : Connection) (reads serves : Bool) (p : Moved s t l m reads reading false)
-      → IsTurnOf l reads serves p.events → Turned b x x s t l m reads serves (Some ReadFailed)
-  turned_short x s t l m reads serves p one = record {
+  pub turned_short : (x : B) (s t : Option (List Event)) (l m : Connection) (asked : Asked) (p : Moved s t l m asked.reads reading false)
+      → IsTurnOf l asked.reads asked.serves p.events → Turned b x x (connection_state s l) (connection_state t m) asked (Some ReadFailed)
+  turned_short x s t l m asked p one = record {
     events = p.events;
     logged = p.logged;
     makes = each_quiet b x p.events p.quiet;
@@ -248,10 +246,10 @@ module _ {B : Type 0} (b : books.Ghosts B) where
       inr (λ before. inl (last_then before p.events (made.events ++ q.events) ∙ last_then (last_of before p.events) made.events q.events
       ∙ q.lost refl (last_of (last_of before p.events) made.events) ∙ ap (λ k. Some (failed k writing)) (sym q.went.same)))
 
-  -- faults of the connection were reported
-  pub turned_reported : (x y : B) (s t : Option (List Event)) (l m : Connection) (faults : Faults) (reads serves : Bool) (over : Option End)
-      → Turned b x y s t l m reads serves over → Turned b x y s t l (reporting m faults) reads serves over
-  turned_reported x y s t l m faults reads serves over p = record {
+  -- other faults of the connection are noted as reported
+  turned_with : (x y : B) (before : ConnectionState) (t : Option (List Event)) (m : Connection) (faults : Faults) (asked : Asked) (over : Option End)
+      → Turned b x y before (connection_state t m) asked over → Turned b x y before (connection_state t (reporting m faults)) asked over
+  turned_with x y before t m faults asked over p = record {
     events = p.events;
     logged = p.logged;
     makes = p.makes;
@@ -259,3 +257,12 @@ module _ {B : Type 0} (b : books.Ghosts B) where
     one = p.one;
     why = p.why;
   }
+
+  -- then its faults were reported, or not
+  pub turned_reported : (x y y' : B) (before : ConnectionState) (t : Option (List Event)) (m m' : Connection) (asked : Asked) (over : Option End)
+      → y' ≡ y → m' ≡ reporting m m'.faults → Turned b x y before (connection_state t m) asked over
+      → Turned b x y' before (connection_state t m') asked over
+  turned_reported x y y' before t m m' asked over same is p =
+      subst (λ (z : B). Turned b x z before (connection_state t m') asked over) (sym same)
+      (subst (λ (n : Connection). Turned b x y before (connection_state t n) asked over) (sym is)
+      (turned_with x y before t m m'.faults asked over p))

@@ -11,6 +11,7 @@ mod Ends
 mod Handled
 mod Whole
 mod Texts
+mod Told
 mod Waits
 mod Apart
 mod Few

@@ -1,7 +1,7 @@
 -- Whether a connection holds a whole request.
 use Rattle.std.proofs.Common.{◌+◌, length-append, true≢false, ne_eqb, Option, None, Some, ◌≡◌, ℕ, List, [], ◌∷◌, Bool, true, false, length}
 use Rattle.std.proofs.Common.{nat_lt, ◌==◌, refl, sym, ap, subst, ◌∙◌, append-nil, inr, arith, ltb-true}
-use Rattle.std.specs.{Bool.{OnTrue}, Prelude.{not}}
+use Rattle.std.specs.{Bool.{OnTrue}, Prelude.{not, ◌||◌}}
 use Rattle.std.specs.Option.{is_some}
 use Rattle.plant_wire_call.specs.{Cut.{WaitsBelow}, Front.{StandsAtFront, waits}}
 use Rattle.plant_wire.specs.{Session.{IsIdle}, declared.reads.End.{End}}
@@ -63,6 +63,11 @@ if_true false P f = tt
 pub not_false : (b : Bool) → not b ≡ false → b ≡ true
 not_false true e = refl
 not_false false e = absurd (true≢false e)
+
+-- nothing was left, and nothing is
+pub none_left : (busy prompt : Bool) → busy || not prompt ≡ false → (busy ≡ false) × (prompt ≡ true)
+none_left true prompt none = absurd (true≢false none)
+none_left false prompt none = (refl, not_false prompt none)
 
 pub not_true : (b : Bool) → not b ≡ true → b ≡ false
 not_true true e = absurd (true≢false (sym e))

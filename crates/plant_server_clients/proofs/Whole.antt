@@ -4,7 +4,7 @@ use Rattle.std.specs.Prelude.{Err}
 use Rattle.plant_books.specs.declared.books.Books as books
 use Rattle.plant_model.specs.declared.{call.Call.{Call}, reply.Answer.{Answer}}
 use Rattle.plant_server_clients.specs.Accounts.{AreSent, AreServed, AtEachMoment, HasOpened, Outcome}
-use Rattle.plant_server_clients.specs.{Causes.{AreDue, HaveFailed}, Fairness.{IsFair, IsSteady}, Held.{IsUnderWay}}
+use Rattle.plant_server_clients.specs.{Causes.{AreDue, HaveFailed}, Fairness.{IsFair, IsSteady}, Happens.{ServiceState, stages}, Held.{IsUnderWay}}
 use Rattle.plant_server_clients.specs.{Events.{Event, Seen, all_answers, all_calls}, Stages.{Leads, Stage, fresh, stage_of}}
 use Rattle.plant_server_clients.proofs.{Few.{bounded}, Ordered.{in_order, lasting}}
 use Rattle.plant_server_clients.proofs.{Apart.{apart_from}, Ends.{ends_each}, Held.{none_yet}, Leading.{each_all, moment}, Rounds.{way_start}}
@@ -32,16 +32,16 @@ module _ {ran : List Call → List Answer → Type 0} {n : ℕ} {r : Outcome} wh
     stops = stops;
   }
 
-module _ {B : Type 0} {b : books.Ghosts B} {x y : B} {s t : Seen} {n turns count : ℕ} {ls : List Connection} {r : Outcome} where
-  pub served_from : (w : IsUnderWay b x y s t turns count ls) → HasOpened n count ls r → (r ≡ Err Ports → HaveFailed w.happened.events)
-      → AreServed b x y s t n r
+module _ {B : Type 0} {b : books.Ghosts B} {x y : B} {seen : Seen} {now : ServiceState} {n turns : ℕ} {r : Outcome} where
+  pub served_from : (w : IsUnderWay b x y seen now turns) → HasOpened n now.count now.connections r → (r ≡ Err Ports → HaveFailed w.happened.events)
+      → AreServed b x y seen now.seen n r
   served_from w stops halts =
       let h = w.happened in
-      let goes : (k : ℕ) → Leads k fresh h.events (stage_of k count ls) = λ k. subst (λ (a : Stage). Leads k a h.events (stage_of k count ls))
+      let goes : (k : ℕ) → Leads k fresh h.events (stages now k) = λ k. subst (λ (a : Stage). Leads k a h.events (stages now k))
       (none_yet k) (h.leads k) in
       let all = each_all b x y h.events h.makes in
       record {
-        sent = sent_from h.events count ls all.ran goes w.kept.fair w.kept.steady w.kept.due stops;
+        sent = sent_from h.events now.count now.connections all.ran goes w.kept.fair w.kept.steady w.kept.due stops;
         shown = h.shown;
         halts = halts;
         moments = λ es fs is. moment b x y h.events es fs is h.makes;
@@ -50,6 +50,6 @@ module _ {B : Type 0} {b : books.Ghosts B} {x y : B} {s t : Seen} {n turns count
       }
 
 -- no connection was accepted
-module _ {B : Type 0} {b : books.Ghosts B} {x : B} {s : Seen} {n : ℕ} {r : Outcome} where
-  pub served_none : HasOpened n 0 [] r → (r ≡ Err Ports → ⊥) → AreServed b x x s s n r
+module _ {B : Type 0} {b : books.Ghosts B} {x : B} {seen : Seen} {n : ℕ} {r : Outcome} where
+  pub served_none : HasOpened n 0 [] r → (r ≡ Err Ports → ⊥) → AreServed b x x seen seen n r
   served_none stops halts = served_from (way_start [] refl) stops (λ is. absurd (halts is))

@@ -4,8 +4,26 @@ use Rattle.plant_wire.specs.{Session.{IsIdle}, declared.reads.End.{End}}
 use Rattle.plant_books.specs.declared.books.Books.{Ghosts}
 use Rattle.plant_server_clients.specs.{Books.{AreQuiet, MakesEach}, Causes.{AreDue, IsDueTo, OffersTo, last_of}}
 use Rattle.plant_server_clients.specs.Events.{AreTold, Event, Log, Logs, Seen, Shows, Trial, all_calls, arrivals, at_ports, failed, marks_of, who, writing}
-use Rattle.plant_server_clients.specs.Stages.{Leads, served, stage_in, stage_of}
-use Rattle.plant_server_clients.specs.declared.connections.Connection.{Connection}
+use Rattle.plant_server_clients.specs.Stages.{Leads, Stage, served, stage_in, stage_of}
+use Rattle.plant_server_clients.specs.declared.connections.{Asked.{Asked}, Connection.{Connection}}
+
+-- a connection at a moment, and what the ports saw until then
+pub record ConnectionState : Type 0 where
+  pub seen : Log
+  pub connection : Connection
+
+abbrev pub connection_state : Log → Connection → ConnectionState
+connection_state seen connection = record { seen = seen; connection = connection }
+
+-- a service at a moment: what was seen of it until then, how many connections were accepted, and those that are open
+pub record ServiceState : Type 0 where
+  pub seen : Seen
+  pub count : ℕ
+  pub connections : List Connection
+
+-- where each connection is
+abbrev pub stages : ServiceState → ℕ → Stage
+stages service k = stage_of k service.count service.connections
 
 -- these events are of the connection k
 abbrev pub AreOf : ℕ → List Event → Type 0
@@ -64,31 +82,31 @@ pub record Made {B : Type 0} (b : Ghosts B) (from to : B) (before after : Connec
   pub due : (last : Option Event) (later : List Event) → ((each : Option Event) → AreDue each later)
       → (after.pending.text.items ≢ [] → OffersTo before.number later) → AreDue last (events ++ later)
 
--- a read, an answer and a write of a connection, one after another; the connection may then be closed with this end
-pub record Turned {B : Type 0} (b : Ghosts B) (from to : B) (s t : Log) (before after : Connection) (reads serves : Bool)
-    (over : Option End) : Type 0 where
+-- A read and an answer of a connection, each if it was asked for, and a write: from one state of the books and of the
+-- connection to another. The connection may then be closed with this end.
+pub record Turned {B : Type 0} (b : Ghosts B) (x y : B) (before after : ConnectionState) (asked : Asked) (over : Option End) : Type 0 where
   pub events : List Event
-  pub logged : Logs s t (at_ports events)
-  pub makes : MakesEach b from events to
-  pub went : Went events before after
-  pub one : IsTurnOf before reads serves events
-  pub why : IfSome over (λ end. IsDueTo after end events)
-
--- What happened in all, from n accepted connections with the connections ls to m with the connections ms: the events
--- are what the ports saw and what the office did, all calls one after another, whatever the connection, and each
--- connection goes by its own events alone.
-pub record Happened {B : Type 0} (b : Ghosts B) (x y : B) (s t : Seen) (n m : ℕ) (ls ms : List Connection) : Type 0 where
-  pub events : List Event
-  pub shown : Shows s t events
+  pub logged : Logs before.seen after.seen (at_ports events)
   pub makes : MakesEach b x events y
-  pub leads : (k : ℕ) → Leads k (stage_of k n ls) events (stage_of k m ms)
+  pub went : Went events before.connection after.connection
+  pub one : IsTurnOf before.connection asked.reads asked.serves events
+  pub why : IfSome over (λ end. IsDueTo after.connection end events)
+
+-- What happened in all, from one state of the books and of the service to another: the events are what was seen and what
+-- the office did, all calls one after another, whatever the connection, and each connection goes by its own events
+-- alone.
+pub record Happened {B : Type 0} (b : Ghosts B) (x y : B) (before after : ServiceState) : Type 0 where
+  pub events : List Event
+  pub shown : Shows before.seen after.seen events
+  pub makes : MakesEach b x events y
+  pub leads : (k : ℕ) → Leads k (stages before k) events (stages after k)
 
 -- the same at one connection, without a call; it has its cause, if `cause` is true of the event before
-pub record Passed (cause : Option Event → Type 0) (comes : Bool) (s t : Seen) (n m : ℕ) (ls ms : List Connection) : Type 0 where
+pub record Passed (cause : Option Event → Type 0) (comes : Bool) (before after : ServiceState) : Type 0 where
   pub events : List Event
   pub quiet : AreQuiet events
   pub one : (k : ℕ) × AreOf k events
-  pub due : (before : Option Event) → cause before → AreDue before events
+  pub due : (last : Option Event) → cause last → AreDue last events
   pub arrives : Arrives comes events
-  pub shown : Shows s t events
-  pub leads : (k : ℕ) → Leads k (stage_of k n ls) events (stage_of k m ms)
+  pub shown : Shows before.seen after.seen events
+  pub leads : (k : ℕ) → Leads k (stages before k) events (stages after k)

@@ -1,70 +1,62 @@
--- The table of the open connections, and the turns that they have.
+-- The open connections, and the turns that they have.
 use Rattle.std.specs.Prelude.{Bool, false, true, ℕ, suc, length, List, [], Option, Some, slice_get, remove, ◌⊎◌, ◌≡◌, ◌≤◌}
-use Rattle.std.specs.declared.io.Write as write
 use Rattle.plant_books.specs.declared.books.Books.{Ghosts}
-use Rattle.plant_server_clients.specs.{Causes.{Always}, Events.{Event, Seen, reports, seen_by}, Happens.{Happened}}
+use Rattle.plant_server_clients.specs.{Causes.{Always}, Events.{Event, Log, Seen, reports, seen_by}}
+use Rattle.plant_server_clients.specs.Happens.{Happened, ServiceState, stages}
 use Rattle.plant_server_clients.specs.{Paces.{AreKept, AreRising, Keeps, Splits, numbers}, Prompt.{ArePrompt}}
-use Rattle.plant_server_clients.specs.{Stages.{AreOpenConnections, stage_of}, declared.connections.Connection.{Connection}}
-use Rattle.plant_server_clients.specs.declared.ports.Ports as ports
-use Rattle.plant_server_clients.specs.declared.serving.{Held.{Held}, Reports.{Reports}}
+use Rattle.plant_server_clients.specs.Stages.{AreOpenConnections}
+use Rattle.plant_server_clients.specs.declared.connections.Connection.{Connection}
+use Rattle.plant_server_clients.specs.declared.serving.{Held.{Held}, Turn.{Turn}}
 
 -- the open connections, in the order in which they were accepted; no more were accepted than are to be served
 pub record IsHeld (held : Held) : Type 0 where
   pub connections : AreOpenConnections held.count held.connections.items
-  pub few : held.count ≤ held.n
+  pub few : held.count ≤ held.plan.connections
   pub rising : AreRising (numbers held.connections.items)
 
+-- unless the service is busy, the ports may be waited for
+abbrev pub MayWait : Held → Type 0
+MayWait held = held.busy ≡ false → ArePrompt held.connections.items
+
+-- the service that holds these, with what the ports and the log show
+abbrev pub service_state : Log → Option (List ℕ) → Held → ServiceState
+service_state ports log held = record { seen = seen_by ports log; count = held.count; connections = held.connections.items }
+
+-- a service before it accepted any connection
+abbrev pub new_service : Seen → ServiceState
+new_service seen = record { seen = seen; count = 0; connections = [] }
+
 -- what happened, and that it keeps the turns going from this bound on, if `given` is true of the event before
-pub record IsRound {B : Type 0} (given : Option Event → Type 0) (from : ℕ) (b : Ghosts B) (x y : B) (s t : Seen) (n m : ℕ) (ls ms : List Connection) : Type 0 where
-  pub happened : Happened b x y s t n m ls ms
-  pub keeps : Keeps given from 0 (λ k. stage_of k n ls) happened.events
+pub record IsRound {B : Type 0} (given : Option Event → Type 0) (from : ℕ) (b : Ghosts B) (x y : B) (before after : ServiceState) : Type 0 where
+  pub happened : Happened b x y before after
+  pub keeps : Keeps given from 0 (stages before) happened.events
 
 -- the same within a turn of all connections, from the last one to this place: those from the bound on had their turns
-pub record IsWithinRound {B : Type 0} (b : Ghosts B) (x y : B) (s t : Seen) (n m : ℕ) (ls ms : List Connection) (at : ℕ) : Type 0 where
-  pub happened : Happened b x y s t n m ls ms
+pub record IsWithinRound {B : Type 0} (b : Ghosts B) (x y : B) (before after : ServiceState) (at : ℕ) : Type 0 where
+  pub happened : Happened b x y before after
   pub bound : ℕ
-  pub splits : Splits bound at (numbers ms)
-  pub keeps : Keeps Always n bound (λ k. stage_of k n ls) happened.events
+  pub splits : Splits bound at (numbers after.connections)
+  pub keeps : Keeps Always before.count bound (stages before) happened.events
 
 -- a service so far, after this many turns
-pub record IsUnderWay {B : Type 0} (b : Ghosts B) (x y : B) (s t : Seen) (turns n : ℕ) (ls : List Connection) : Type 0 where
-  pub happened : Happened b x y s t 0 n [] ls
+pub record IsUnderWay {B : Type 0} (b : Ghosts B) (x y : B) (seen : Seen) (now : ServiceState) (turns : ℕ) : Type 0 where
+  pub happened : Happened b x y (new_service seen) now
   pub kept : AreKept 0 happened.events
   pub asked : turns ≤ length (reports happened.events)
 
--- One turn, from one state of the books, of what is seen and of the connections to another. If `left` is false, it
--- leaves no request that can be answered now, if there was none before. `given` is assumed of the event before.
-pub record IsTurn {B : Type 0} (given : Option Event → Type 0) (b : Ghosts B) (x y : B) (s t : Seen) (before after : Held)
-    (serves left : Bool) : Type 0 where
-  pub happened : Happened b x y s t before.count after.count before.connections.items after.connections.items
-  pub held : IsHeld after
-  pub same : after.n ≡ before.n
-  pub prompt : ArePrompt before.connections.items → left ≡ false → ArePrompt after.connections.items
+-- One turn, from one state of the books and of the service to another. `given` is assumed of the event before.
+pub record IsTurn {B : Type 0} (given : Option Event → Type 0) (b : Ghosts B) (x y : B) (before after : ServiceState) (serves : Bool) : Type 0 where
+  pub happened : Happened b x y before after
   -- requests are answered in it only if none was left before
-  pub alone : serves ≡ true → ArePrompt before.connections.items
-      → Keeps given 0 0 (λ k. stage_of k before.count before.connections.items) happened.events
-  pub busy : serves ≡ false → Keeps given 0 after.count (λ k. stage_of k before.count before.connections.items) happened.events
+  pub alone : serves ≡ true → ArePrompt before.connections → Keeps given 0 0 (stages before) happened.events
+  pub busy : serves ≡ false → Keeps given 0 after.count (stages before) happened.events
 
--- A turn of the connection at this place: it has its turn after those from the bound on, and its number is the next
+-- A turn of the connection at its place: it has its turn after those from the bound on, and its number is the next
 -- bound.
-pub record IsTurnAt {B : Type 0} (b : Ghosts B) (x y : B) (s t : Seen) (before after : Held) (at : ℕ)
-    (reads serves left : Bool) : Type 0 where
-  pub turn : IsTurn Always b x y s t before after serves left
-  pub paces : reads ≡ false → serves ≡ true → (bound : ℕ) (l : Connection) → slice_get before.connections.items at ≡ Some l
-      → Splits bound (suc at) (numbers before.connections.items)
-      → Keeps Always bound l.number (λ k. stage_of k before.count before.connections.items) turn.happened.events
-  pub others : (numbers after.connections.items ≡ numbers before.connections.items)
-      ⊎ (numbers after.connections.items ≡ remove (numbers before.connections.items) at)
-
--- a turn, with what these ports and this log show as what is seen
-abbrev pub Turns : {B P W E : Type 0} → (Option Event → Type 0) → Ghosts B → ports.Ghosts P → write.Ghosts W → B → B → P → P
-    → Reports W E → Reports W E → Held → Held → Bool → Bool → Type 0
-Turns given b p w x y from to told_before told_after before after serves left =
-    IsTurn given b x y (seen_by (p.seen from) (w.contents told_before.log)) (seen_by (p.seen to) (w.contents told_after.log))
-    before after serves left
-
-abbrev pub TurnsAt : {B P W E : Type 0} → Ghosts B → ports.Ghosts P → write.Ghosts W → B → B → P → P
-    → Reports W E → Reports W E → Held → Held → ℕ → Bool → Bool → Bool → Type 0
-TurnsAt b p w x y from to told_before told_after before after at reads serves left =
-    IsTurnAt b x y (seen_by (p.seen from) (w.contents told_before.log)) (seen_by (p.seen to) (w.contents told_after.log))
-    before after at reads serves left
+pub record IsTurnAt {B : Type 0} (b : Ghosts B) (x y : B) (before after : ServiceState) (turn : Turn) : Type 0 where
+  pub turned : IsTurn Always b x y before after turn.asked.serves
+  pub paces : turn.asked.reads ≡ false → turn.asked.serves ≡ true → (bound : ℕ) (l : Connection) → slice_get before.connections turn.at ≡ Some l
+      → Splits bound (suc turn.at) (numbers before.connections)
+      → Keeps Always bound l.number (stages before) turned.happened.events
+  pub others : (numbers after.connections ≡ numbers before.connections)
+      ⊎ (numbers after.connections ≡ remove (numbers before.connections) turn.at)

@@ -5,9 +5,11 @@ ghost use Rattle.std.specs.Bool.{OnTrue};
 ghost use Rattle.plant_wire_call.specs.{Cut.{WaitsBelow}, Front.{StandsAtFront, waits}};
 ghost use Rattle.plant_wire.specs.{Limits.{least_room}, Session.{IsIdle}};
 ghost use Rattle.plant_wire.specs.declared.reads.End.TheVariants as ends;
-ghost use Rattle.plant_server_clients.specs.{Happens.{Made, Moved, Turned}, Prompt.{AreFew, IsPrompt, IsSettled}};
-ghost use Rattle.plant_server_clients.specs.Faults.{added, reporting, without};
-ghost use Rattle.plant_server_clients.specs.{Events.{reading, writing}, Stages.{IsOpen, MayClose, end_for}};
+ghost use Rattle.plant_server_log.specs.Log.{TellsFaults};
+ghost use Rattle.plant_server_clients.specs.Happens.{Made, Moved, Turned, connection_state};
+ghost use Rattle.plant_server_clients.specs.Faults.{TellsIf, added, reporting, without};
+ghost use Rattle.plant_server_clients.specs.{Events.{reading, writing}, Prompt.{AreFew, IsPrompt, IsSettled}};
+ghost use Rattle.plant_server_clients.specs.Stages.{IsOpen, MayClose, end_for};
 
 use crate::answers::{Answers, Draft};
 use crate::desk::Desk;
@@ -304,8 +306,8 @@ pub(crate) fn turn_connection<P: Ports, B: Books>(
     office: &mut Office<B>,
 ) -> Option<End>
     requires waits { WaitsBelow connection.old.unread.items connection.old.wanted }
-    ensures turned { Turned B.Books office.old.books office.new.books (P.seen ports.old) (P.seen ports.new) connection.old
-        connection.new asked.reads asked.serves result }
+    ensures turned { Turned B.Books office.old.books office.new.books (connection_state (P.seen ports.old) connection.old)
+        (connection_state (P.seen ports.new) connection.new) asked result }
     ensures waits { WaitsBelow connection.new.unread.items connection.new.wanted }
     ensures may { IfSome result (λ end. MayClose connection.new end) }
 {
@@ -356,32 +358,26 @@ fn report_faults<B: Books, E: Write>(
 )
     ensures same { connection.new ≡ reporting connection.old connection.new.faults }
     ensures books { office.new.books ≡ office.old.books }
+    ensures told { TellsFaults (E.contents errors.old) (E.contents errors.new) }
 {
     let faults = office.take_faults();
     say_faults(errors, without(faults, connection.faults));
     connection.faults = added(connection.faults, faults);
 }
 
-/// One turn of a connection, as `turn_connection` makes it, and a report of the faults that it was answered, if
-/// `reports`.
-pub(crate) fn turn_and_report<P: Ports, B: Books, E: Write>(
-    desk: &mut Desk,
-    ports: &mut P,
-    connection: &mut Connection,
-    asked: Asked,
-    office: &mut Office<B>,
-    errors: &mut E,
+/// A report of the faults, if it is asked for.
+#[tactic(auto, using(crate::proofs::Told::if_none))]
+pub(crate) fn report_if<B: Books, E: Write>(
     reports: bool,
-) -> Option<End>
-    requires waits { WaitsBelow connection.old.unread.items connection.old.wanted }
-    ensures turned { Turned B.Books office.old.books office.new.books (P.seen ports.old) (P.seen ports.new) connection.old
-        connection.new asked.reads asked.serves result }
-    ensures waits { WaitsBelow connection.new.unread.items connection.new.wanted }
-    ensures may { IfSome result (λ end. MayClose connection.new end) }
+    errors: &mut E,
+    connection: &mut Connection,
+    office: &mut Office<B>,
+)
+    ensures same { connection.new ≡ reporting connection.old connection.new.faults }
+    ensures books { office.new.books ≡ office.old.books }
+    ensures told { TellsIf reports (E.contents errors.old) (E.contents errors.new) }
 {
-    let over = turn_connection(desk, ports, connection, asked, office);
     if reports {
         report_faults(errors, connection, office);
     }
-    over
 }

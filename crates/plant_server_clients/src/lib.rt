@@ -10,4 +10,4 @@ mod serving;
 pub use answers::Answers;
 pub use connections::Connection;
 pub use ports::{Ports, Ready, Sent, Taken};
-pub use serving::{Halted, Reports, serve_clients};
+pub use serving::{Halted, Plan, serve_clients};

@@ -1,14 +1,16 @@
 //! The service loop over many connections on one thread: does what is ready, and answers at most one request of each
 //! connection per turn, so that none starves the others.
 
-ghost use Rattle.std.specs.Prelude.{◌≡◌, ◌<◌, ℕ, List, Option, Err, IfSome, IsTrue, length, remove, slice_get, Some, true, false};
+ghost use Rattle.std.specs.Prelude.{◌≡◌, ◌<◌, ℕ, List, Option, Err, IfSome, IsTrue, length, not, remove, slice_get, Some, true, false};
 ghost use Rattle.std.specs.Bool.{OnTrue};
 ghost use Rattle.plant_books.specs.Books.{WasHonest};
+ghost use Rattle.plant_server_log.specs.Log.{TellsFaults};
 ghost use Rattle.plant_server_clients.specs.declared.connections.Connection.{Connection};
-ghost use Rattle.plant_server_clients.specs.{Accounts.{AreServed}, Causes.{Always, CausedAt, ExpiredAt, HasReported}, Events.{seen_by}, Happens.{Passed}};
-ghost use Rattle.plant_server_clients.specs.{Held.{IsHeld, IsRound, Turns, TurnsAt}, Prompt.{ArePrompt}, Stages.{AreOpenConnections, MayClose}};
+ghost use Rattle.plant_server_clients.specs.{Accounts.{AreServed}, Causes.{Always, CausedAt, ExpiredAt, HasReported}, Events.{seen_by}, Faults.{TellsIf}};
+ghost use Rattle.plant_server_clients.specs.Held.{IsHeld, IsRound, IsTurn, IsTurnAt, MayWait, service_state};
+ghost use Rattle.plant_server_clients.specs.{Happens.{Passed}, Prompt.{ArePrompt}, Stages.{AreOpenConnections, MayClose}};
 
-use crate::connections::{Asked, Connection, turn_and_report};
+use crate::connections::{Asked, Connection, report_if, turn_connection};
 use crate::desk::Desk;
 use crate::ports::{Ports, Ready};
 use plant_office::{Books, Office};
@@ -28,26 +30,33 @@ pub enum Halted {
     Shut,
 }
 
-/// What a service writes in addition to its answers. A failed write is ignored.
-#[derive(Drop)]
-pub struct Reports<W, E> {
-    /// Gets a line for each connection that has ended, with how it ended.
-    pub log: W,
-    /// Gets a line for each kind of fault that a connection was answered, if the service goes on only while its store
-    /// is open.
-    pub errors: E,
+/// What a service is to do.
+#[derive(Clone, Copy, Debug)]
+pub struct Plan {
+    /// How many connections it serves in all.
+    pub connections: u64,
+    /// Whether it goes on only while its store is open. It then also reports which kinds of fault it answers.
+    pub while_open: bool,
 }
 
-/// The open connections, and how many were accepted so far.
+/// What a service holds: what it needs for any connection, the open connections, and how many were accepted so far.
 #[derive(Drop)]
 pub(crate) struct Held {
+    pub desk: Desk,
     pub connections: Vec<Connection>,
     /// How many connections were accepted so far.
     pub count: u64,
-    /// How many are to be served in all.
-    pub n: u64,
-    /// Whether faults are reported.
-    pub reports: bool,
+    pub plan: Plan,
+    /// Whether a connection may have a request that can be answered now.
+    pub busy: bool,
+}
+
+/// A turn of one connection.
+#[derive(Clone, Copy)]
+pub(crate) struct Turn {
+    /// The connection's index.
+    pub at: usize,
+    pub asked: Asked,
 }
 
 /// The index of the connection with this number.
@@ -69,95 +78,93 @@ fn place_of(connections: &[Connection], number: u64) -> Option<usize>
 
 /// Closes a connection that ended in this way, and writes that to the log.
 fn close_connection<P: Ports, W: Write>(
-    alloc: Global,
+    held: &mut Held,
     ports: &mut P,
     log: &mut W,
-    held: &mut Held,
     at: usize,
     end: End,
 )
     requires within { at < length held.old.connections.items }
     requires held { IsHeld held.old }
     requires may { (connection : Connection) → slice_get held.old.connections.items at ≡ Some connection → MayClose connection end }
-    ensures passed { Passed (CausedAt held.old.connections.items at end) false (seen_by (P.seen ports.old) (W.contents log.old))
-        (seen_by (P.seen ports.new) (W.contents log.new))
-        held.old.count held.new.count held.old.connections.items held.new.connections.items }
+    ensures passed { Passed (CausedAt held.old.connections.items at end) false
+        (service_state (P.seen ports.old) (W.contents log.old) held.old)
+        (service_state (P.seen ports.new) (W.contents log.new) held.new) }
     ensures held { IsHeld held.new }
-    ensures same { held.new.n ≡ held.old.n }
+    ensures same { held.new.plan ≡ held.old.plan }
+    ensures busy { held.new.busy ≡ held.old.busy }
     ensures count { held.new.count ≡ held.old.count }
     ensures others { held.new.connections.items ≡ remove held.old.connections.items at }
 {
     let number = held.connections[at].number;
     ports.close(number, end);
-    say_end(alloc, log, number + 1, end);
+    say_end(held.desk.alloc, log, number + 1, end);
     drop(held.connections.remove(at));
 }
 
-/// One turn of the connection at this index, which is closed if it is over. Returns whether it may still have a request
-/// that can be answered.
+/// One turn of the connection at this index, which is closed if it is over.
 fn turn_at<P: Ports, B: Books, W: Write, E: Write>(
-    desk: &mut Desk,
-    ports: &mut P,
-    reports: &mut Reports<W, E>,
     held: &mut Held,
-    at: usize,
-    asked: Asked,
+    ports: &mut P,
+    turn: Turn,
     office: &mut Office<B>,
-) -> bool
-    requires within { at < length held.old.connections.items }
+    log: &mut W,
+    errors: &mut E,
+)
+    requires within { turn.at < length held.old.connections.items }
     requires held { IsHeld held.old }
-    ensures { TurnsAt B.Books P.Ports W.Write office.old.books office.new.books ports.old ports.new
-        reports.old reports.new held.old held.new at asked.reads asked.serves result }
+    ensures turned { IsTurnAt B.Books office.old.books office.new.books
+        (service_state (P.seen ports.old) (W.contents log.old) held.old)
+        (service_state (P.seen ports.new) (W.contents log.new) held.new) turn }
+    ensures held { IsHeld held.new }
+    ensures same { held.new.plan ≡ held.old.plan }
+    ensures prompt { MayWait held.old → MayWait held.new }
+    ensures told { TellsIf held.old.plan.while_open (E.contents errors.old) (E.contents errors.new) }
 {
-    let asks = held.reports;
-    let connection = &mut held.connections[at];
-    let errors = &mut reports.errors;
-    if let Some(end) = turn_and_report(desk, ports, connection, asked, office, errors, asks) {
-        close_connection(desk.alloc, ports, &mut reports.log, held, at, end);
-        return false;
+    let reports = held.plan.while_open;
+    let connection = &mut held.connections[turn.at];
+    let over = turn_connection(&mut held.desk, ports, connection, turn.asked, office);
+    report_if(reports, errors, connection, office);
+    if let Some(end) = over {
+        close_connection(held, ports, log, turn.at, end);
+        return;
     }
-    !held.connections[at].is_prompt()
+    held.busy |= !held.connections[turn.at].is_prompt();
 }
 
 /// Gives up the connection at this index, whose time is over, unless it has a request that can be answered.
-fn give_up<P: Ports, W: Write>(
-    alloc: Global,
-    ports: &mut P,
-    log: &mut W,
-    held: &mut Held,
-    at: usize,
-)
+fn give_up<P: Ports, W: Write>(held: &mut Held, ports: &mut P, log: &mut W, at: usize)
     requires within { at < length held.old.connections.items }
     requires held { IsHeld held.old }
-    ensures passed { Passed (ExpiredAt held.old.connections.items at) false (seen_by (P.seen ports.old) (W.contents log.old))
-        (seen_by (P.seen ports.new) (W.contents log.new))
-        held.old.count held.new.count held.old.connections.items held.new.connections.items }
+    ensures passed { Passed (ExpiredAt held.old.connections.items at) false
+        (service_state (P.seen ports.old) (W.contents log.old) held.old)
+        (service_state (P.seen ports.new) (W.contents log.new) held.new) }
     ensures held { IsHeld held.new }
-    ensures same { held.new.n ≡ held.old.n }
-    ensures prompt { ArePrompt held.old.connections.items → ArePrompt held.new.connections.items }
+    ensures same { held.new.plan ≡ held.old.plan }
+    ensures prompt { MayWait held.old → MayWait held.new }
 {
     if let Some(end) = held.connections[at].given_up() {
-        close_connection(alloc, ports, log, held, at, end);
+        close_connection(held, ports, log, at, end);
     }
 }
 
 /// Accepts a connection, and counts it. If memory runs out, the connection goes on waiting.
-fn accept<P: Ports>(alloc: Global, ports: &mut P, held: &mut Held)
+fn accept<P: Ports>(held: &mut Held, ports: &mut P)
     requires { IsHeld held.old }
-    ensures passed { (log : Option (List ℕ)) → Passed Always true (seen_by (P.seen ports.old) log)
-        (seen_by (P.seen ports.new) log) held.old.count held.new.count held.old.connections.items held.new.connections.items }
+    ensures passed { (log : Option (List ℕ)) → Passed Always true (service_state (P.seen ports.old) log held.old)
+        (service_state (P.seen ports.new) log held.new) }
     ensures held { IsHeld held.new }
-    ensures same { held.new.n ≡ held.old.n }
-    ensures prompt { ArePrompt held.old.connections.items → ArePrompt held.new.connections.items }
+    ensures same { held.new.plan ≡ held.old.plan }
+    ensures prompt { MayWait held.old → MayWait held.new }
 {
     let number = held.count;
-    if number == held.n {
+    if number == held.plan.connections {
         return;
     }
     let places = held.connections.len();
     if held
         .connections
-        .push(Connection::new(alloc, number))
+        .push(Connection::new(held.desk.alloc, number))
         .is_err()
     {
         return;
@@ -172,18 +179,19 @@ fn accept<P: Ports>(alloc: Global, ports: &mut P, held: &mut Held)
 /// One turn of each connection, from the last to the first: a request is answered, if the connection has one, and what
 /// is still to be sent is written.
 fn serve_turn<P: Ports, B: Books, W: Write, E: Write>(
-    desk: &mut Desk,
-    ports: &mut P,
-    reports: &mut Reports<W, E>,
     held: &mut Held,
+    ports: &mut P,
     office: &mut Office<B>,
+    log: &mut W,
+    errors: &mut E,
 )
     requires { IsHeld held.old }
     ensures round { IsRound Always held.old.count B.Books office.old.books office.new.books
-        (seen_by (P.seen ports.old) (W.contents reports.old.log)) (seen_by (P.seen ports.new) (W.contents reports.new.log))
-        held.old.count held.new.count held.old.connections.items held.new.connections.items }
+        (service_state (P.seen ports.old) (W.contents log.old) held.old)
+        (service_state (P.seen ports.new) (W.contents log.new) held.new) }
     ensures held { IsHeld held.new }
-    ensures same { held.new.n ≡ held.old.n }
+    ensures same { held.new.plan ≡ held.old.plan }
+    ensures told { TellsIf held.old.plan.while_open (E.contents errors.old) (E.contents errors.new) }
 {
     let answers = Asked {
         reads: false,
@@ -193,73 +201,49 @@ fn serve_turn<P: Ports, B: Books, W: Write, E: Write>(
     'turn: while at > 0 {
         at -= 1;
         if at < held.connections.len() {
-            let _ = turn_at(desk, ports, reports, held, at, answers, office);
+            let turn = Turn { at, asked: answers };
+            turn_at(held, ports, turn, office, log, errors);
         }
     }
 }
 
-/// One turn of the connection with this number, if it is open. Returns whether it may still have a request that can be
-/// answered.
-fn turn_of<P: Ports, B: Books, W: Write, E: Write>(
-    desk: &mut Desk,
-    ports: &mut P,
-    reports: &mut Reports<W, E>,
-    held: &mut Held,
-    number: u64,
-    asked: Asked,
-    office: &mut Office<B>,
-) -> bool
-    requires { IsHeld held.old }
-    ensures { Turns Always B.Books P.Ports W.Write office.old.books office.new.books ports.old ports.new
-        reports.old reports.new held.old held.new asked.serves result }
-{
-    match place_of(&held.connections, number) {
-        Some(at) => turn_at(desk, ports, reports, held, at, asked, office),
-        None => false,
-    }
-}
-
-/// Handles one event. A request of its connection is answered at once only if `serves`: while others wait for their
-/// turns, it waits with them. Returns whether the connection may still have a request that can be answered.
+/// Handles one event. A request of its connection is answered at once, unless the service is busy: then it waits for its
+/// turn, as those of others do.
+#[tactic(auto, using(crate::proofs::Told::if_none, crate::proofs::Rounds::turn_none))]
 fn step<P: Ports, B: Books, W: Write, E: Write>(
-    desk: &mut Desk,
-    ports: &mut P,
-    reports: &mut Reports<W, E>,
     held: &mut Held,
+    ports: &mut P,
     ready: Ready,
-    serves: bool,
     office: &mut Office<B>,
-) -> bool
+    log: &mut W,
+    errors: &mut E,
+)
     requires { IsHeld held.old }
-    ensures { Turns (HasReported ready) B.Books P.Ports W.Write office.old.books office.new.books ports.old ports.new
-        reports.old reports.new held.old held.new serves result }
+    ensures turned { IsTurn (HasReported ready) B.Books office.old.books office.new.books
+        (service_state (P.seen ports.old) (W.contents log.old) held.old)
+        (service_state (P.seen ports.new) (W.contents log.new) held.new) (not held.old.busy) }
+    ensures held { IsHeld held.new }
+    ensures same { held.new.plan ≡ held.old.plan }
+    ensures prompt { MayWait held.old → MayWait held.new }
+    ensures told { TellsIf held.old.plan.while_open (E.contents errors.old) (E.contents errors.new) }
 {
     match ready {
-        Ready::Came => {
-            accept(desk.alloc, ports, held);
-            false
-        }
-        Ready::Readable(number) => {
-            let asked = Asked {
-                reads: true,
-                serves,
-            };
-            turn_of(desk, ports, reports, held, number, asked, office)
-        }
-        Ready::Writable(number) => {
-            let asked = Asked {
-                reads: false,
-                serves,
-            };
-            turn_of(desk, ports, reports, held, number, asked, office)
+        Ready::Came => accept(held, ports),
+        Ready::Readable(number) | Ready::Writable(number) => {
+            if let Some(at) = place_of(&held.connections, number) {
+                let asked = Asked {
+                    reads: matches!(ready, Ready::Readable(_)),
+                    serves: !held.busy,
+                };
+                turn_at(held, ports, Turn { at, asked }, office, log, errors);
+            }
         }
         Ready::Expired(number) => {
             if let Some(at) = place_of(&held.connections, number) {
-                give_up(desk.alloc, ports, &mut reports.log, held, at);
+                give_up(held, ports, log, at);
             }
-            false
         }
-        Ready::Nothing | Ready::Failed => false,
+        Ready::Nothing | Ready::Failed => {}
     }
 }
 
@@ -276,32 +260,32 @@ fn all_prompt(connections: &[Connection], count: u64) -> bool
     true
 }
 
-/// One turn of the service: handles one event and, if requests were left (`busy`), answers one of each connection that
-/// has any. Returns whether some may be left.
-fn turn<P: Ports, B: Books, W: Write, E: Write>(
-    desk: &mut Desk,
-    ports: &mut P,
-    reports: &mut Reports<W, E>,
+/// One turn of the service: handles one event and, if the service was busy, answers a request of each connection that
+/// has any.
+fn serve_ready<P: Ports, B: Books, W: Write, E: Write>(
     held: &mut Held,
+    ports: &mut P,
     ready: Ready,
-    busy: bool,
     office: &mut Office<B>,
-) -> bool
+    log: &mut W,
+    errors: &mut E,
+)
     requires held { IsHeld held.old }
-    requires prompt { busy ≡ false → ArePrompt held.old.connections.items }
+    requires prompt { MayWait held.old }
     ensures round { IsRound (HasReported ready) 0 B.Books office.old.books office.new.books
-        (seen_by (P.seen ports.old) (W.contents reports.old.log)) (seen_by (P.seen ports.new) (W.contents reports.new.log))
-        held.old.count held.new.count held.old.connections.items held.new.connections.items }
+        (service_state (P.seen ports.old) (W.contents log.old) held.old)
+        (service_state (P.seen ports.new) (W.contents log.new) held.new) }
     ensures held { IsHeld held.new }
-    ensures same { held.new.n ≡ held.old.n }
-    ensures prompt { result ≡ false → ArePrompt held.new.connections.items }
+    ensures same { held.new.plan ≡ held.old.plan }
+    ensures prompt { MayWait held.new }
+    ensures told { TellsIf held.old.plan.while_open (E.contents errors.old) (E.contents errors.new) }
 {
-    let left = step(desk, ports, reports, held, ready, !busy, office);
-    if !busy {
-        return left;
+    let was_busy = held.busy;
+    step(held, ports, ready, office, log, errors);
+    if was_busy {
+        serve_turn(held, ports, office, log, errors);
+        held.busy = !all_prompt(&held.connections, held.count);
     }
-    serve_turn(desk, ports, reports, held, office);
-    !all_prompt(&held.connections, held.count)
 }
 
 /// Whether the service ends now because it goes on only while its store is open, and the store has shut.
@@ -311,53 +295,56 @@ fn is_over<B: Books>(while_open: bool, office: &Office<B>) -> bool
     while_open && office.is_shut()
 }
 
-/// Serves `n` connections, as many at once as the ports accept, and writes to the log how each ended. All calls,
-/// whatever their connection, are made one after another. Each connection is sent the answers to its own requests, in
-/// their order, and no byte of an answer before its call was made; what one connection sends affects another only
-/// through the office. Each answer is offered to its connection at once. A connection is given up only if a read or a
-/// write of it has failed, or the ports have just reported that its time is over; and the service halts with `Ports`
-/// only after the ports failed.
+/// Serves as many connections as planned, as many at once as the ports accept, and writes to the log how each ended. All
+/// calls, whatever their connection, are made one after another. Each connection is sent the answers to its own
+/// requests, in their order, and no byte of an answer before its call was made; what one connection sends affects
+/// another only through the office. Each answer is offered to its connection at once. A connection is given up only if a
+/// read or a write of it has failed, or the ports have just reported that its time is over; and the service halts with
+/// `Ports` only after the ports failed.
 ///
-/// If `while_open`, it halts once a failure has shut the store: after the turn in which that was answered, and in which
-/// the ports took what they could of the answer. In this mode it also writes to the errors which kinds of faults each
-/// connection was answered.
+/// If it is to go on only while its store is open, it halts once a failure has shut the store: after the turn in which
+/// that was answered, and in which the ports took what they could of the answer. In this mode it also writes to the
+/// errors which kinds of fault each connection was answered; otherwise it writes nothing there. A failed write to the
+/// log or the errors is ignored.
 pub fn serve_clients<P: Ports, B: Books, W: Write, E: Write>(
     alloc: Global,
     ports: &mut P,
-    n: u64,
-    while_open: bool,
+    plan: Plan,
     office: &mut Office<B>,
-    reports: &mut Reports<W, E>,
+    log: &mut W,
+    errors: &mut E,
 ) -> Result<(), Halted>
     ensures served { AreServed B.Books office.old.books office.new.books
-        (seen_by (P.seen ports.old) (W.contents reports.old.log)) (seen_by (P.seen ports.new) (W.contents reports.new.log))
-        n result }
+        (seen_by (P.seen ports.old) (W.contents log.old)) (seen_by (P.seen ports.new) (W.contents log.new))
+        plan.connections result }
     ensures honest { WasHonest B.is_honest office.old.books office.new.books }
-    ensures shut { result ≡ Err Halted.Shut → IsTrue while_open × (¬ B.is_honest office.new.books) }
+    ensures shut { result ≡ Err Halted.Shut → IsTrue plan.while_open × (¬ B.is_honest office.new.books) }
+    ensures said { TellsFaults (E.contents errors.old) (E.contents errors.new) }
+    ensures quiet { plan.while_open ≡ false → E.contents errors.new ≡ E.contents errors.old }
 {
-    let Ok(mut desk) = Desk::new(alloc) else {
+    let Ok(desk) = Desk::new(alloc) else {
         return Err(Halted::Memory);
     };
     let connections = Vec::new(alloc);
     let mut held = Held {
+        desk,
         connections,
         count: 0,
-        n,
-        reports: while_open,
+        plan,
+        busy: false,
     };
-    let mut busy = false;
     'turns: for count in 0..u64::MAX {
-        if held.count == n && held.connections.is_empty() {
+        if held.count == plan.connections && held.connections.is_empty() {
             return Ok(());
         }
-        if is_over(while_open, office) {
+        if is_over(plan.while_open, office) {
             return Err(Halted::Shut);
         }
-        let ready = ports.next(&held.connections, held.count < n, !busy);
+        let ready = ports.next(&held.connections, held.count < plan.connections, !held.busy);
         if let Ready::Failed = ready {
             return Err(Halted::Ports);
         }
-        busy = turn(&mut desk, ports, reports, &mut held, ready, busy, office);
+        serve_ready(&mut held, ports, ready, office, log, errors);
     }
     Err(Halted::Ports)
 }

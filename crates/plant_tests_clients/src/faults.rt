@@ -4,7 +4,7 @@ use crate::clients::{Client, Manner};
 use crate::failing::Failing;
 use crate::scripts::{Script, Served};
 use plant_office::Office;
-use plant_server_clients::{Halted, Reports, serve_clients};
+use plant_server_clients::{Halted, Plan, serve_clients};
 use plant_types::Person;
 use std::alloc::Global;
 use std::process::Abort;
@@ -106,25 +106,20 @@ fn serve_failing(
         .expect(rt, "a person");
     let mut script = script_of(rt, alloc, requests, clients);
     let mut office = Office::new(alloc, Failing::new(alloc, root, lists));
-    let mut reports = Reports {
-        log: Vec::new(alloc),
-        errors: Vec::new(alloc),
-    };
-    let over = serve_clients(
-        alloc,
-        &mut script,
-        clients,
+    let plan = Plan {
+        connections: clients,
         while_open,
-        &mut office,
-        &mut reports,
-    );
+    };
+    let mut log = Vec::new(alloc);
+    let mut errors = Vec::new(alloc);
+    let over = serve_clients(alloc, &mut script, plan, &mut office, &mut log, &mut errors);
     drop(office.into_books());
     Told {
         over,
         answers: answers_of(&script),
-        memory: count_of(&reports.errors, b"fault: Memory\n"),
-        store: count_of(&reports.errors, b"fault: Store\n"),
-        reported: reports.errors.len(),
+        memory: count_of(&errors, b"fault: Memory\n"),
+        store: count_of(&errors, b"fault: Store\n"),
+        reported: errors.len(),
     }
 }
 

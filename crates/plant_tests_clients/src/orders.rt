@@ -7,7 +7,7 @@ use crate::scripts::{Script, Served};
 use crate::sessions::{alone, office_of, session_by};
 use plant_books::Plain;
 use plant_office::Office;
-use plant_server_clients::{Reports, serve_clients};
+use plant_server_clients::{Plan, serve_clients};
 use std::alloc::Global;
 use std::ops::Range;
 use std::process::Abort;
@@ -176,12 +176,13 @@ fn recorded_of(
 
 /// Serves all clients by this office.
 fn serve(rt: &impl Abort, alloc: Global, ports: &mut Recorded, office: &mut Office<Plain>) {
-    let mut reports = Reports {
-        log: Vec::new(alloc),
-        errors: Vec::new(alloc),
+    let plan = Plan {
+        connections: ports.script.served.len() as u64,
+        while_open: false,
     };
-    let clients = ports.script.served.len() as u64;
-    let over = serve_clients(alloc, ports, clients, false, office, &mut reports);
+    let mut log = Vec::new(alloc);
+    let mut errors = Vec::new(alloc);
+    let over = serve_clients(alloc, ports, plan, office, &mut log, &mut errors);
     assert!(rt; over.is_ok());
 }
 

@@ -3,7 +3,7 @@
 use crate::clients::{client_of, next_number};
 use crate::scripts::{Script, Served};
 use crate::sessions::{alone, office_of};
-use plant_server_clients::{Reports, serve_clients};
+use plant_server_clients::{Plan, serve_clients};
 use std::alloc::Global;
 use std::ops::Range;
 use std::process::Abort;
@@ -32,16 +32,18 @@ fn script_of(rt: &impl Abort, alloc: Global, mut seed: u64, clients: u64, most: 
 
 /// Serves a script, and returns the log of lines.
 fn serve(rt: &impl Abort, alloc: Global, script: &mut Script, clients: u64) -> Vec<u8> {
-    let mut reports = Reports {
-        log: Vec::new(alloc),
-        errors: Vec::new(alloc),
+    let plan = Plan {
+        connections: clients,
+        while_open: false,
     };
+    let mut log = Vec::new(alloc);
+    let mut errors = Vec::new(alloc);
     let mut office = office_of(rt, alloc);
-    let over = serve_clients(alloc, script, clients, false, &mut office, &mut reports);
+    let over = serve_clients(alloc, script, plan, &mut office, &mut log, &mut errors);
     drop(office.into_books());
     assert!(rt; over.is_ok());
-    assert!(rt; reports.errors.is_empty());
-    reports.log
+    assert!(rt; errors.is_empty());
+    log
 }
 
 /// Each client was sent what a session of its own writes.

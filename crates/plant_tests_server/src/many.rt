@@ -4,7 +4,7 @@
 use crate::sockets::{BEGUN, answers, client, exchanges, is_text, whole_client};
 use plant_books::Plain;
 use plant_office::Office;
-use plant_server_clients::{Halted, Reports, serve_clients};
+use plant_server_clients::{Halted, Plan, serve_clients};
 use plant_server_sockets::{Limits, Sockets};
 use plant_tests_examples::{BASE, LOOKED_AT, SHELVED};
 use plant_tests_sites::{after, lists};
@@ -45,14 +45,16 @@ fn log_of(
 ) -> (Vec<u8>, Result<(), Halted>) {
     let alloc = rt.alloc();
     let mut office = Office::new(alloc, books);
-    let mut reports = Reports {
-        log: Vec::new(alloc),
-        errors: Vec::new(alloc),
+    let plan = Plan {
+        connections: n,
+        while_open: false,
     };
-    let outcome = serve_clients(alloc, sockets, n, false, &mut office, &mut reports);
+    let mut log = Vec::new(alloc);
+    let mut errors = Vec::new(alloc);
+    let outcome = serve_clients(alloc, sockets, plan, &mut office, &mut log, &mut errors);
     sockets.finish();
     drop(office.into_books());
-    (reports.log, outcome)
+    (log, outcome)
 }
 
 /// How many lines a text has.

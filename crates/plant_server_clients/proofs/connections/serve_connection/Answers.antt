@@ -1,5 +1,4 @@
-use Rattle.std.proofs.Common.{ap, refl, true, sym, ◌∙◌, ◌++◌, Some, inr}
-use Rattle.plant_wire.specs.Marks.{mark_text}
+use Rattle.std.proofs.Common.{ap, refl, true, Some, inr}
 use Rattle.plant_wire.specs.declared.reads.End.TheVariants.{BrokenInput, Fault}
 use Rattle.plant_server_clients.specs.Stages.{ending, served}
 use Rattle.plant_server_clients.proofs.{Handled.{made_answered, made_broke, made_none, made_part, made_short, made_waiting}, Texts.{text_some}, Waited.{idle_stage}, Waits.{on_true}}

@@ -10,10 +10,10 @@ returns-then-not-read_if-clause-turned g c =
     let t = g.P.Ports.seen c.read_if.new.ports in
     let l = c.args.connection.now in
     let m = c.read_if.new.connection in
-    let reads = c.args.asked.reads in
-    let lost = subst (λ (b : Bool). Moved s t l m reads reading b) c.if-not-read_if.true c.read_if.ensures.moved in
-    turned_short g.B.Books c.args.office.now.books s t l m reads c.args.asked.serves lost
-    (short_one s t l m reads c.args.asked.serves false lost (c.read_if.ensures.failed c.if-not-read_if.true))
+    let asked = c.args.asked in
+    let lost = subst (λ (b : Bool). Moved s t l m asked.reads reading b) c.if-not-read_if.true c.read_if.ensures.moved in
+    turned_short g.B.Books c.args.office.now.books s t l m asked lost
+    (short_one s t l m asked.reads asked.serves false lost (c.read_if.ensures.failed c.if-not-read_if.true))
 
 pub returns-then-not-write_connection-clause-turned : goal.returns-then-not-write_connection-clause-turned
 returns-then-not-write_connection-clause-turned g c =
@@ -27,10 +27,11 @@ returns-then-not-write_connection-clause-turned g c =
     let m = c.read_if.new.connection in
     let n = c.serve_if.new.connection in
     let o = c.write_connection.new.connection in
-    let reads = c.args.asked.reads in
-    let serves = c.args.asked.serves in
+    let asked = c.args.asked in
+    let reads = asked.reads in
+    let serves = asked.serves in
     let lost = subst (λ (goes_on : Bool). Moved t u n o false writing goes_on) c.if-not-write_connection.true c.write_connection.ensures.moved in
-    turned_all b x y s t u l m n o reads serves c.read_if.result false (Some WriteFailed) c.read_if.ensures.moved c.serve_if.ensures.made lost
+    turned_all b x y s t u l m n o asked c.read_if.result false (Some WriteFailed) c.read_if.ensures.moved c.serve_if.ensures.made lost
     (turn_one b x y s t u l m n o reads serves c.read_if.result false c.read_if.ensures.moved c.serve_if.ensures.made lost)
     (lost_write b x y s t u l m n o reads serves c.read_if.result c.read_if.ensures.moved c.serve_if.ensures.made lost)
 
@@ -46,10 +47,9 @@ returns-clause-turned g c =
     let m = c.read_if.new.connection in
     let n = c.serve_if.new.connection in
     let o = c.write_connection.new.connection in
-    let reads = c.args.asked.reads in
-    let serves = c.args.asked.serves in
+    let asked = c.args.asked in
     let here = c.read_if.result in
     let goes_on = c.write_connection.result in
-    turned_all b x y s t u l m n o reads serves here goes_on c.over.result c.read_if.ensures.moved c.serve_if.ensures.made c.write_connection.ensures.moved
-    (turn_one b x y s t u l m n o reads serves here goes_on c.read_if.ensures.moved c.serve_if.ensures.made c.write_connection.ensures.moved)
+    turned_all b x y s t u l m n o asked here goes_on c.over.result c.read_if.ensures.moved c.serve_if.ensures.made c.write_connection.ensures.moved
+    (turn_one b x y s t u l m n o asked.reads asked.serves here goes_on c.read_if.ensures.moved c.serve_if.ensures.made c.write_connection.ensures.moved)
     (over_due o (c.read_if.ensures.moved.events ++ (c.serve_if.ensures.made.events ++ c.write_connection.ensures.moved.events)) c.over.result c.over.ensures.named)

@@ -1,6 +1,6 @@
 use Rattle.std.proofs.Common.{refl, true, ◌≡◌, ◌++◌, ℕ, List, [], ◌∷◌, ◌∙◌, arith, inl, length, take}
 use Rattle.plant_wire_call.proofs.public.Waiting.{waits_none}
-use Rattle.plant_server_clients.specs.{Causes.{Always}, Stages.{served, stage_in}}
+use Rattle.plant_server_clients.specs.{Causes.{Always}, Held.{service_state}, Stages.{served, stage_in}}
 use Rattle.plant_server_clients.proofs.{Ends.{take_front}, Handled.{passed_opened}, Held.{prompt_pushed, pushed_connections}, Leading.{logs_none, passed_none}, Paced.{rising_pushed}}
 use Rattle.plant_server_clients.specs.declared.connections.Connection.{Connection}
 use Rattle.plant_server_clients.proofs.serving.accept.Goals as goal
@@ -8,13 +8,13 @@ use Rattle.plant_server_clients.proofs.serving.accept.Goals as goal
 pub returns-then-number-held-clause-passed : goal.returns-then-number-held-clause-passed
 returns-then-number-held-clause-passed g c log =
     let seen = g.P.Ports.seen c.args.ports.now in
-    passed_none Always true seen seen log c.args.held.now.count c.args.held.now.connections.items (logs_none seen)
+    passed_none Always true (service_state seen log c.args.held.now) seen (logs_none seen)
 
 pub returns-then-is_err-clause-passed : goal.returns-then-is_err-clause-passed
 returns-then-is_err-clause-passed g c log =
     let seen = g.P.Ports.seen c.args.ports.now in
     let same : c.push.new.self.items ≡ c.args.held.now.connections.items = rw c.if-is_err.ensures.negation at c.push.ensures.items in
-    rw same (passed_none Always true seen seen log c.args.held.now.count c.args.held.now.connections.items (logs_none seen))
+    rw same (passed_none Always true (service_state seen log c.args.held.now) seen (logs_none seen))
 
 pub returns-then-is_err-clause-held : goal.returns-then-is_err-clause-held
 returns-then-is_err-clause-held g c =
@@ -22,9 +22,9 @@ returns-then-is_err-clause-held g c =
     record { connections = rw same c.requires.connections; few = c.requires.few; rising = rw same c.requires.rising }
 
 pub returns-then-is_err-clause-prompt : goal.returns-then-is_err-clause-prompt
-returns-then-is_err-clause-prompt g c are =
+returns-then-is_err-clause-prompt g c may free =
     let same : c.push.new.self.items ≡ c.args.held.now.connections.items = rw c.if-is_err.ensures.negation at c.push.ensures.items in
-    rw same are
+    rw same (may free)
 
 back : (ls more : List Connection) (n : ℕ) (all new : List Connection) → all ≡ ls ++ more → n ≡ length ls → new ≡ take n all → new ≡ ls
 back ls more n all new whole is taken = rw (whole, is) at taken ∙ take_front ls more
@@ -36,8 +36,8 @@ returns-then-not-accept-clause-passed g c log =
     let same = back ls (c.new.result ∷ []) c.len-places.result c.push.new.self.items c.truncate.new.self.items more
     (c.len-places.ensures ∙ c.args.held.now.connections.ok.0) c.truncate.ensures.items in
     rw same
-    (passed_none Always true (g.P.Ports.seen c.args.ports.now) (g.P.Ports.seen c.accept.new.self) log
-    c.args.held.now.count ls (rw c.if-not-accept.true at c.accept.ensures))
+    (passed_none Always true (service_state (g.P.Ports.seen c.args.ports.now) log c.args.held.now) (g.P.Ports.seen c.accept.new.self)
+    (rw c.if-not-accept.true at c.accept.ensures))
 
 pub returns-then-not-accept-clause-held : goal.returns-then-not-accept-clause-held
 returns-then-not-accept-clause-held g c =
@@ -48,12 +48,12 @@ returns-then-not-accept-clause-held g c =
     record { connections = rw same c.requires.connections; few = c.requires.few; rising = rw same c.requires.rising }
 
 pub returns-then-not-accept-clause-prompt : goal.returns-then-not-accept-clause-prompt
-returns-then-not-accept-clause-prompt g c are =
+returns-then-not-accept-clause-prompt g c may free =
     let ls = c.args.held.now.connections.items in
     let more : c.push.new.self.items ≡ ls ++ c.new.result ∷ [] = rw c.if-is_err.ensures.negation at c.push.ensures.items in
     let same = back ls (c.new.result ∷ []) c.len-places.result c.push.new.self.items c.truncate.new.self.items more
     (c.len-places.ensures ∙ c.args.held.now.connections.ok.0) c.truncate.ensures.items in
-    rw same are
+    rw same (may free)
 
 pub returns-clause-passed : goal.returns-clause-passed
 returns-clause-passed g c log =
@@ -62,8 +62,8 @@ returns-clause-passed g c log =
     let more : c.push.new.self.items ≡ ls ++ l ∷ [] = rw c.if-is_err.ensures.negation at c.push.ensures.items in
     let came = rw c.if-not-accept.false at c.accept.ensures in
     let new : stage_in l ≡ served [] [] = rw (c.new.ensures.served, c.new.ensures.unread, c.new.ensures.pending) refl in
-    rw more (passed_opened (g.P.Ports.seen c.args.ports.now) (g.P.Ports.seen c.accept.new.self) log
-    c.args.held.now.count ls l c.requires.connections c.new.ensures.number new came)
+    rw more (passed_opened (service_state (g.P.Ports.seen c.args.ports.now) log c.args.held.now) (g.P.Ports.seen c.accept.new.self)
+    l c.requires.connections c.new.ensures.number new came)
 
 pub returns-clause-held : goal.returns-clause-held
 returns-clause-held g c =
@@ -78,8 +78,8 @@ returns-clause-held g c =
     }
 
 pub returns-clause-prompt : goal.returns-clause-prompt
-returns-clause-prompt g c are =
+returns-clause-prompt g c may free =
     let ls = c.args.held.now.connections.items in
     let l = c.new.result in
     let more : c.push.new.self.items ≡ ls ++ l ∷ [] = rw c.if-is_err.ensures.negation at c.push.ensures.items in
-    rw more (prompt_pushed ls l are (λ live none. (inl c.new.ensures.unread, inl c.new.ensures.unread)))
+    rw more (prompt_pushed ls l (may free) (λ live none. (inl c.new.ensures.unread, inl c.new.ensures.unread)))

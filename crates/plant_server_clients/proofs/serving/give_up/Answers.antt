@@ -1,5 +1,5 @@
-use Rattle.std.proofs.{Common.{false, refl, length, subst, sym}, lemmas.Option.{slice_get_read}}
-use Rattle.plant_server_clients.specs.{Causes.{ExpiredAt}, Prompt.{ArePrompt}, Stages.{MayClose}, declared.connections.Connection.{Connection}}
+use Rattle.std.proofs.{Common.{false, refl, length, subst, sym, ◌∙◌}, lemmas.Option.{slice_get_read}}
+use Rattle.plant_server_clients.specs.{Causes.{ExpiredAt}, Held.{service_state}, Prompt.{ArePrompt}, Stages.{MayClose}, declared.connections.Connection.{Connection}}
 use Rattle.plant_server_clients.proofs.{Handled.{passed_expired}, Leading.{logs_none, passed_none}}
 use Rattle.plant_server_clients.proofs.Held.{prompt_removed, read_one, waits_at}
 use Rattle.plant_server_clients.proofs.serving.give_up.Goals as goal
@@ -18,8 +18,10 @@ returns-in-Some-clause-passed g c = passed_expired c.args.at c.in-Some.end c.clo
 pub returns-in_default-clause-passed : goal.returns-in_default-clause-passed
 returns-in_default-clause-passed g c =
     let seen = g.P.Ports.seen c.args.ports.now in
-    passed_none (ExpiredAt c.args.held.now.connections.items c.args.at) false seen seen (g.W.Write.contents c.args.log.now) c.args.held.now.count c.args.held.now.connections.items (logs_none seen)
+    passed_none (ExpiredAt c.args.held.now.connections.items c.args.at) false (service_state seen (g.W.Write.contents c.args.log.now) c.args.held.now)
+    seen (logs_none seen)
 
 pub returns-in-Some-clause-prompt : goal.returns-in-Some-clause-prompt
-returns-in-Some-clause-prompt g c are =
-    subst ArePrompt (sym c.close_connection.ensures.others) (prompt_removed c.args.held.now.connections.items c.args.at are)
+returns-in-Some-clause-prompt g c may free =
+    subst ArePrompt (sym c.close_connection.ensures.others)
+    (prompt_removed c.args.held.now.connections.items c.args.at (may (sym c.close_connection.ensures.busy ∙ free)))
