@@ -1,5 +1,5 @@
 -- What a connection over files shows, if the files held a database.
-use Rattle.std.proofs.Common.{◌≡◌, ◌⊎◌, inl, inr, ap, map, refl, subst, sym, ◌∙◌, ◌∷◌, [], Some, ℕ}
+use Rattle.std.proofs.Common.{◌≡◌, inl, inr, ap, map, refl, subst, sym, ◌∙◌, ◌∷◌, [], Some, ℕ}
 use Rattle.sqlite.specs.{Effect.{Database}, Opening.{FailsAs}, Start.{FindsIn}, State.{HasCleanDisk, IsLive, Opens, State, store_error}, Table.{Table}}
 use Rattle.sqlite.specs.declared.error.{Error.{Error, TheVariants.{SqliteFailure}}, ErrorCode.TheVariants.{DiskFull, OutOfMemory}}
 use Rattle.sqlite_schema.specs.Names.{same_name}

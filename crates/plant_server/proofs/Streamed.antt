@@ -75,6 +75,7 @@ module _ (ran also : List Call → List Answer → Type 0)
   }
 
   port : (many : Bool) (service : Service) (n : ExitStatus) → AreOfPort many ran lost service s.lines n → AreOfPort many also gone service s.lines n
+  unfolding sent
   port false service n is = record {
     exchanges = is.exchanges;
     each = is.each;

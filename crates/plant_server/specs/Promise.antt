@@ -1,5 +1,5 @@
 -- What the program promises of its command line, its streams, and the files at the path that its command line names.
-use Rattle.std.specs.Prelude.{◌≡◌, ◌≢◌, ◌⊎◌, IfOk, IfSome, IsErr, IsSomeAnd, IsTrue, List, ℕ, None, Option, Some, Result, Ok, Err, string_bytes}
+use Rattle.std.specs.Prelude.{◌≡◌, ◌≢◌, ◌⊎◌, IfOk, IfSome, IsSomeAnd, IsTrue, List, ℕ, None, Option, Some, Result, Ok, Err, string_bytes}
 use Rattle.sqlite.specs.{Effect.{Database}, Files.{file_state}, Held.{Held}}
 use Rattle.sqlite_disk.specs.declared.{Disk.{Ghosts}, Files.{Files}}
 use Rattle.sqlite_store.specs.{FileStore.{view}, declared.store.FileStore.{FileStore}}

@@ -28,17 +28,17 @@ pub record IsStreamed (ran : OfCalls) (s : Streams) (n : ExitStatus) : Type 0 wh
   pub status : n ≡ exit_status_of end
 
 -- What was written while a port was served. On the output: the address on which it listens, and then the log. On
--- standard error: a warning, if there is one; then lines about faults that were answered; then why it is served no
+-- standard error: a notice, if there is one; then lines about faults that were answered; then why it is served no
 -- longer.
-pub record ArePortLines (log : Bytes → Bytes → Type 0) (warning why : List ℕ) (lines : Lines) : Type 0 where
+pub record ArePortLines (log : Bytes → Bytes → Type 0) (notice why : List ℕ) (lines : Lines) : Type 0 where
   pub address : List ℕ
   pub first : Bytes
   pub listening : IsSaid lines.printed first (listening_text address)
   pub logged : log first lines.printed_after
-  pub warned : Bytes
+  pub noted : Bytes
   pub told : Bytes
-  pub warning : IsSaid lines.reported warned warning
-  pub faults : TellsFaults warned told
+  pub said : IsSaid lines.reported noted notice
+  pub faults : TellsFaults noted told
   pub ended : IsSaid told lines.reported_after why
 
 -- the log got the lines of these events

@@ -198,9 +198,9 @@ fn serve_kept<D: Disk + Drop, N: Disk + Drop, I: Inlet, O: Outlet + Write, E: Wr
 
 /// An office to be served over a file.
 #[derive(Drop)]
-pub struct FileOffice {
+pub struct FileOffice<'a> {
     /// The file's path.
-    pub path: String,
+    pub path: &'a str,
     /// The office's administrator.
     pub admin: Person,
     /// How a port is served; without it, the streams are.
@@ -214,7 +214,7 @@ pub struct FileOffice {
 /// listened on, and the file is as it was.
 pub fn serve_file<F: Start + Located, I: Inlet, O: Outlet + Write, E: Write>(
     rt: &HostRuntime,
-    office: FileOffice,
+    office: FileOffice<'_>,
     inlet: &mut I,
     outlet: &mut O,
     errors: &mut E,
@@ -222,7 +222,7 @@ pub fn serve_file<F: Start + Located, I: Inlet, O: Outlet + Write, E: Write>(
 ) -> (ExitStatus, Left<FileFrom<F>, File>)
     ensures { IsDoneOnFile
         (place_of F.Located.path (image_at F.Start) (λ files. IsFresh true files.log × IsFresh false files.db))
-        (string_bytes office.path) office.admin office.service
+        office.entry.path.now office.entry.admin office.entry.service
         (streams_of I.Inlet O.Outlet O.Write E.Write (inlet.old, outlet.old, errors.old) (inlet.new, outlet.new, errors.new))
         result.0 result.1 }
 {
@@ -231,7 +231,7 @@ pub fn serve_file<F: Start + Located, I: Inlet, O: Outlet + Write, E: Write>(
         admin,
         service,
     } = office;
-    match in_file(rt, path.as_str(), admin, start) {
+    match in_file(rt, path, admin, start) {
         Ok(books) => serve_kept(rt, books, service, inlet, outlet, errors),
         Err((fault, left)) => (report_unopened(errors, &fault), left),
     }
@@ -282,20 +282,17 @@ fn run<F: Start + Located, I: Inlet, O: Outlet + Write, E: Write>(
 {
     let CommandLine { admin, task } = line;
     match task {
-        Task::Serve { db: None, service } => {
-            serve_memory(rt, admin, service, inlet, outlet, errors)
-        }
-        Task::Serve {
-            db: Some(path),
-            service,
-        } => {
-            let office = FileOffice {
-                path,
-                admin,
-                service,
-            };
-            serve_file(rt, office, inlet, outlet, errors, start)
-        }
+        Task::Serve { db, service } => match db {
+            None => serve_memory(rt, admin, service, inlet, outlet, errors),
+            Some(path) => {
+                let office = FileOffice {
+                    path: path.as_str(),
+                    admin,
+                    service,
+                };
+                serve_file(rt, office, inlet, outlet, errors, start)
+            }
+        },
         Task::Migrate { old, new } => {
             let migration = Migration { admin, old, new };
             migrate_and_say(rt, migration, outlet, errors, start)

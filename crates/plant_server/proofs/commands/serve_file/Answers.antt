@@ -8,10 +8,10 @@ use Rattle.plant_server.proofs.commands.serve_file.Goals as goal
 pub returns-in-Ok : goal.returns-in-Ok
 returns-in-Ok g c =
     let opened = c.in-Ok.ensures in
-    inr (files_served _ c.args.admin (place_of g.F.Located.path (image_at g.F.Start) _) c.args.path.now
+    inr (files_served _ c.args.office.admin (place_of g.F.Located.path (image_at g.F.Start) _) c.args.office.path.now
     (λ w it. record {
       now = λ honest.
-          let own = own_admin it.rows.content it.rows.books.db c.args.admin it.rows.books.rows (opened.office it.here it.rows.books.db it.rows.books.database honest) in
+          let own = own_admin it.rows.content it.rows.books.db c.args.office.admin it.rows.books.rows (opened.office it.here it.rows.books.db it.rows.books.database honest) in
           record {
             content = it.rows.content;
             held = (opened.own.0 ∙ sym own, opened.kept it.here it.rows.content it.rows.books);
@@ -24,7 +24,7 @@ returns-in-Ok g c =
           start.0 start.1;
     })
     (λ here db held honest. opened.office here db held honest)
-    c.args.service _ _ _ (c.serve_kept.ensures c.args.admin))
+    c.args.office.service _ _ _ (c.serve_kept.ensures c.args.office.admin))
 
 pub returns-in-Err : goal.returns-in-Err
 returns-in-Err g c = inl (

@@ -2,6 +2,7 @@ use Rattle.std.proofs.Common.{ap, option_map, refl, sym, ◌∙◌}
 use Rattle.std.specs.FinMap.{get-empty}
 use Rattle.plant_books.specs.Contents.{no_units}
 use Rattle.plant_model.{specs.{Rows.{rows_of}, Worlds.{empty_world}}, proofs.public.LegalLaws.{empty_legal}}
+use Rattle.plant_office.specs.Served.{Holds}
 use Rattle.plant_types.specs.Names.{name_cmp}
 use Rattle.plant_server.proofs.Streamed.{served}
 use Rattle.plant_server.proofs.commands.serve_new.Goals as goal
@@ -10,7 +11,7 @@ pub returns : goal.returns
 returns g c admin own new =
     let it = c.leave.ensures in
     let was = c.serve_books-status.ensures in
-    let holds = record {
+    let holds : Holds (no_units admin) (empty_world admin) = record {
       same_admin = refl;
       rows = λ u. get-empty name_cmp u ∙ sym (ap (option_map rows_of) (get-empty name_cmp u));
     } in

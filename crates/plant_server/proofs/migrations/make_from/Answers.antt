@@ -1,4 +1,4 @@
-use Rattle.std.proofs.Common.{inl, inr, arith, sym, subst, ◌∙◌, rules}
+use Rattle.std.proofs.Common.{inl, inr, arith, sym, subst, ◌∙◌}
 use Rattle.sqlite.specs.{Files.{file_state}, State.{HasCleanDisk}}
 use Rattle.sqlite_wal.specs.Files.{image_at}
 use Rattle.plant_store_migration.specs.Upgrading.{HaveOldRows}

@@ -21,9 +21,9 @@ returns-then-service-gt1 g c =
         first = were.2;
         listening = were.3;
         logged = were.4;
-        warned = told.0;
+        noted = told.0;
         told = g.E.Write.contents c.serve_at_once-outcome.new.errors;
-        warning = told.1;
+        said = told.1;
         faults = told.2;
         ended = c.report_halted.ensures.said;
       };
@@ -50,9 +50,9 @@ returns g c =
         first = were.5;
         listening = were.6;
         logged = were.7;
-        warned = g.E.Write.contents c.args.errors.now;
+        noted = g.E.Write.contents c.args.errors.now;
         told = g.E.Write.contents c.serve_in_turn-outcome.new.errors;
-        warning = (0, Appends-nil (g.E.Write.contents c.args.errors.now));
+        said = (0, Appends-nil (g.E.Write.contents c.args.errors.now));
         faults = c.serve_in_turn-outcome.ensures.told;
         ended = c.report_stopped.ensures.said;
       };
