@@ -206,6 +206,18 @@ class Office:
             members["end"] = values.text_of(end)
         return self.make(f"/units/{unit}/grants", members, self.stands_nowhere, "AlreadyHeld")[0]
 
+    def holds(self, unit: str, person: str, role: values.Role) -> bool:
+        """Whether a person holds a role, asked by a Steward: a grant until the first moment of all is refused, by AlreadyHeld if it is held. Not for
+        the role of a steward, which has no end. In a unit without room for grants it is taken for held."""
+        members = {"person": person, "role": role.name, "end": values.text_of(values.EPOCH)}
+        try:
+            said = self.link.change(f"/units/{unit}/grants", connection.json_body(members), self.stands_nowhere)
+        except connection.Refusal as refusal:
+            if refusal.name not in ("AlreadyHeld", "EndNotAhead", "UnitFull"):
+                raise
+            return refusal.name != "EndNotAhead"
+        raise AssertionError(f"a grant that ends before it begins is accepted: {said}")
+
     def take_role(self, unit: str, person: str, role: values.Role) -> Outcome:
         return self.make(f"/units/{unit}/withdrawals", {"person": person, "role": role.name}, self.stands_nowhere, "NotHeld")[0]
 

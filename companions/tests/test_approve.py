@@ -54,6 +54,21 @@ def test_a_unit_is_opened_and_its_matrix_proposed_once(plant: Plant) -> None:
     assert plant.rows("SELECT count(*) FROM changes") == [(1,)]
     said = typed("open", "U3", "--steward", "ste", "--matrix", file, *plant.words("eve"))
     assert said.returncode == 1 and "NotAdministrator" in said.stdout
+    file.write_text(TOML.replace("300", "60"))
+    assert opens("U1", "eve") == ["U1 has another matrix in force, which an Approver has put there", "done 0, there already 2, refused 0"]
+    assert plant.rows("SELECT count(*) FROM changes") == [(1,)]
+
+
+def test_a_matrix_that_was_rejected_is_proposed_again_only_if_asked(plant: Plant) -> None:
+    file = plant.folder / "matrix.toml"
+    file.write_text(TOML)
+    line = ("open", "U1", "--steward", "ste", "--matrix", file, *plant.words("eve"))
+    assert typed(*line).returncode == 0 and plant.call("amy", AT, "/units/U1/changes/1/reject", {}) == {"done": True}
+    said = typed(*line).stdout.splitlines()
+    words = "the matrix of U1: amy has rejected it (change 1); --again proposes it anew"
+    assert said == [words, "done 0, there already 2, refused 0"] and states(plant) == [3]
+    assert typed(*line, "--again").stdout == "done 1, there already 1, refused 0\n" and states(plant) == [3, 1]
+    assert typed(*line, "--again").stdout == "done 0, there already 2, refused 0\n"
 
 
 @pytest.mark.parametrize("text, words", [
