@@ -177,19 +177,13 @@ class Office:
         self, path: str, members: collections.abc.Mapping[str, object], stands: collections.abc.Callable[[], str | None], *there: str
     ) -> tuple[Outcome, str]:
         """Makes a call. A refusal by one of the names `there` says that what it would do is done."""
-        doubts: list[bool] = []
-
-        def asked() -> str | None:
-            doubts.append(True)
-            return stands()
-
         try:
-            return Outcome.done, self.link.change(path, connection.json_body(members) if members else b"", asked).text
+            made = self.link.change(path, connection.json_body(members) if members else b"", stands)
         except connection.Refusal as refusal:
             if refusal.name not in there:
                 raise
-            # after a doubt it is this very call that was made
-            return (Outcome.done if doubts else Outcome.there), refusal.line
+            return (Outcome.done if refusal.is_doubted else Outcome.there), refusal.line
+        return (Outcome.there if made.was_there else Outcome.done), made.text
 
     def stands_nowhere(self) -> str | None:
         """For calls that may be repeated: waits until the office answers."""
@@ -232,7 +226,8 @@ class Office:
 
         def stands() -> str | None:
             for it in self.changes(unit, self.highest.get(unit, 0) + 1):
-                if (it.thing, it.base, it.content, it.proposer) == ((kind, tag), base, content, person) and it.state is values.State.Proposed:
+                # one that came since is this one, also if it was decided at once
+                if (it.thing, it.base, it.content, it.proposer) == ((kind, tag), base, content, person):
                     return json.dumps({"number": it.number})
             return None
 
@@ -254,7 +249,7 @@ class Office:
         except connection.Refusal as refusal:
             if (refusal.name, refusal.value) != ("NotProposed", state.name):
                 raise
-            return Outcome.there
+            return Outcome.done if refusal.is_doubted else Outcome.there
 
     def shelve(self, unit: str, tag: str, seconds: int | None, words: str) -> Outcome:
         """Shelves for a time, or until the alarm returns to normal."""

@@ -50,6 +50,8 @@ class Refusal(Exception):
     def __init__(self, number: int, name: str, value: object, line: str) -> None:
         super().__init__(line)
         self.number, self.name, self.value, self.line = number, name, value, line
+        # whether a try before had no answer, so that this very call may have been made
+        self.is_doubted = False
 
 
 class Doubt(enum.Enum):
@@ -70,10 +72,10 @@ class Missing:
 
 @dataclasses.dataclass(frozen=True)
 class Made:
-    """A change that stands: what the office said of it, and whether that took more than one try."""
+    """A change that stands: what the office said of it or would have said, and whether it stood before the call."""
 
     text: str
-    is_doubted: bool
+    was_there: bool
 
 
 @dataclasses.dataclass(frozen=True)
@@ -91,6 +93,8 @@ def sign_on_of(url: str, settings: collections.abc.Mapping[str, str]) -> str:
     """The field Authorization, from the environment or a netrc file."""
     token, user, password = (settings.get(it, "") for it in ("OFFICE_TOKEN", "OFFICE_USER", "OFFICE_PASSWORD"))
     if token:
+        if not (token.isascii() and token.isprintable()) or " " in token:
+            raise SignOn("OFFICE_TOKEN has a space, a line end or another character that no token has")
         return f"Bearer {token}"
     if not (user and password):
         host = urllib.parse.urlsplit(url).hostname or ""
@@ -162,8 +166,10 @@ class Connection:
         try:
             answer = self.client.request(method, self.url + path, content=body, headers=fields)
         except (httpx.ConnectError, httpx.ConnectTimeout, httpx.PoolTimeout) as error:
+            if "CERTIFICATE_VERIFY_FAILED" in str(error):
+                raise Trouble(f"the certificate of {self.url} is not known here: name the plant's own with --ca ({error})") from error
             return Missing(Doubt.not_made, f"no connection to {self.url}: {error}")
-        except httpx.TransportError as error:
+        except httpx.RequestError as error:
             return Missing(Doubt.may_be_made, f"the connection to {self.url} broke: {error or type(error).__name__}")
         return read_answer(answer, method, path)
 
@@ -182,9 +188,13 @@ class Connection:
         the change stands, and nothing if it does not: only then is the call made once more."""
         until, is_doubted = time.monotonic() + self.target.patience, False
         for pause in pauses():
-            answer = self.send("POST", path, body)
+            try:
+                answer = self.send("POST", path, body)
+            except Refusal as refusal:
+                refusal.is_doubted = is_doubted
+                raise
             if isinstance(answer, str):
-                return Made(answer, is_doubted)
+                return Made(answer, False)
             is_doubted = is_doubted or answer.doubt is Doubt.may_be_made
             self.wait(answer, pause, until)
             there = stands()
@@ -192,14 +202,15 @@ class Connection:
                 time.sleep(SETTLING)
                 there = stands()
             if there is not None:
-                return Made(there, True)
+                return Made(there, not is_doubted)
         raise AssertionError("pauses do not end")
 
     def wait(self, missing: Missing, pause: float, until: float) -> None:
         """Waits before the next try, or gives up."""
+        pause = max(pause, missing.pause)
         if time.monotonic() + pause > until:
             raise NotReached(f"gave up after {self.target.patience:.0f} s: {missing.why}")
-        time.sleep(max(pause, missing.pause))
+        time.sleep(pause)
 
 
 def waiting_time(answer: httpx.Response) -> float:
@@ -221,6 +232,8 @@ def read_answer(answer: httpx.Response, method: str, path: str) -> str | Missing
     """What the office said, or that it said nothing."""
     text, status = answer.text, answer.status_code
     if status == 200:
+        if answer.headers.get("Content-Type", "").startswith("text/html"):
+            raise Trouble(f"{method} {path}: answered with a page, which no office does: is this the address of one?")
         return text
     said = members_of(text)
     if "refused" in said:

@@ -146,6 +146,14 @@ def test_all_that_are_shown_are_rejected(plant: Plant) -> None:
     assert status == 1 and "RoleLacking" in said and states(plant) == [3, 3, 3, 1]
 
 
+def test_who_leaves_at_a_question_sees_what_was_done(plant: Plant) -> None:
+    propose(plant, RECORD)
+    propose(plant, RECORD | {"tag": "B"})
+    # the end of what is typed stands for a person who presses Control and C
+    status, said = approve(plant, stdin="o\na\n")
+    assert status == 130 and said.splitlines()[-1] == "done 1, there already 0, refused 0" and states(plant) == [2, 1], said
+
+
 def test_nobody_decides_their_own(plant: Plant) -> None:
     plant.call("ste", AT, "/units/U1/grants", {"person": "eve", "role": "Approver"})
     propose(plant, RECORD)
