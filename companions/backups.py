@@ -27,7 +27,6 @@ class Unit:
     unit: str
     last: datetime.datetime
     matrix_no: int
-    matrix_rev: int
     quota: int
 
 
@@ -60,7 +59,6 @@ class Alarm:
     limit_revision: int
     suppressed: bool
     active: datetime.datetime | None
-    returned: datetime.datetime | None
     out: OutOfService | None
 
 
@@ -76,7 +74,6 @@ class Shelf:
 
 @dataclasses.dataclass(frozen=True)
 class Event:
-    seq: int
     moment: int  # seconds, as in the file: a unit has many events
     tag: str
     kind: str
@@ -97,7 +94,7 @@ class Books:
         self.rows, self.path = rows, path
 
     def units(self) -> list[Unit]:
-        found = self.rows.execute("SELECT unit, last_s, matrix_no, matrix_rev, quota FROM units ORDER BY unit")
+        found = self.rows.execute("SELECT unit, last_s, matrix_no, quota FROM units ORDER BY unit")
         return [Unit(unit, values.moment_at(last), *rest) for unit, last, *rest in found]
 
     def moment(self) -> datetime.datetime:
@@ -129,12 +126,12 @@ class Books:
         return [Grant(person, values.Role(role), moment_or_none(end)) for person, role, end in found]
 
     def alarms(self, unit: str) -> list[Alarm]:
-        text = """SELECT tag, latching, max_s, max_rev, suppressed, active_s, return_s, out_s, out_by, out_words
+        text = """SELECT tag, latching, max_s, max_rev, suppressed, active_s, out_s, out_by, out_words
             FROM alarms WHERE unit = ? ORDER BY tag"""
         found = []
-        for tag, latching, limit, revision, suppressed, active, returned, since, person, words in self.rows.execute(text, (unit,)):
+        for tag, latching, limit, revision, suppressed, active, since, person, words in self.rows.execute(text, (unit,)):
             out = None if since is None else OutOfService(values.moment_at(since), person, words)
-            found.append(Alarm(tag, bool(latching), limit, revision, bool(suppressed), moment_or_none(active), moment_or_none(returned), out))
+            found.append(Alarm(tag, bool(latching), limit, revision, bool(suppressed), moment_or_none(active), out))
         return found
 
     def latching(self, unit: str) -> dict[str, bool]:
@@ -167,8 +164,8 @@ class Books:
 
     def events(self, unit: str) -> collections.abc.Iterator[Event]:
         """The events in the order of their numbers, in which they take effect."""
-        for seq, moment, tag, kind in self.rows.execute("SELECT seq, moment_s, tag, kind_no FROM events WHERE unit = ? ORDER BY seq", (unit,)):
-            yield Event(seq, moment, tag, EVENTS[kind])
+        for moment, tag, kind in self.rows.execute("SELECT moment_s, tag, kind_no FROM events WHERE unit = ? ORDER BY seq", (unit,)):
+            yield Event(moment, tag, EVENTS[kind])
 
     def count(self, unit: str, table: str) -> int:
         """How many rows a unit has in a table."""

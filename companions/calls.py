@@ -27,7 +27,6 @@ class Status:
     limit: int
     limit_revision: int
     out_of_service: bool
-    shelf: str
 
 
 @dataclasses.dataclass(frozen=True)
@@ -35,7 +34,6 @@ class InForce:
     """The record of an alarm that is in force."""
 
     record: values.Record
-    change: int
     revision: int
     priority: str
 
@@ -138,7 +136,7 @@ class Office:
         if text is None:
             return None
         said = json.loads(text)
-        return Status(said["limit"], said["limit_revision"], said["out_of_service"], said["shelf"])
+        return Status(said["limit"], said["limit_revision"], said["out_of_service"])
 
     def record(self, unit: str, tag: str) -> InForce | None:
         """None if no record of the alarm was approved, or there is no such alarm."""
@@ -146,7 +144,7 @@ class Office:
         if text is None:
             return None
         said = json.loads(text)
-        return InForce(read_record(said), said["change"], said["revision"], said["priority"])
+        return InForce(read_record(said), said["revision"], said["priority"])
 
     def change(self, unit: str, number: int) -> Change | None:
         """None if the unit has no change of this number."""

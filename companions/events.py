@@ -24,7 +24,7 @@ import pathlib
 import typing
 import zoneinfo
 
-from companions import connection, sheets, values
+from companions import sheets, values
 
 COLUMNS = ("seq", "moment", "tag", "event")
 HEADER = ",".join(COLUMNS).encode()
@@ -119,11 +119,11 @@ class Moments:
 
 def read_moments(path: pathlib.Path | None, members: object) -> Moments:
     if not isinstance(members, dict) or set(members) - {"format", "zone"} or not all(isinstance(it, str) for it in members.values()):
-        raise connection.Trouble(f"{path}: [moments] has format and zone, and nothing else")
+        raise sheets.Wrong(f"{path}: [moments] has format and zone, and nothing else")
     try:
         return Moments(members.get("format"), zoneinfo.ZoneInfo(members.get("zone", "UTC")))
     except (zoneinfo.ZoneInfoNotFoundError, ValueError, OSError) as error:
-        raise connection.Trouble(f"{path}: {members.get('zone')!r} is not the name of a time zone") from error
+        raise sheets.Wrong(f"{path}: {members.get('zone')!r} is not the name of a time zone") from error
 
 
 @dataclasses.dataclass(frozen=True)

@@ -84,7 +84,7 @@ def test_a_bad_matrix_is_refused_before_anything_is_sent(plant: Plant, text: str
     file = plant.folder / "matrix.toml"
     file.write_text(text)
     said = typed("open", "U2", "--steward", "ste", "--matrix", file, *plant.words("root"))
-    assert said.returncode == 1 and words in said.stdout, said.stdout
+    assert said.returncode == 2 and words in said.stdout, said.stdout
 
 
 def test_all_that_are_shown_are_approved(plant: Plant) -> None:
