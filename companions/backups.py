@@ -15,7 +15,7 @@ import typing
 
 from companions import calls, connection, matrix as matrices, values
 
-FOLDER = re.compile(r"\d{8}T\d{6}Z")
+FOLDER = re.compile(r"[0-9]{8}T[0-9]{6}Z")
 MAGIC = b"SQLite format 3\0"
 SCHEMA = 2
 # the bytes of a file that SQLite locks
@@ -83,6 +83,14 @@ EVENTS = {1: "ACT", 2: "RTN", 3: "ACK", 4: "RESET", 5: "SUP", 6: "UNSUP"}
 CELLS = ("N", "P1", "P2", "P3", "P4")
 
 
+def moment_of_folder(name: str) -> datetime.datetime | None:
+    """When a backup was made, by the name of its folder; None if the name is another one."""
+    try:
+        return datetime.datetime.strptime(name, "%Y%m%dT%H%M%SZ").replace(tzinfo=datetime.timezone.utc) if FOLDER.fullmatch(name) else None
+    except ValueError:
+        return None
+
+
 def moment_or_none(seconds: int | None) -> datetime.datetime | None:
     return None if seconds is None else values.moment_at(seconds)
 
@@ -99,9 +107,8 @@ class Books:
 
     def moment(self) -> datetime.datetime:
         """When the backup was made, by the name of its folder; otherwise the moment of the last change in it."""
-        if FOLDER.fullmatch(self.path.name):
-            return datetime.datetime.strptime(self.path.name, "%Y%m%dT%H%M%SZ").replace(tzinfo=datetime.timezone.utc)
-        return max((it.last for it in self.units()), default=values.EPOCH)
+        named = moment_of_folder(self.path.name)
+        return max((it.last for it in self.units()), default=values.EPOCH) if named is None else named
 
     def unit(self, unit: str) -> Unit:
         found = next((it for it in self.units() if it.unit == unit), None)
@@ -184,7 +191,7 @@ def newest_in(path: pathlib.Path) -> pathlib.Path:
     """The backup that is meant by a path: itself, or the newest in a folder of backups."""
     if not path.is_dir():
         return path
-    inside = sorted(it for it in path.iterdir() if FOLDER.fullmatch(it.name) and it.is_dir())
+    inside = sorted(it for it in path.iterdir() if moment_of_folder(it.name) and it.is_dir())
     return inside[-1] if inside else path
 
 
@@ -194,25 +201,37 @@ def files_of(path: pathlib.Path) -> list[pathlib.Path]:
         sums = path / "SHA256SUMS"
         if sums.exists():
             return checked_files(path, sums)
-        inside = [it for it in path.iterdir() if it.is_file() and it.open("rb").read(len(MAGIC)) == MAGIC]
+        inside = [it for it in path.iterdir() if it.is_file() and begins_as_books(it)]
         if len(inside) != 1:
             raise connection.Trouble(f"{path} is not a backup: it has {len(inside)} files of books")
         path = inside[0]
-    elif path.open("rb").read(len(MAGIC)) != MAGIC:
+    elif not begins_as_books(path):
         raise connection.Trouble(f"{path} is not a file of books, nor a folder of backups")
     log = path.with_name(path.name + "-wal")
     return [path, log] if log.exists() else [path]
 
 
+def begins_as_books(file: pathlib.Path) -> bool:
+    with file.open("rb") as opened_file:
+        return opened_file.read(len(MAGIC)) == MAGIC
+
+
 def checked_files(path: pathlib.Path, sums: pathlib.Path) -> list[pathlib.Path]:
     found = []
-    for line in sums.read_text().splitlines():
+    for line in sums.read_text(errors="replace").splitlines():
         wanted, _, name = line.partition("  ")
         file = path / name
-        if not file.is_file() or hashlib.sha256(file.read_bytes()).hexdigest() != wanted:
+        if not file.is_file() or sum_of(file) != wanted:
             raise connection.Trouble(f"{file} is not what was backed up: take another backup")
         found.append(file)
+    if not found:
+        raise connection.Trouble(f"{sums} is empty: take another backup")
     return sorted(found, key=lambda it: it.name.endswith("-wal"))
+
+
+def sum_of(file: pathlib.Path) -> str:
+    with file.open("rb") as opened_file:
+        return hashlib.file_digest(opened_file, "sha256").hexdigest()
 
 
 def is_open_elsewhere(file: pathlib.Path) -> bool:

@@ -144,5 +144,8 @@ def command(
         if not meant:
             raise connection.Trouble("you hold a role in no unit")
         page = page_of(office, meant, hours, books)
-    pages.write(text_of(page, form), out)
+    try:
+        pages.write(text_of(page, form), out)
+    except OSError as error:
+        raise connection.Trouble(f"{out}: {error.strerror}") from error
     return 0

@@ -144,6 +144,11 @@ def test_what_is_no_backup_is_refused(plant: Plant, content: bytes, words: str) 
     assert said.returncode == 1 and words in said.stdout, said.stdout
 
 
+def test_a_page_that_cannot_be_written_is_said(plant: Plant) -> None:
+    said = typed("handover", "--out", plant.folder / "none/page.txt", *plant.words("vic", AT))
+    assert said.returncode == 1 and "none/page.txt: No such file or directory" in said.stdout
+
+
 def test_the_running_file_is_refused(plant: Plant) -> None:
     for path in plant.file, plant.file.parent:
         said = typed("handover", "--backup", path, *plant.words("vic", AT))

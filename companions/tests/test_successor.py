@@ -267,6 +267,13 @@ def test_the_newest_of_a_folder_of_backups_is_read_if_it_is_whole(plant: Plant) 
     said = typed("full", folder)
     assert said.returncode == 1 and "plant.db-wal is not what was backed up: take another backup" in said.stdout
     assert typed("full", folder / "20260301T030000Z").returncode == 0
+    (folder / "20260302T030000Z/SHA256SUMS").write_bytes(b"")
+    said = typed("full", folder)
+    assert said.returncode == 1 and "SHA256SUMS is empty: take another backup" in said.stdout
+    # a folder whose name is no moment is none of them
+    (folder / "20260399T030000Z").mkdir()
+    (folder / "20260302T030000Z").rename(folder / "aside")
+    assert "2026-03-01 03:00" in typed("full", folder).stdout
 
 
 def test_what_the_offices_own_backup_makes_is_read(plant: Plant) -> None:
