@@ -8,7 +8,7 @@ import typing
 
 import click
 
-from companions import backups, calls, charts, connection, lists, options, pages, values
+from companions import backups, calls, changes, charts, connection, lists, options, pages, values
 
 WEEK = datetime.timedelta(days=7)
 HOURS = click.IntRange(1, values.MAX_FLOOD_PERIODS * values.FLOOD_PERIOD // 3_600)
@@ -72,6 +72,8 @@ def by_urgency(standing: collections.abc.Iterable[lists.Standing]) -> list[lists
 
 
 def name_of(change: calls.Change) -> str:
+    if changes.is_note(change):
+        return f"note of office successor on {change.tag}: the command was stopped, and takes it back when it is typed again"
     if isinstance(change.content, int):
         return f"limit of {change.tag}: {change.content} s"
     if isinstance(change.content, values.Record):

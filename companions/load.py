@@ -185,6 +185,9 @@ def load(
             words = f"{loading.place(it)}register {it.tag}, limit {limit} s" + (", latching" if it.latching else "")
             count.make(words, functools.partial(office.register, unit, it.tag, it.latching, limit))
     found = compare(office, unit, wanted, latching)
+    if count.is_dry:
+        first = ((it, loading.first_limit(it)) for it in found.missing)
+        found.differing.extend(Proposal(it, LIMIT, 0, it.limit, limit) for it, limit in first if limit != it.limit)
     waiting = Waiting(there)
     in_force = sum(it.record is not None for it in wanted) - sum(it.kind is RECORD for it in found.differing)
     count.there += in_force

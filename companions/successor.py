@@ -213,6 +213,8 @@ class Succession:
             if self.priority(record) == "N":
                 yield f"{tag}: by the matrix no alarm is needed, so its record is not proposed: is the alarm wanted?"
         yield from self.said
+        for name in sorted(set(self.again) - {it.tag for it in self.running} - {it.person for it in self.old.grants}):
+            yield f"{name}: nothing of it runs in {old}, and nobody of this name holds a role there: --again has no effect"
         for it in self.old.alarms:
             if it.active:
                 yield f"{it.tag}: stands in {old} since {pages.minute(it.active)}; {to} learns of it by its next event"

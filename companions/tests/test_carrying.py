@@ -195,6 +195,17 @@ def test_what_was_rejected_taken_back_or_changed_is_not_proposed_again(plant: Pl
     assert plant.dump() == first
 
 
+def test_a_dry_run_changes_nothing_and_says_what_would_be_done(plant: Plant) -> None:
+    for person in TYPISTS[:2]:
+        assert succeed(plant, person)[0] == 0
+    first = plant.dump()
+    status, said = succeed(plant, "eve", "U2", "--dry-run", "--again", "Z")
+    assert status == 0 and plant.dump() == first and "would be done 35, there already 1, refused 0" in said
+    for words in "take L out of service: valve", "shelve A for 3200 s: pump test", "shelve C until it returns to normal: wiring":
+        assert f"would: {words}" in said
+    assert "Z: nothing of it runs in U1, and nobody of this name holds a role there: --again has no effect" in decisions(said)
+
+
 def test_an_approver_is_not_shown_a_note(plant: Plant) -> None:
     succeed_all(plant)
     note = RECORD | {"tag": "N1", "cause": "carried over from U1", "consequence": "shelved since 2026-03-01T10:00:00Z by ann"}
@@ -203,6 +214,9 @@ def test_an_approver_is_not_shown_a_note(plant: Plant) -> None:
     assert said.stdout.startswith("1 note of office successor: whoever has left it takes it back\n"), said.stdout
     assert said.stdout.endswith("7 proposals shown\ndone 7, there already 0, refused 0\n")
     assert plant.rows("SELECT state_no FROM changes WHERE unit = 'U2' AND number = 11") == [(1,)]
+    said = typed("handover", "--units", "U2", *plant.words("vic", LATER))
+    words = "11 note of office successor on N1: the command was stopped, and takes it back when it is typed again, by eve since 2026-03-01 10:30"
+    assert f"Proposals that wait: 1\n     {words}\n" in said.stdout, said.stdout
 
 
 def test_the_place_of_a_note_is_one_of_little_weight_at_which_an_alarm_is_needed() -> None:
