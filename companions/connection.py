@@ -115,9 +115,24 @@ def of_netrc(path: str, host: str, user: str) -> tuple[str, str]:
     return entry[0], entry[2]
 
 
+def parts_of(url: str) -> urllib.parse.SplitResult:
+    """The parts of an office's address."""
+    wrong = f"{url!r} is not the address of an office, as {PROXY}"
+    try:
+        parts = urllib.parse.urlsplit(url)
+        is_right = parts.scheme in ("http", "https") and parts.hostname and parts.port != 0 and not (parts.query or parts.fragment)
+    except ValueError as error:
+        raise Trouble(wrong) from error
+    if "@" in parts.netloc:
+        raise Trouble("an address has no name and no password: set OFFICE_USER and OFFICE_PASSWORD")
+    if not is_right:
+        raise Trouble(wrong)
+    return parts
+
+
 def is_safe(url: str) -> bool:
     """Whether nobody on the network reads what is sent to an address."""
-    parts = urllib.parse.urlsplit(url)
+    parts = parts_of(url)
     return parts.scheme == "https" or parts.hostname in ("localhost", "127.0.0.1", "::1")
 
 
@@ -138,9 +153,7 @@ class Connection:
     """One caller's connection to one office, kept between calls."""
 
     def __init__(self, target: Target, settings: collections.abc.Mapping[str, str] = os.environ) -> None:
-        parts = urllib.parse.urlsplit(target.url)
-        if parts.scheme not in ("http", "https") or not parts.hostname or parts.query or parts.fragment or parts.username:
-            raise Trouble(f"{target.url!r} is not the address of an office, as {PROXY}")
+        parts = parts_of(target.url)
         self.target, self.url = target, target.url.rstrip("/")
         fields = {"User-Agent": "shelfoffice-tools"}
         if target.person is None:

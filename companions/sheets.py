@@ -171,6 +171,8 @@ def decode(path: pathlib.Path, raw: bytes, encoding: str) -> str:
         byte = error.start - (raw.rfind(b"\n", 0, error.start) + 1) + 1
         words = f"byte {byte} of the line is not {encoding} ({error.reason}): save the file as UTF-8, or name its encoding in the mapping"
         raise Faulty(path, [Fault(line, 0, "", words)]) from error
+    except UnicodeError as error:
+        raise Faulty(path, [Fault(1, 0, "", f"the file is not {encoding}: {error}")]) from error
     return text.removeprefix("\ufeff")
 
 

@@ -161,6 +161,11 @@ def test_a_bad_file_is_refused(text: bytes, words: str) -> None:
     assert faults(text)[0].startswith(words)
 
 
+def test_a_file_of_another_encoding_is_refused() -> None:
+    assert faults(b"tag,latching,limit\n", sheets.Mapping("utf-16"))[0].startswith("line 1: byte 19 of the line is not utf-16 (truncated data)")
+    assert faults(b"xn--zz-,latching,limit\n", sheets.Mapping("idna"))[0].startswith("line 1: the file is not idna")
+
+
 def test_another_case_of_letters_stands_for_a_column_only_where_no_name_is_the_same() -> None:
     assert [(it.tag, it.limit) for it in read("TAG,tag,Limit,latching\nx,A,60,no\n")] == [("A", 60)]
     assert faults("TAG,Tag,limit,latching\nA,B,60,no\n") == ["line 1, column 2 (tag): the column 'tag' stands twice"]
