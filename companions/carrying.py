@@ -34,12 +34,12 @@ class Running:
         return values.Role.Maintainer if self.state == OUT else values.Role.Operator
 
     def origin(self) -> str:
-        """What tells it from what the alarm was before and after."""
+        """Since when and by whom: no other one of the alarm has the same."""
         return f"{self.state} since {values.text_of(self.since)} by {self.person}"
 
 
 def place_in(found: matrix.Matrix) -> tuple[int, int]:
-    """A severity and a time to respond for a note, of as little weight as they can be where the matrix does not say that no alarm is needed."""
+    """The severity and the time to respond of a note: of the least severe row with another cell than N, and there the longest time."""
     places = ((severity, time) for severity in range(1, len(found.cells) + 1) for time in (*reversed(found.bands), 1))
     return next((it for it in places if found.priority(*it) != "N"), (1, 1))
 

@@ -308,6 +308,8 @@ def command(
                 feeding.import_file(source)
         except Bad as error:
             count.refused.append(f"refused: {source.name}: {error}")
+        except OSError as error:
+            raise connection.Trouble(f"{error.filename or source}: {error.strerror}") from error
         except connection.Refusal as refusal:
             if refusal.name == "UnitFull":
                 raise connection.Trouble(f"{unit} is full, and takes no new events: {refusal.line}; see office successor") from refusal

@@ -212,6 +212,14 @@ def test_what_is_refused_as_a_whole_stays_in_the_spool(plant: Plant, person: str
     assert said.returncode == 1 and words in said.stdout and names(folder) == ["a.csv"]
 
 
+def test_a_folder_in_which_nothing_can_be_moved_is_named(plant: Plant) -> None:
+    folder = spool(plant, a=HEADER + line(1))
+    (folder / "done").write_text("")
+    said = typed("feed", folder, "--unit", "U1", *plant.words("ann"))
+    assert said.returncode == 1 and "spool/done: File exists" in said.stdout and "done 1, there already 0, refused 0" in said.stdout
+    assert "a.csv" in names(folder)
+
+
 def test_it_waits_until_the_offices_clock_has_passed_a_moment(plant: Plant) -> None:
     ahead = time.strftime("%Y-%m-%dT%H:%M:%SZ", time.gmtime(time.time() + 3))
     folder = spool(plant, a=HEADER + line(1) + f"2,{ahead},A,RTN\n")
