@@ -171,6 +171,33 @@ def test_roles_that_were_taken_are_not_granted_again(plant: Plant) -> None:
     assert "done 0, there already 5, refused 0" in said and len(plant.rows("SELECT 1 FROM grants WHERE unit = 'U2'")) == 1, said
 
 
+def test_killed_while_roles_are_granted_none_that_is_taken_comes_back(plant: Plant) -> None:
+    steps = [run_until(plant, person, "WHOLE", None) for person in TYPISTS[:2]][-1]
+    seen: set[int] = set()
+
+    def held(unit: str) -> set[tuple[str, int]]:
+        found = plant.rows(f"SELECT person, role_no FROM grants WHERE unit = '{unit}' AND role_no != 6")
+        return {(str(person), int(role)) for person, role in found}
+
+    for last in range(steps - 41, steps + 1, 4):
+        unit = f"K{last}"
+        assert run_until(plant, "root", unit, None)
+        run_until(plant, "ste", unit, last)
+        first = held(unit)
+        seen.add(len(first))
+        taken = set(sorted(first)[:1])
+        for person, role in taken:
+            assert plant.call("ste", LATER, f"/units/{unit}/withdrawals", {"person": person, "role": values.Role(role).name}) == {"done": True}
+        status, said = succeed(plant, "ste", unit)
+        # as long as one is held, a person is asked of each that is not; where none is the books are those of a unit that was just opened
+        assert status == 0 and held(unit) == (first - taken if first - taken else held("WHOLE")), (last, said)
+        asked = [it.split(":")[0] for it in decisions(said) if "where roles were granted before" in it]
+        assert len(asked) == (len(held("WHOLE")) - len(first - taken) if first - taken else 0), (last, said)
+        assert succeed(plant, "ste", unit, *(word for it in asked for word in ("--again", it)))[0] == 0
+        assert held(unit) == held("WHOLE")
+    assert {0, 8} < seen
+
+
 def test_what_was_rejected_taken_back_or_changed_is_not_proposed_again(plant: Plant) -> None:
     succeed_all(plant)
     numbers = {(kind, tag): number for number, kind, tag in plant.rows("SELECT number, kind_no, tag FROM changes WHERE unit = 'U2' AND state_no = 1")}
