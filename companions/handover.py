@@ -61,9 +61,10 @@ class Page:
 
 
 def shift_before(at: datetime.datetime, hours: int) -> tuple[datetime.datetime, datetime.datetime]:
-    """The shift that ends now, in full ten minutes of the clock."""
-    until = at - datetime.timedelta(seconds=values.seconds_at(at) % values.FLOOD_PERIOD)
-    return until - datetime.timedelta(hours=hours), until
+    """The shift that ends now, in full ten minutes of the clock; none begins before the first moment of all."""
+    period = datetime.timedelta(seconds=values.FLOOD_PERIOD)
+    until = max(at - (at - values.EPOCH) % period, values.EPOCH + period)
+    return max(until - datetime.timedelta(hours=hours), values.EPOCH), until
 
 
 def by_urgency(standing: collections.abc.Iterable[lists.Standing]) -> list[lists.Standing]:
