@@ -182,8 +182,14 @@ def delimiter_of(header: str) -> str:
     return max(DELIMITERS, key=bare.count)
 
 
-def first_line(text: str) -> str:
-    return next((it for it in text.splitlines() if it.strip()), "")
+def first_record(text: str) -> str:
+    """The first line that is not blank, with those on which its fields in quotes go on."""
+    found = ""
+    for line in io.StringIO(text, newline=""):
+        found += line
+        if found.strip() and found.count('"') % 2 == 0:
+            break
+    return found
 
 
 def lines_of(path: pathlib.Path, text: str, delimiter: str) -> list[tuple[int, list[str]]]:
@@ -205,7 +211,7 @@ def read_sheet(path: pathlib.Path, mapping: Mapping, needed: collections.abc.Seq
         text = decode(path, path.read_bytes(), mapping.encoding)
     except OSError as error:
         raise connection.Trouble(f"{path}: {error.strerror}") from error
-    lines = lines_of(path, text, mapping.delimiter or delimiter_of(first_line(text)))
+    lines = lines_of(path, text, mapping.delimiter or delimiter_of(first_record(text)))
     if not lines:
         raise Faulty(path, [Fault(1, 0, "", "the file is empty: its first line names the columns")])
     (line, header), *rest = lines

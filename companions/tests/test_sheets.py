@@ -74,6 +74,14 @@ def test_a_mark_semicolons_and_line_ends_in_quotes() -> None:
     assert (first.line, second.line) == (2, 6)
 
 
+@pytest.mark.parametrize("delimiter", [",", ";", "\t"])
+def test_a_header_may_have_line_ends_in_quotes(delimiter: str) -> None:
+    names = ['"Longest\nshelf (min)"', "tag", '"latching"', '"note, or; more\r\nof it"']
+    text = delimiter.join(names) + "\n" + delimiter.join(["60", "A", "no", "x"]) + "\n"
+    mapping = sheets.Mapping(columns={"limit": "Longest shelf (min)"}, seconds={"limit": 60})
+    assert [(it.line, it.tag, it.limit) for it in read("\n\n" + text, mapping)] == [(6, "A", 3600)]
+
+
 def test_a_mapping_names_columns_values_times_and_encoding(tmp_path: pathlib.Path) -> None:
     path = tmp_path / "map.toml"
     path.write_text(
