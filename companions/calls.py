@@ -172,11 +172,16 @@ class Office:
     # ---- what changes something
 
     def make(
-        self, path: str, members: collections.abc.Mapping[str, object], stands: collections.abc.Callable[[], str | None], *there: str
+        self,
+        path: str,
+        members: collections.abc.Mapping[str, object],
+        stands: collections.abc.Callable[[], str | None],
+        *there: str,
+        is_once: bool = False,
     ) -> tuple[Outcome, str]:
         """Makes a call. A refusal by one of the names `there` says that what it would do is done."""
         try:
-            made = self.link.change(path, connection.json_body(members) if members else b"", stands)
+            made = self.link.change(path, connection.json_body(members) if members else b"", stands, is_once)
         except connection.Refusal as refusal:
             if refusal.name not in there:
                 raise
@@ -250,21 +255,25 @@ class Office:
             return Outcome.done if refusal.is_doubted else Outcome.there
 
     def shelve(self, unit: str, tag: str, seconds: int | None, words: str) -> Outcome:
-        """Shelves for a time, or until the alarm returns to normal."""
+        """Shelves for a time, or until the alarm returns to normal. Unclear where the answer was lost and it is not shelved: a person may have ended
+        it by then."""
         kind = "one-shot" if seconds is None else "timed"
         members: dict[str, object] = {"words": words} if seconds is None else {"seconds": seconds, "words": words}
 
         def stands() -> str | None:
             return "" if any((it.tag, it.kind, it.words) == (tag, kind, words) for it in self.shelves(unit)) else None
 
-        return self.make(f"/units/{unit}/alarms/{tag}/{kind}-shelve", members, stands, "ConditionAlreadyShelved")[0]
+        return self.make(f"/units/{unit}/alarms/{tag}/{kind}-shelve", members, stands, "ConditionAlreadyShelved", is_once=True)[0]
 
     def remove_from_service(self, unit: str, tag: str, words: str) -> Outcome:
+        """Takes an alarm out of service; Unclear as for a shelf."""
+
         def stands() -> str | None:
             status = self.status(unit, tag)
             return "" if status is not None and status.out_of_service else None
 
-        return self.make(f"/units/{unit}/alarms/{tag}/remove-from-service", {"words": words}, stands, "AlreadyOutOfService")[0]
+        path = f"/units/{unit}/alarms/{tag}/remove-from-service"
+        return self.make(path, {"words": words}, stands, "AlreadyOutOfService", is_once=True)[0]
 
     def import_events(self, unit: str, body: bytes) -> tuple[int, int]:
         """How many rows are new, and how many are repeated. An import may be repeated, since each row counts once."""

@@ -10,7 +10,7 @@ import dataclasses
 import datetime
 import functools
 
-from companions import calls, changes, matrix, pages, tally, values
+from companions import calls, changes, connection, matrix, pages, tally, values
 
 OUT, SHELVED = "out of service", "shelved"
 PROPOSED, WITHDRAWN = values.State.Proposed, values.State.Withdrawn
@@ -91,8 +91,12 @@ class Carrying:
             self.said.append(f"{it.tag}: {it.origin()} in {self.old}; who is Engineer and {it.role.name} in {self.to} carries it over")
         elif (doubt := self.doubt(notes)) and it.tag not in self.again:
             self.said.append(f"{it.tag}: {it.origin()} in {self.old}, {doubt}; --again {it.tag} carries it over")
-        elif self.count.make(what, functools.partial(self.noted, it, own, call)):
-            self.said.append(self.history(it))
+        else:
+            try:
+                if self.count.make(what, functools.partial(self.noted, it, own, call)):
+                    self.said.append(self.history(it))
+            except connection.Unclear as error:
+                self.said.append(f"{it.tag}: {it.origin()} in {self.old}, and perhaps carried over: {error}; --again {it.tag} carries it over")
 
     def doubt(self, notes: list[calls.Change]) -> str:
         """Why it is not carried over unasked, if it is not."""
@@ -101,7 +105,7 @@ class Carrying:
         return "" if self.is_current else f"by the backup: you hold no role in {self.old}, which may have ended it since"
 
     def noted(self, it: Running, own: int | None, call: collections.abc.Callable[[], calls.Outcome]) -> calls.Outcome:
-        """Makes a call between the two steps of its note. Where the call is refused the note waits on."""
+        """Makes a call between the two steps of its note. Where the call is refused or has no answer the note waits on."""
         number = self.propose(it) if own is None else own
         outcome = call()
         self.office.decide(self.to, number, WITHDRAWN)

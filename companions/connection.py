@@ -40,6 +40,10 @@ class NotReached(Trouble):
     """The office gave no answer for as long as it was waited for."""
 
 
+class Unclear(Trouble):
+    """No answer says whether a call was made, and it must not be made twice."""
+
+
 class SignOn(Trouble):
     """The proxy does not take the sign-on."""
 
@@ -196,9 +200,10 @@ class Connection:
             self.wait(answer, pause, until)
         raise AssertionError("pauses do not end")
 
-    def change(self, path: str, body: bytes, stands: collections.abc.Callable[[], str | None]) -> Made:
+    def change(self, path: str, body: bytes, stands: collections.abc.Callable[[], str | None], is_once: bool = False) -> Made:
         """Makes a call that changes something. Where no answer comes `stands` is asked, which says what the office would have answered if
-        the change stands, and nothing if it does not: only then is the call made once more."""
+        the change stands, and nothing if it does not: only then is the call made once more. With `is_once` it is made once more only if no office
+        has seen it, since a person may have ended by then what it has done."""
         until, is_doubted = time.monotonic() + self.target.patience, False
         for pause in pauses():
             try:
@@ -216,6 +221,8 @@ class Connection:
                 there = stands()
             if there is not None:
                 return Made(there, not is_doubted)
+            if is_once and is_doubted:
+                raise Unclear(answer.why)
         raise AssertionError("pauses do not end")
 
     def wait(self, missing: Missing, pause: float, until: float) -> None:

@@ -126,6 +126,30 @@ def test_a_call_that_is_refused_is_not_taken_for_made(plant: Plant) -> None:
     assert status == 0 and f"{words}; --again A carries it over" in decisions(said), said
 
 
+@pytest.mark.parametrize("is_made", [True, False])
+def test_where_no_answer_came_and_a_person_was_quicker_nothing_is_done_twice(plant: Plant, is_made: bool) -> None:
+    for person in TYPISTS[:2]:
+        assert succeed(plant, person)[0] == 0
+    send = connection.Connection.send
+
+    def lost(link: connection.Connection, method: str, path: str, body: bytes | None) -> str | connection.Missing:
+        if not path.endswith("/A/timed-shelve"):
+            return send(link, method, path, body)
+        if is_made:
+            send(link, method, path, body)
+            end(plant, "A")
+        return connection.Missing(connection.Doubt.may_be_made, "the office is away or too slow (504)")
+
+    with pytest.MonkeyPatch.context() as patch:
+        patch.setattr(connection.Connection, "send", lost)
+        status, said = succeed(plant, "eve")
+    words = "A: shelved since 2026-03-01T10:00:00Z by ann in U1, and perhaps carried over: the office is away or too slow (504)"
+    assert status == 0 and f"{words}; --again A carries it over" in decisions(said) and running(plant, "U2") == {"C", "L"}, said
+    assert succeed(plant, "eve")[0] == 0 and running(plant, "U2") == {"C", "L"}
+    assert succeed(plant, "eve", "U2", "--again", "A")[0] == 0 and running(plant, "U2") == {"A", "C", "L"}
+    assert {it[3] for it in notes_in(plant, "U2")} == {4} and len(notes_in(plant, "U2")) == 3
+
+
 def test_the_full_unit_says_what_runs_now_and_the_backup_alone_is_not_enough(plant: Plant) -> None:
     end(plant, "A", "U1")
     end(plant, "L", "U1")

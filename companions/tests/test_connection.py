@@ -122,6 +122,24 @@ def test_a_proposal_is_looked_for_among_those_that_came_since() -> None:
     assert office_of(Script(page(504), decided)).propose("U1", "eve", values.Kind.limit, "A", 0, 60) == 1
 
 
+def test_what_a_person_may_have_ended_is_not_repeated_unless_no_office_saw_it() -> None:
+    nothing = httpx.Response(200, text="SHELVES U1 AT 2026-03-01T10:00:00Z COUNT 0\n")
+    shelf = f"{'A':<24} {'timed':<8} 2026-03-01T10:00:00Z     60 {'eve':<32} test\n"
+    stands = httpx.Response(200, text="SHELVES U1 AT 2026-03-01T10:00:00Z COUNT 1\n" + shelf)
+    lost: list[Answer] = [page(502), page(504), httpx.ReadError("broken")]
+    for missing in lost:
+        script = Script(missing, nothing, nothing)
+        with pytest.raises(connection.Unclear):
+            office_of(script).shelve("U1", "A", 60, "test")
+        assert len(script.asked) == 3
+        assert office_of(Script(missing, nothing, stands)).shelve("U1", "A", 60, "test") is calls.Outcome.done
+    unseen: list[Answer] = [page(503), httpx.ConnectError("refused")]
+    for missing in unseen:
+        assert office_of(Script(missing, nothing, DONE)).shelve("U1", "A", 60, "test") is calls.Outcome.done
+    with pytest.raises(connection.Unclear):
+        office_of(Script(page(504), STATUS, STATUS)).remove_from_service("U1", "A", "test")
+
+
 def test_a_decision_is_looked_at_before_it_is_repeated() -> None:
     script = Script(page(504), change(1, state="Approved", decider="eve", decided="2026-03-01T10:00:00Z"))
     assert office_of(script).decide("U1", 1, values.State.Approved) is calls.Outcome.done
