@@ -169,6 +169,9 @@ def names_of(call: audit.Call, past: shelvings.UnitPast | None, registered: date
     if call.status == 403:
         return " or ".join(NAMES_403.get(kind, ("NotGranted", "RoleLacking")))
     names = list((NAMES_409 if call.method == "POST" else READS_409).get(kind, ()))
+    if kind == "alarms" and call.method != "POST" and not call.tag():
+        # the list of all alarms
+        names = []
     if past is not None and "AlarmUnknown" in names:
         is_known = was_known(call, past, registered)
         if is_known is False:

@@ -159,10 +159,14 @@ def test_refused_reads_have_names_of_their_own(office: Plant) -> None:
         assert "refused" in logged.call("vic", "2026-03-02T08:00:00Z", f"/units/U1/{path}")
     # a backup is as old as the last change in it
     logged.call("eve", "2026-03-03T08:00:00Z", "/units/U1/alarms", {"tag": "C", "latching": False, "max": 7200})
+    for path in "alarms", "shelves":
+        assert logged.call("vic", "2026-03-02T08:00:00Z", f"/units/U1/{path}")["name"] == "MomentBehind"
     assert sorted(reported(logged, "refusals")) == [
         ["AlarmUnknown", "read alarms", "vic", "U1", "1"],
         ["AlarmUnknown", "read record", "vic", "U1", "1"],
         ["ChangeUnknown", "read changes", "vic", "U1", "1"],
+        ["MomentBehind", "read alarms", "vic", "U1", "1"],
+        ["MomentBehind", "read shelves", "vic", "U1", "1"],
         ["RangeNotAligned", "read floods", "vic", "U1", "1"],
         ["RecordUnknown", "read record", "vic", "U1", "1"],
     ]
