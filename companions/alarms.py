@@ -34,10 +34,10 @@ def read_alarms(path: pathlib.Path, mapping: sheets.Mapping, unit: str) -> list[
     found: list[Wanted] = []
     lines: dict[tuple[str, str], int] = {}
     for row in sheet.rows:
-        of_unit = row.texts.get("unit", unit)
+        of_unit = sheet.meant(row, "unit") if "unit" in row.texts else unit
         if not values.UNIT.fullmatch(of_unit):
-            sheet.blame(row.line, "unit", f"{of_unit!r} is not a unit's code: 1 to 8 of A to Z and 0 to 9")
-        tag = row.texts["tag"]
+            sheet.blame(row.line, "unit", f"{sheets.shown(of_unit)} is not a unit's code: 1 to 8 of A to Z and 0 to 9")
+        tag = sheet.meant(row, "tag")
         before = lines.setdefault((of_unit, tag), row.line)
         if before != row.line:
             sheet.blame(row.line, "tag", f"{tag} stands on line {before}, too")
@@ -53,12 +53,12 @@ def read_alarms(path: pathlib.Path, mapping: sheets.Mapping, unit: str) -> list[
 def read_row(sheet: sheets.Sheet, row: sheets.Row, has_records: bool) -> Wanted | None:
     """The alarm of a line; what is wrong with it is added to the faults of the sheet."""
     before = len(sheet.faults)
-    tag = row.texts["tag"]
+    tag = sheet.meant(row, "tag")
     if not values.TAG.fullmatch(tag):
-        sheet.blame(row.line, "tag", f"{tag!r} is not a tag: 1 to 24 of A to Z, 0 to 9, '-', '.' and '_'")
+        sheet.blame(row.line, "tag", f"{sheets.shown(tag)} is not a tag: 1 to 24 of A to Z, 0 to 9, '-', '.' and '_'")
     latching = sheet.meant(row, "latching").lower()
     if latching not in YES + NO:
-        sheet.blame(row.line, "latching", f"{latching!r} is neither yes nor no")
+        sheet.blame(row.line, "latching", f"{sheets.shown(latching)} is neither yes nor no")
     limit = sheet.seconds(row, "limit", values.MAX_SECONDS)
     record = read_record(sheet, row) if has_records and any(row.texts[it] for it in RECORD) else None
     if len(sheet.faults) > before or limit is None:
@@ -69,7 +69,7 @@ def read_row(sheet: sheets.Sheet, row: sheets.Row, has_records: bool) -> Wanted 
 def read_record(sheet: sheets.Sheet, row: sheets.Row) -> values.Record | None:
     """The record of a line that has any of it."""
     for column in REMARKS:
-        words = row.texts[column]
+        words = sheet.meant(row, column)
         odd = next((it for it in words if not " " <= it <= "~"), None)
         if not words:
             sheet.blame(row.line, column, "is empty, where the line has other parts of a record")
@@ -81,5 +81,5 @@ def read_record(sheet: sheets.Sheet, row: sheets.Row) -> values.Record | None:
     response = sheet.seconds(row, "response", values.MAX_SECONDS)
     if severity is None or response is None:
         return None
-    cause, consequence, action = (row.texts[it] for it in REMARKS)
+    cause, consequence, action = (sheet.meant(row, it) for it in REMARKS)
     return values.Record(cause, consequence, action, severity, response)

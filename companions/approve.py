@@ -64,8 +64,11 @@ class Unit:
         self.office, self.unit = office, unit
         self.changes = list(tally.over(office.changes(unit), "looks at the changes"))
         self.matrix = changes.matrix_in_force(self.changes)
+        waiting = changes.waiting(self.changes)
+        self.waiting = [it for it in waiting if not changes.is_note(it)]
+        self.notes = len(waiting) - len(self.waiting)
         # an alarm without a record has no priority in the list
-        self.recorded = {it.tag for it in office.alarms(unit) if it.priority is not None} if changes.waiting(self.changes) else set()
+        self.recorded = {it.tag for it in office.alarms(unit) if it.priority is not None} if self.waiting else set()
 
     def shown(self, change: calls.Change) -> Shown:
         content = change.content
@@ -126,8 +129,10 @@ def command(unit: str, proposer: str | None, kind: str | None, whole: str | None
     with options.office_of(**words) as office, tally.Tally(dry_run) as count:
         person = office.caller()[0]
         found = Unit(office, unit)
-        meant = [it for it in changes.waiting(found.changes) if proposer in (None, it.proposer) and kind in (None, it.kind.name)]
+        meant = [it for it in found.waiting if proposer in (None, it.proposer) and kind in (None, it.kind.name)]
         waiting = [it for it in meant if it.proposer != person]
+        if found.notes:
+            click.echo(f"{tally.plural(found.notes, 'note')} of office successor: whoever has left it takes it back")
         if len(waiting) < len(meant):
             click.echo(f"{tally.plural(len(meant) - len(waiting), 'proposal')} of your own: somebody else decides")
         for it in waiting:

@@ -12,7 +12,8 @@ import zlib
 
 from companions import connection, values
 
-NAME = re.compile(r"audit\.log(-.*)?")
+CURRENT = "audit.log"
+NAME = re.compile(re.escape(CURRENT) + "(-.*)?")
 MEMBERS = ("moment", "person", "request", "body", "status", "office")
 REFUSED = (403, 409)
 
@@ -74,10 +75,10 @@ class Log:
 
 
 def files_in(path: pathlib.Path) -> list[pathlib.Path]:
-    """The files of a log: those of a folder, or the one."""
+    """The files of a log, the oldest first: those of a folder, or the one."""
     if not path.is_dir():
         return [path]
-    return sorted(it for it in path.iterdir() if NAME.fullmatch(it.name) and it.is_file())
+    return sorted((it for it in path.iterdir() if NAME.fullmatch(it.name) and it.is_file()), key=lambda it: (it.name == CURRENT, it.name))
 
 
 def lines_in(path: pathlib.Path) -> collections.abc.Iterator[bytes]:
@@ -97,7 +98,7 @@ def read_line(line: bytes) -> Call | None:
         moment, person, request, body, status, office = (said[it] for it in MEMBERS)
         method, _, target = request.partition(" ")
         members = json.loads(body) if method == "POST" and body.startswith("{") else {}
-    except (ValueError, KeyError, TypeError, AttributeError):
+    except (ValueError, KeyError, TypeError, AttributeError, RecursionError):
         return read_bare(line)
     try:
         path = tuple(target.split("/")[1:]) if target.startswith("/") else (target,)
@@ -112,7 +113,7 @@ def read_bare(line: bytes) -> Call | None:
     try:
         said = json.loads(line.decode(errors="replace"))
         return read_line(json.dumps(said | {"body": ""}).encode()) if said.get("body") else None
-    except (ValueError, TypeError, AttributeError):
+    except (ValueError, TypeError, AttributeError, RecursionError):
         return None
 
 

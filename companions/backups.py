@@ -15,7 +15,7 @@ import typing
 
 from companions import calls, connection, matrix as matrices, values
 
-FOLDER = re.compile(r"\d{8}T\d{6}Z")
+FOLDER = re.compile(r"[0-9]{8}T[0-9]{6}Z")
 MAGIC = b"SQLite format 3\0"
 SCHEMA = 2
 # the bytes of a file that SQLite locks
@@ -27,7 +27,6 @@ class Unit:
     unit: str
     last: datetime.datetime
     matrix_no: int
-    matrix_rev: int
     quota: int
 
 
@@ -60,7 +59,6 @@ class Alarm:
     limit_revision: int
     suppressed: bool
     active: datetime.datetime | None
-    returned: datetime.datetime | None
     out: OutOfService | None
 
 
@@ -76,7 +74,6 @@ class Shelf:
 
 @dataclasses.dataclass(frozen=True)
 class Event:
-    seq: int
     moment: int  # seconds, as in the file: a unit has many events
     tag: str
     kind: str
@@ -84,6 +81,14 @@ class Event:
 
 EVENTS = {1: "ACT", 2: "RTN", 3: "ACK", 4: "RESET", 5: "SUP", 6: "UNSUP"}
 CELLS = ("N", "P1", "P2", "P3", "P4")
+
+
+def moment_of_folder(name: str) -> datetime.datetime | None:
+    """When a backup was made, by the name of its folder; None if the name is another one."""
+    try:
+        return datetime.datetime.strptime(name, "%Y%m%dT%H%M%SZ").replace(tzinfo=datetime.timezone.utc) if FOLDER.fullmatch(name) else None
+    except ValueError:
+        return None
 
 
 def moment_or_none(seconds: int | None) -> datetime.datetime | None:
@@ -97,14 +102,13 @@ class Books:
         self.rows, self.path = rows, path
 
     def units(self) -> list[Unit]:
-        found = self.rows.execute("SELECT unit, last_s, matrix_no, matrix_rev, quota FROM units ORDER BY unit")
+        found = self.rows.execute("SELECT unit, last_s, matrix_no, quota FROM units ORDER BY unit")
         return [Unit(unit, values.moment_at(last), *rest) for unit, last, *rest in found]
 
     def moment(self) -> datetime.datetime:
         """When the backup was made, by the name of its folder; otherwise the moment of the last change in it."""
-        if FOLDER.fullmatch(self.path.name):
-            return datetime.datetime.strptime(self.path.name, "%Y%m%dT%H%M%SZ").replace(tzinfo=datetime.timezone.utc)
-        return max((it.last for it in self.units()), default=values.EPOCH)
+        named = moment_of_folder(self.path.name)
+        return max((it.last for it in self.units()), default=values.EPOCH) if named is None else named
 
     def unit(self, unit: str) -> Unit:
         found = next((it for it in self.units() if it.unit == unit), None)
@@ -129,12 +133,12 @@ class Books:
         return [Grant(person, values.Role(role), moment_or_none(end)) for person, role, end in found]
 
     def alarms(self, unit: str) -> list[Alarm]:
-        text = """SELECT tag, latching, max_s, max_rev, suppressed, active_s, return_s, out_s, out_by, out_words
+        text = """SELECT tag, latching, max_s, max_rev, suppressed, active_s, out_s, out_by, out_words
             FROM alarms WHERE unit = ? ORDER BY tag"""
         found = []
-        for tag, latching, limit, revision, suppressed, active, returned, since, person, words in self.rows.execute(text, (unit,)):
+        for tag, latching, limit, revision, suppressed, active, since, person, words in self.rows.execute(text, (unit,)):
             out = None if since is None else OutOfService(values.moment_at(since), person, words)
-            found.append(Alarm(tag, bool(latching), limit, revision, bool(suppressed), moment_or_none(active), moment_or_none(returned), out))
+            found.append(Alarm(tag, bool(latching), limit, revision, bool(suppressed), moment_or_none(active), out))
         return found
 
     def latching(self, unit: str) -> dict[str, bool]:
@@ -167,8 +171,8 @@ class Books:
 
     def events(self, unit: str) -> collections.abc.Iterator[Event]:
         """The events in the order of their numbers, in which they take effect."""
-        for seq, moment, tag, kind in self.rows.execute("SELECT seq, moment_s, tag, kind_no FROM events WHERE unit = ? ORDER BY seq", (unit,)):
-            yield Event(seq, moment, tag, EVENTS[kind])
+        for moment, tag, kind in self.rows.execute("SELECT moment_s, tag, kind_no FROM events WHERE unit = ? ORDER BY seq", (unit,)):
+            yield Event(moment, tag, EVENTS[kind])
 
     def count(self, unit: str, table: str) -> int:
         """How many rows a unit has in a table."""
@@ -187,7 +191,7 @@ def newest_in(path: pathlib.Path) -> pathlib.Path:
     """The backup that is meant by a path: itself, or the newest in a folder of backups."""
     if not path.is_dir():
         return path
-    inside = sorted(it for it in path.iterdir() if FOLDER.fullmatch(it.name) and it.is_dir())
+    inside = sorted(it for it in path.iterdir() if moment_of_folder(it.name) and it.is_dir())
     return inside[-1] if inside else path
 
 
@@ -197,25 +201,37 @@ def files_of(path: pathlib.Path) -> list[pathlib.Path]:
         sums = path / "SHA256SUMS"
         if sums.exists():
             return checked_files(path, sums)
-        inside = [it for it in path.iterdir() if it.is_file() and it.open("rb").read(len(MAGIC)) == MAGIC]
+        inside = [it for it in path.iterdir() if it.is_file() and begins_as_books(it)]
         if len(inside) != 1:
             raise connection.Trouble(f"{path} is not a backup: it has {len(inside)} files of books")
         path = inside[0]
-    elif path.open("rb").read(len(MAGIC)) != MAGIC:
+    elif not begins_as_books(path):
         raise connection.Trouble(f"{path} is not a file of books, nor a folder of backups")
     log = path.with_name(path.name + "-wal")
     return [path, log] if log.exists() else [path]
 
 
+def begins_as_books(file: pathlib.Path) -> bool:
+    with file.open("rb") as opened_file:
+        return opened_file.read(len(MAGIC)) == MAGIC
+
+
 def checked_files(path: pathlib.Path, sums: pathlib.Path) -> list[pathlib.Path]:
     found = []
-    for line in sums.read_text().splitlines():
+    for line in sums.read_text(errors="replace").splitlines():
         wanted, _, name = line.partition("  ")
         file = path / name
-        if not file.is_file() or hashlib.sha256(file.read_bytes()).hexdigest() != wanted:
+        if not file.is_file() or sum_of(file) != wanted:
             raise connection.Trouble(f"{file} is not what was backed up: take another backup")
         found.append(file)
+    if not found:
+        raise connection.Trouble(f"{sums} is empty: take another backup")
     return sorted(found, key=lambda it: it.name.endswith("-wal"))
+
+
+def sum_of(file: pathlib.Path) -> str:
+    with file.open("rb") as opened_file:
+        return hashlib.file_digest(opened_file, "sha256").hexdigest()
 
 
 def is_open_elsewhere(file: pathlib.Path) -> bool:

@@ -27,7 +27,6 @@ class Status:
     limit: int
     limit_revision: int
     out_of_service: bool
-    shelf: str
 
 
 @dataclasses.dataclass(frozen=True)
@@ -35,7 +34,6 @@ class InForce:
     """The record of an alarm that is in force."""
 
     record: values.Record
-    change: int
     revision: int
     priority: str
 
@@ -138,7 +136,7 @@ class Office:
         if text is None:
             return None
         said = json.loads(text)
-        return Status(said["limit"], said["limit_revision"], said["out_of_service"], said["shelf"])
+        return Status(said["limit"], said["limit_revision"], said["out_of_service"])
 
     def record(self, unit: str, tag: str) -> InForce | None:
         """None if no record of the alarm was approved, or there is no such alarm."""
@@ -146,7 +144,7 @@ class Office:
         if text is None:
             return None
         said = json.loads(text)
-        return InForce(read_record(said), said["change"], said["revision"], said["priority"])
+        return InForce(read_record(said), said["revision"], said["priority"])
 
     def change(self, unit: str, number: int) -> Change | None:
         """None if the unit has no change of this number."""
@@ -174,22 +172,21 @@ class Office:
     # ---- what changes something
 
     def make(
-        self, path: str, members: collections.abc.Mapping[str, object], stands: collections.abc.Callable[[], str | None], *there: str
+        self,
+        path: str,
+        members: collections.abc.Mapping[str, object],
+        stands: collections.abc.Callable[[], str | None],
+        *there: str,
+        is_once: bool = False,
     ) -> tuple[Outcome, str]:
         """Makes a call. A refusal by one of the names `there` says that what it would do is done."""
-        doubts: list[bool] = []
-
-        def asked() -> str | None:
-            doubts.append(True)
-            return stands()
-
         try:
-            return Outcome.done, self.link.change(path, connection.json_body(members) if members else b"", asked).text
+            made = self.link.change(path, connection.json_body(members) if members else b"", stands, is_once)
         except connection.Refusal as refusal:
             if refusal.name not in there:
                 raise
-            # after a doubt it is this very call that was made
-            return (Outcome.done if doubts else Outcome.there), refusal.line
+            return (Outcome.done if refusal.is_doubted else Outcome.there), refusal.line
+        return (Outcome.there if made.was_there else Outcome.done), made.text
 
     def stands_nowhere(self) -> str | None:
         """For calls that may be repeated: waits until the office answers."""
@@ -206,6 +203,18 @@ class Office:
             members["end"] = values.text_of(end)
         return self.make(f"/units/{unit}/grants", members, self.stands_nowhere, "AlreadyHeld")[0]
 
+    def holds(self, unit: str, person: str, role: values.Role) -> bool:
+        """Whether a person holds a role, asked by a Steward: a grant until the first moment of all is refused, by AlreadyHeld if it is held. Not for
+        the role of a steward, which has no end. In a unit without room for grants it is taken for held."""
+        members = {"person": person, "role": role.name, "end": values.text_of(values.EPOCH)}
+        try:
+            said = self.link.change(f"/units/{unit}/grants", connection.json_body(members), self.stands_nowhere)
+        except connection.Refusal as refusal:
+            if refusal.name not in ("AlreadyHeld", "EndNotAhead", "UnitFull"):
+                raise
+            return refusal.name != "EndNotAhead"
+        raise AssertionError(f"a grant that ends before it begins is accepted: {said}")
+
     def take_role(self, unit: str, person: str, role: values.Role) -> Outcome:
         return self.make(f"/units/{unit}/withdrawals", {"person": person, "role": role.name}, self.stands_nowhere, "NotHeld")[0]
 
@@ -220,7 +229,8 @@ class Office:
 
         def stands() -> str | None:
             for it in self.changes(unit, self.highest.get(unit, 0) + 1):
-                if (it.thing, it.base, it.content, it.proposer) == ((kind, tag), base, content, person) and it.state is values.State.Proposed:
+                # one that came since is this one, also if it was decided at once
+                if (it.thing, it.base, it.content, it.proposer) == ((kind, tag), base, content, person):
                     return json.dumps({"number": it.number})
             return None
 
@@ -242,24 +252,28 @@ class Office:
         except connection.Refusal as refusal:
             if (refusal.name, refusal.value) != ("NotProposed", state.name):
                 raise
-            return Outcome.there
+            return Outcome.done if refusal.is_doubted else Outcome.there
 
     def shelve(self, unit: str, tag: str, seconds: int | None, words: str) -> Outcome:
-        """Shelves for a time, or until the alarm returns to normal."""
+        """Shelves for a time, or until the alarm returns to normal. Unclear where the answer was lost and it is not shelved: a person may have ended
+        it by then."""
         kind = "one-shot" if seconds is None else "timed"
         members: dict[str, object] = {"words": words} if seconds is None else {"seconds": seconds, "words": words}
 
         def stands() -> str | None:
             return "" if any((it.tag, it.kind, it.words) == (tag, kind, words) for it in self.shelves(unit)) else None
 
-        return self.make(f"/units/{unit}/alarms/{tag}/{kind}-shelve", members, stands, "ConditionAlreadyShelved")[0]
+        return self.make(f"/units/{unit}/alarms/{tag}/{kind}-shelve", members, stands, "ConditionAlreadyShelved", is_once=True)[0]
 
     def remove_from_service(self, unit: str, tag: str, words: str) -> Outcome:
+        """Takes an alarm out of service; Unclear as for a shelf."""
+
         def stands() -> str | None:
             status = self.status(unit, tag)
             return "" if status is not None and status.out_of_service else None
 
-        return self.make(f"/units/{unit}/alarms/{tag}/remove-from-service", {"words": words}, stands, "AlreadyOutOfService")[0]
+        path = f"/units/{unit}/alarms/{tag}/remove-from-service"
+        return self.make(path, {"words": words}, stands, "AlreadyOutOfService", is_once=True)[0]
 
     def import_events(self, unit: str, body: bytes) -> tuple[int, int]:
         """How many rows are new, and how many are repeated. An import may be repeated, since each row counts once."""

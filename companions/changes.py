@@ -4,6 +4,14 @@ import collections.abc
 
 from companions import calls, matrix, values
 
+# how the cause of a note begins: office successor leaves one in a unit for each alarm that it carries over
+NOTE = "carried over from "
+
+
+def is_note(change: calls.Change) -> bool:
+    """Whether a change is such a note, and not meant to come into force."""
+    return isinstance(change.content, values.Record) and change.content.cause.startswith(NOTE)
+
 
 def waiting(changes: collections.abc.Iterable[calls.Change]) -> list[calls.Change]:
     return [it for it in changes if it.state is values.State.Proposed]

@@ -40,6 +40,10 @@ class NotReached(Trouble):
     """The office gave no answer for as long as it was waited for."""
 
 
+class Unclear(Trouble):
+    """No answer says whether a call was made, and it must not be made twice."""
+
+
 class SignOn(Trouble):
     """The proxy does not take the sign-on."""
 
@@ -50,6 +54,8 @@ class Refusal(Exception):
     def __init__(self, number: int, name: str, value: object, line: str) -> None:
         super().__init__(line)
         self.number, self.name, self.value, self.line = number, name, value, line
+        # whether a try before had no answer, so that this very call may have been made
+        self.is_doubted = False
 
 
 class Doubt(enum.Enum):
@@ -70,10 +76,10 @@ class Missing:
 
 @dataclasses.dataclass(frozen=True)
 class Made:
-    """A change that stands: what the office said of it, and whether that took more than one try."""
+    """A change that stands: what the office said of it or would have said, and whether it stood before the call."""
 
     text: str
-    is_doubted: bool
+    was_there: bool
 
 
 @dataclasses.dataclass(frozen=True)
@@ -91,6 +97,8 @@ def sign_on_of(url: str, settings: collections.abc.Mapping[str, str]) -> str:
     """The field Authorization, from the environment or a netrc file."""
     token, user, password = (settings.get(it, "") for it in ("OFFICE_TOKEN", "OFFICE_USER", "OFFICE_PASSWORD"))
     if token:
+        if not (token.isascii() and token.isprintable()) or " " in token:
+            raise SignOn("OFFICE_TOKEN has a space, a line end or another character that no token has")
         return f"Bearer {token}"
     if not (user and password):
         host = urllib.parse.urlsplit(url).hostname or ""
@@ -111,9 +119,24 @@ def of_netrc(path: str, host: str, user: str) -> tuple[str, str]:
     return entry[0], entry[2]
 
 
+def parts_of(url: str) -> urllib.parse.SplitResult:
+    """The parts of an office's address."""
+    wrong = f"{url!r} is not the address of an office, as {PROXY}"
+    try:
+        parts = urllib.parse.urlsplit(url)
+        is_right = parts.scheme in ("http", "https") and parts.hostname and parts.port != 0 and not (parts.query or parts.fragment)
+    except ValueError as error:
+        raise Trouble(wrong) from error
+    if "@" in parts.netloc:
+        raise Trouble("an address has no name and no password: set OFFICE_USER and OFFICE_PASSWORD")
+    if not is_right:
+        raise Trouble(wrong)
+    return parts
+
+
 def is_safe(url: str) -> bool:
     """Whether nobody on the network reads what is sent to an address."""
-    parts = urllib.parse.urlsplit(url)
+    parts = parts_of(url)
     return parts.scheme == "https" or parts.hostname in ("localhost", "127.0.0.1", "::1")
 
 
@@ -134,9 +157,7 @@ class Connection:
     """One caller's connection to one office, kept between calls."""
 
     def __init__(self, target: Target, settings: collections.abc.Mapping[str, str] = os.environ) -> None:
-        parts = urllib.parse.urlsplit(target.url)
-        if parts.scheme not in ("http", "https") or not parts.hostname or parts.query or parts.fragment or parts.username:
-            raise Trouble(f"{target.url!r} is not the address of an office, as {PROXY}")
+        parts = parts_of(target.url)
         self.target, self.url = target, target.url.rstrip("/")
         fields = {"User-Agent": "shelfoffice-tools"}
         if target.person is None:
@@ -162,8 +183,10 @@ class Connection:
         try:
             answer = self.client.request(method, self.url + path, content=body, headers=fields)
         except (httpx.ConnectError, httpx.ConnectTimeout, httpx.PoolTimeout) as error:
+            if "CERTIFICATE_VERIFY_FAILED" in str(error):
+                raise Trouble(f"the certificate of {self.url} is not known here: name the plant's own with --ca ({error})") from error
             return Missing(Doubt.not_made, f"no connection to {self.url}: {error}")
-        except httpx.TransportError as error:
+        except httpx.RequestError as error:
             return Missing(Doubt.may_be_made, f"the connection to {self.url} broke: {error or type(error).__name__}")
         return read_answer(answer, method, path)
 
@@ -177,14 +200,19 @@ class Connection:
             self.wait(answer, pause, until)
         raise AssertionError("pauses do not end")
 
-    def change(self, path: str, body: bytes, stands: collections.abc.Callable[[], str | None]) -> Made:
+    def change(self, path: str, body: bytes, stands: collections.abc.Callable[[], str | None], is_once: bool = False) -> Made:
         """Makes a call that changes something. Where no answer comes `stands` is asked, which says what the office would have answered if
-        the change stands, and nothing if it does not: only then is the call made once more."""
+        the change stands, and nothing if it does not: only then is the call made once more. With `is_once` it is made once more only if no office
+        has seen it, since a person may have ended by then what it has done."""
         until, is_doubted = time.monotonic() + self.target.patience, False
         for pause in pauses():
-            answer = self.send("POST", path, body)
+            try:
+                answer = self.send("POST", path, body)
+            except Refusal as refusal:
+                refusal.is_doubted = is_doubted
+                raise
             if isinstance(answer, str):
-                return Made(answer, is_doubted)
+                return Made(answer, False)
             is_doubted = is_doubted or answer.doubt is Doubt.may_be_made
             self.wait(answer, pause, until)
             there = stands()
@@ -192,14 +220,17 @@ class Connection:
                 time.sleep(SETTLING)
                 there = stands()
             if there is not None:
-                return Made(there, True)
+                return Made(there, not is_doubted)
+            if is_once and is_doubted:
+                raise Unclear(answer.why)
         raise AssertionError("pauses do not end")
 
     def wait(self, missing: Missing, pause: float, until: float) -> None:
         """Waits before the next try, or gives up."""
+        pause = max(pause, missing.pause)
         if time.monotonic() + pause > until:
             raise NotReached(f"gave up after {self.target.patience:.0f} s: {missing.why}")
-        time.sleep(max(pause, missing.pause))
+        time.sleep(pause)
 
 
 def waiting_time(answer: httpx.Response) -> float:
@@ -221,6 +252,8 @@ def read_answer(answer: httpx.Response, method: str, path: str) -> str | Missing
     """What the office said, or that it said nothing."""
     text, status = answer.text, answer.status_code
     if status == 200:
+        if answer.headers.get("Content-Type", "").startswith("text/html"):
+            raise Trouble(f"{method} {path}: answered with a page, which no office does: is this the address of one?")
         return text
     said = members_of(text)
     if "refused" in said:

@@ -24,13 +24,15 @@ import pathlib
 import typing
 import zoneinfo
 
-from companions import connection, sheets, values
+from companions import sheets, values
 
 COLUMNS = ("seq", "moment", "tag", "event")
 HEADER = ",".join(COLUMNS).encode()
 MARK = b"\xef\xbb\xbf"
 # no row that the office takes is as long; of a longer one so much is sent
 LONGEST_ROW = 1_000
+# what has to be the same bytes in every encoding that a mapping names, as lines and fields are told apart by them
+PLAIN = '\r\n,;\t"0'
 
 
 @dataclasses.dataclass(frozen=True)
@@ -69,6 +71,8 @@ def pieces(rows: collections.abc.Iterable[Row]) -> collections.abc.Iterator[Piec
     held: list[Row] = []
     size = 0
     for row in rows:
+        if len(row.text) > LONGEST_ROW:
+            row = Row(row.line, row.text[:LONGEST_ROW])
         if held and (len(held) == values.MAX_FILE_ROWS or size + len(row.text) + 1 > room):
             yield Piece(held)
             held, size = [], 0
@@ -88,7 +92,7 @@ class Lines:
         for block in blocks:
             for text in block.splitlines():
                 if text:
-                    yield Row(self.line, text[:LONGEST_ROW])
+                    yield Row(self.line, text)
                 self.line += 1
 
 
@@ -119,11 +123,11 @@ class Moments:
 
 def read_moments(path: pathlib.Path | None, members: object) -> Moments:
     if not isinstance(members, dict) or set(members) - {"format", "zone"} or not all(isinstance(it, str) for it in members.values()):
-        raise connection.Trouble(f"{path}: [moments] has format and zone, and nothing else")
+        raise sheets.Wrong(f"{path}: [moments] has format and zone, and nothing else")
     try:
         return Moments(members.get("format"), zoneinfo.ZoneInfo(members.get("zone", "UTC")))
     except (zoneinfo.ZoneInfoNotFoundError, ValueError, OSError) as error:
-        raise connection.Trouble(f"{path}: {members.get('zone')!r} is not the name of a time zone") from error
+        raise sheets.Wrong(f"{path}: {members.get('zone')!r} is not the name of a time zone") from error
 
 
 @dataclasses.dataclass(frozen=True)
@@ -142,10 +146,12 @@ class Columns:
         encoding, unit_at = self.reader.mapping.encoding, places.get("unit")
         for row in lines:
             fields = [it.strip() for it in split(row.text.decode(encoding, "surrogateescape"), self.delimiter)]
+            if not any(fields):
+                continue
             if len(fields) != self.width:
                 # so the office says FieldCount
                 yield Row(row.line, b"-")
-            elif unit_at is None or fields[unit_at] == self.reader.unit:
+            elif unit_at is None or self.reader.mapping.meant("unit", fields[unit_at]) == self.reader.unit:
                 texts = map(quoted, self.reader.texts(fields, places))
                 yield Row(row.line, ",".join(texts).encode("utf-8", "surrogateescape"))
 
@@ -156,6 +162,8 @@ class Reader:
     def __init__(self, unit: str, path: pathlib.Path | None = None) -> None:
         self.unit = unit
         self.mapping = sheets.read_mapping(path, (*COLUMNS, "unit"), ("moments",))
+        if PLAIN.encode(self.mapping.encoding) != PLAIN.encode():
+            raise sheets.Wrong(f"{path}: events are not read in {self.mapping.encoding}: save them as UTF-8")
         moments = read_moments(path, self.mapping.more.get("moments", {}))
         self.moment = functools.lru_cache(maxsize=4_096)(moments.text)
 
@@ -176,7 +184,10 @@ class Reader:
         delimiter = self.mapping.delimiter or sheets.delimiter_of(decoded)
         names = [" ".join(it.split()) for it in split(decoded, delimiter)]
         places = {it: names.index(self.mapping.header(it)) for it in (*COLUMNS, "unit") if self.mapping.header(it) in names}
-        lacking = [self.mapping.header(it) for it in COLUMNS if it not in places]
+        twice = [it for it in places if names.count(self.mapping.header(it)) > 1]
+        if twice:
+            raise BadHeader(f"the column {self.mapping.header(twice[0])!r} stands twice")
+        lacking = [self.mapping.header(it) for it in (*COLUMNS, *(set(self.mapping.columns) & {"unit"})) if it not in places]
         if lacking:
             raise BadHeader(f"there is no column {', '.join(map(repr, lacking))}; the columns are {', '.join(names)}")
         return Columns(self, delimiter, len(names), places)
@@ -184,8 +195,7 @@ class Reader:
     def texts(self, fields: list[str], places: dict[str, int]) -> collections.abc.Iterator[str]:
         """What the office is sent of a line."""
         for column in COLUMNS:
-            text = fields[places[column]]
-            text = self.mapping.values.get(column, {}).get(text, text)
+            text = self.mapping.meant(column, fields[places[column]])
             yield self.moment(text) if column == "moment" else text
 
 

@@ -18,6 +18,7 @@ from companions import calls, connection, events, options, tally, values
 
 DONE, BAD = "done", "bad"
 LONGEST_PAUSE = 60.0
+Mark = tuple[int, int, int]
 
 
 class Bad(Exception):
@@ -122,31 +123,36 @@ class Feeding:
     def import_spool(self, folder: pathlib.Path, names: collections.abc.Iterable[str]) -> None:
         """Imports files of a folder in this order. One that is done goes to the folder `done`, a bad one to `bad`, with what the office said."""
         for name in names:
-            path = folder / name
+            path, bad = folder / name, None
+            before = mark_of(path)
             try:
                 self.import_file(path)
             except Bad as error:
-                self.count.refused.append(f"refused: {name}: {error}")
-                if not self.count.is_dry:
-                    set_aside(path, str(error))
+                bad = error
+            after = mark_of(path)
+            if after not in (None, before):
+                # what has come since was not read
+                click.echo(f"{name} was written meanwhile, and stays in the folder", err=True)
+                continue
+            if bad is not None:
+                self.count.refused.append(f"refused: {name}: {bad}")
+            if after is None or self.count.is_dry:
+                continue
+            if bad is not None:
+                set_aside(path, str(bad))
             else:
-                if not self.count.is_dry and path.exists():
-                    path.rename(place_in(folder / DONE, name))
+                path.rename(place_in(folder / DONE, name))
 
     def follow_spool(self, folder: pathlib.Path) -> typing.NoReturn:
-        """Imports what is there and what comes, for ever. A file is taken once its size has not changed between two looks."""
-        seen: dict[str, tuple[int, int]] = {}
+        """Imports what is there and what comes, for ever. A file is taken once it has not changed between two looks."""
+        seen: dict[str, Mark | None] = {}
         while True:
-            sizes = {it: size_of(folder / it) for it in names_in(folder)}
+            marks = {it: mark_of(folder / it) for it in names_in(folder)}
             # in their order: what comes after one that still grows waits
-            ready = []
-            for name in sorted(sizes):
-                if seen.get(name) != sizes[name]:
-                    break
-                ready.append(name)
-            self.import_spool(folder, ready)
+            ready = itertools.takewhile(lambda name: seen.get(name) == marks[name], sorted(marks))
+            self.import_spool(folder, list(ready))
             self.count.show_refused()
-            seen = sizes
+            seen = marks
             time.sleep(self.every)
 
     # ---- a file that grows
@@ -154,7 +160,12 @@ class Feeding:
     def follow_file(self, path: pathlib.Path) -> typing.NoReturn:
         """Imports the lines of a file as they come, and those of the file that takes its name. Raises Bad at the first bad one."""
         while True:
-            with path.open("rb") as opened_file:
+            try:
+                opened_file = path.open("rb")
+            except FileNotFoundError:
+                time.sleep(self.every)
+                continue
+            with opened_file:
                 growing, columns = Growing(path, opened_file), None
                 while not growing.has_ended:
                     rows = growing.new_rows()
@@ -172,24 +183,27 @@ class Feeding:
 
 
 class Growing:
-    """A file to which lines are added. It has ended once another file has its name, or it was cut off."""
+    """A file to which lines are added. It has ended once another file has its name, or it was cut off, and from one look to the next nothing came."""
 
     def __init__(self, path: pathlib.Path, opened_file: typing.BinaryIO) -> None:
         self.path, self.opened_file = path, opened_file
-        self.numbers, self.rest, self.has_ended = events.Lines(), b"", False
+        self.numbers, self.rest, self.was_replaced, self.has_ended = events.Lines(), b"", False, False
 
     def new_rows(self) -> collections.abc.Iterator[events.Row]:
         """The rows of the whole lines that have come since; at the end of the file also of one without a line feed."""
-        self.has_ended = self.is_replaced()
         yield from self.numbers.rows(self.whole_lines())
 
     def whole_lines(self) -> collections.abc.Iterator[bytes]:
+        is_replaced, begin = self.is_replaced(), self.opened_file.tell()
         for line in events.chunks_of(self.opened_file):
             self.rest += line
             if self.rest.endswith(b"\n"):
                 # the rest is taken before the line is given away, so that it is never given twice
                 line, self.rest = self.rest, b""
                 yield line
+        # who had the file open may have written to it after it lost its name
+        self.has_ended = is_replaced and self.was_replaced and self.opened_file.tell() == begin
+        self.was_replaced = is_replaced
         if self.has_ended and self.rest:
             line, self.rest = self.rest, b""
             yield line
@@ -207,12 +221,13 @@ def names_in(folder: pathlib.Path) -> list[str]:
     return sorted(it.name for it in folder.glob("*.csv") if it.is_file() and not it.name.startswith("."))
 
 
-def size_of(path: pathlib.Path) -> tuple[int, int]:
+def mark_of(path: pathlib.Path) -> Mark | None:
+    """What changes with a file; None if there is none."""
     try:
         found = path.stat()
     except FileNotFoundError:
-        return -1, -1
-    return found.st_size, found.st_mtime_ns
+        return None
+    return found.st_ino, found.st_size, found.st_mtime_ns
 
 
 def place_in(folder: pathlib.Path, name: str) -> pathlib.Path:
@@ -256,11 +271,12 @@ def command(
     DIR is a spool folder: its files *.csv are imported in the order of their names. A file that is done goes to DIR/done. A bad one goes to DIR/bad,
     and beside it NAME.txt has the line, the cause and the office's answer; mend it and put it back. Let the control system write under a name that
     begins with a dot, and rename the file once it is whole. FILE is a single file; with --follow it may grow, and be replaced by one of its name.
-    A bad line of it ends the command.
+    A bad line of it ends the command. A file that was replaced while no command ran is imported by its new name.
 
-    The files have the columns seq, moment, tag and event, also among others, and as the mapping names them. They are sent in pieces of at most
-    10,000 rows and 1 MiB. Where the office says MomentAhead, the rest waits until its clock has passed the moment. No state is kept: what was
-    imported the office knows, and counts as repeated. So the command may be killed at any moment. The caller is an Operator of the unit.
+    The files have the columns seq, moment, tag and event, also among others, and as the mapping names them; each event is one line. They are sent in
+    pieces of at most 10,000 rows and 1 MiB. Where the office says MomentAhead, the rest waits until its clock has passed the moment. No state is
+    kept: what was imported the office knows, and counts as repeated. So the command may be killed at any moment. The caller is an Operator of the
+    unit.
 
     A mapping, for files of a system's own:
 
@@ -274,7 +290,7 @@ def command(
         format = "%d.%m.%Y %H:%M:%S"
         zone = "Europe/Berlin"        # otherwise UTC
 
-    Status: 0 done, 1 refused or set aside, 2 the command line is wrong, 3 the office cannot be reached.
+    Status: 0 done, 1 refused or set aside, 2 the mapping or the command line is wrong, 3 the office cannot be reached.
     """
     if follow and dry_run:
         raise click.UsageError("--dry-run does not go with --follow")
@@ -292,6 +308,8 @@ def command(
                 feeding.import_file(source)
         except Bad as error:
             count.refused.append(f"refused: {source.name}: {error}")
+        except OSError as error:
+            raise connection.Trouble(f"{error.filename or source}: {error.strerror}") from error
         except connection.Refusal as refusal:
             if refusal.name == "UnitFull":
                 raise connection.Trouble(f"{unit} is full, and takes no new events: {refusal.line}; see office successor") from refusal

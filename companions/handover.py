@@ -8,7 +8,7 @@ import typing
 
 import click
 
-from companions import backups, calls, charts, connection, lists, options, pages, values
+from companions import backups, calls, changes, charts, connection, lists, options, pages, values
 
 WEEK = datetime.timedelta(days=7)
 HOURS = click.IntRange(1, values.MAX_FLOOD_PERIODS * values.FLOOD_PERIOD // 3_600)
@@ -61,9 +61,10 @@ class Page:
 
 
 def shift_before(at: datetime.datetime, hours: int) -> tuple[datetime.datetime, datetime.datetime]:
-    """The shift that ends now, in full ten minutes of the clock."""
-    until = at - datetime.timedelta(seconds=values.seconds_at(at) % values.FLOOD_PERIOD)
-    return until - datetime.timedelta(hours=hours), until
+    """The shift that ends now, in full ten minutes of the clock; none begins before the first moment of all."""
+    period = datetime.timedelta(seconds=values.FLOOD_PERIOD)
+    until = max(at - (at - values.EPOCH) % period, values.EPOCH + period)
+    return max(until - datetime.timedelta(hours=hours), values.EPOCH), until
 
 
 def by_urgency(standing: collections.abc.Iterable[lists.Standing]) -> list[lists.Standing]:
@@ -72,6 +73,8 @@ def by_urgency(standing: collections.abc.Iterable[lists.Standing]) -> list[lists
 
 
 def name_of(change: calls.Change) -> str:
+    if changes.is_note(change):
+        return f"note of office successor on {change.tag}: the command was stopped, and takes it back when it is typed again"
     if isinstance(change.content, int):
         return f"limit of {change.tag}: {change.content} s"
     if isinstance(change.content, values.Record):
@@ -144,5 +147,8 @@ def command(
         if not meant:
             raise connection.Trouble("you hold a role in no unit")
         page = page_of(office, meant, hours, books)
-    pages.write(text_of(page, form), out)
+    try:
+        pages.write(text_of(page, form), out)
+    except OSError as error:
+        raise connection.Trouble(f"{out}: {error.strerror}") from error
     return 0

@@ -3,6 +3,7 @@
 import dataclasses
 import datetime
 import functools
+import itertools
 import pathlib
 import re
 import typing
@@ -38,17 +39,22 @@ def read_people(path: pathlib.Path, mapping: sheets.Mapping) -> list[Wish]:
     """The roles that a sheet wants: each line has a person, units and roles, and maybe an end."""
     sheet = sheets.read_sheet(path, mapping, COLUMNS[:3], COLUMNS[3:])
     found: list[Wish] = []
+    lines: dict[tuple[str, str, str], int] = {}
     for row in sheet.rows:
-        person, units, roles = row.texts["person"], words_in(row.texts["units"]), words_in(sheet.meant(row, "role"))
+        person, units, roles = sheet.meant(row, "person"), words_in(sheet.meant(row, "units")), words_in(sheet.meant(row, "role"))
         end = end_of(sheet, row)
         if not values.PERSON.fullmatch(person):
-            sheet.blame(row.line, "person", f"{person!r} is not a person's name: 1 to 32 of a to z, 0 to 9, '.' and '-'")
+            sheet.blame(row.line, "person", f"{sheets.shown(person)} is not a person's name: 1 to 32 of a to z, 0 to 9, '.' and '-'")
         for unit in [it for it in units if not values.UNIT.fullmatch(it)] or ([""] if not units else []):
-            sheet.blame(row.line, "units", f"{unit!r} is not a unit's code: 1 to 8 of A to Z and 0 to 9")
+            sheet.blame(row.line, "units", f"{sheets.shown(unit)} is not a unit's code: 1 to 8 of A to Z and 0 to 9")
         for role in [it for it in roles if it not in values.Role.__members__] or ([""] if not roles else []):
-            sheet.blame(row.line, "role", f"{role!r} is none of {', '.join(values.Role.__members__)}")
+            sheet.blame(row.line, "role", f"{sheets.shown(role)} is none of {', '.join(values.Role.__members__)}")
         if end is not None and "Steward" in roles:
             sheet.blame(row.line, "end", "the role of a steward has no end")
+        for unit, role in itertools.product(units, roles):
+            before = lines.setdefault((person, unit, role), row.line)
+            if before != row.line:
+                sheet.blame(row.line, "role", f"{person} is {role} in {unit} on line {before}, too")
         if not sheet.faults:
             found += [Wish(f"line {row.line}: ", unit, person, values.Role[role], end) for unit in units for role in roles]
     sheet.check()
@@ -56,7 +62,7 @@ def read_people(path: pathlib.Path, mapping: sheets.Mapping) -> list[Wish]:
 
 
 def end_of(sheet: sheets.Sheet, row: sheets.Row) -> datetime.datetime | None:
-    text = row.texts.get("end", "")
+    text = sheet.meant(row, "end") if "end" in row.texts else ""
     try:
         return values.moment_of(text) if text else None
     except ValueError as error:
@@ -106,6 +112,8 @@ def command(
         if person is not None:
             meant, until = units or stewarded(office), options.moment_of(end)
             wishes = [Wish("", unit, person, values.Role[role], until) for unit in meant for role in roles]
+            if not meant:
+                click.echo("you are a steward of no unit")
         for it in tally.over(wishes, "grants"):
             count.make(it.words(), functools.partial(office.grant, it.unit, it.person, it.role, it.end))
     return count.status()

@@ -43,6 +43,10 @@ class Shelf:
     person: str
     words: str
 
+    @property
+    def is_one_shot(self) -> bool:
+        return self.kind == "one-shot"
+
 
 @dataclasses.dataclass(frozen=True)
 class Flood:

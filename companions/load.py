@@ -10,7 +10,7 @@ import typing
 
 import click
 
-from companions import alarms, backups, calls, lists, options, sheets, tally, values
+from companions import alarms, backups, calls, changes, lists, options, sheets, tally, values
 
 LIMIT, RECORD = values.Kind.limit, values.Kind.record
 
@@ -84,13 +84,15 @@ def differences(office: calls.Office, unit: str, wanted: alarms.Wanted, there: l
 
 @dataclasses.dataclass(frozen=True)
 class Loading:
-    """A load: where to, by whom, what it counts, whether what was rejected is proposed anew, and with which limit an alarm is registered."""
+    """A load: where to, by whom, what it counts, whether what was rejected is proposed anew, whether nothing is that was proposed or changed there
+    before, and with which limit an alarm is registered."""
 
     office: calls.Office
     unit: str
     person: str
     count: tally.Tally
     is_again: bool = False
+    is_once: bool = False
     first_limit: collections.abc.Callable[[alarms.Wanted], int] = operator.attrgetter("limit")
 
     def place(self, wanted: alarms.Wanted) -> str:
@@ -99,22 +101,25 @@ class Loading:
 
 
 class Waiting:
-    """What was proposed before: what still waits, and what was rejected on the revision in force."""
+    """What was proposed before: what still waits, what was rejected on the revision in force, and all else."""
 
-    def __init__(self, changes: collections.abc.Iterable[calls.Change]) -> None:
+    def __init__(self, there: collections.abc.Iterable[calls.Change]) -> None:
         self.proposed: dict[tuple[values.Kind, str | None], list[calls.Change]] = collections.defaultdict(list)
-        self.rejected: dict[tuple[values.Kind, str | None], list[calls.Change]] = collections.defaultdict(list)
-        for it in changes:
-            if it.state is values.State.Proposed:
-                self.proposed[it.thing].append(it)
-            elif it.state is values.State.Rejected:
-                self.rejected[it.thing].append(it)
+        self.decided: dict[tuple[values.Kind, str | None], list[calls.Change]] = collections.defaultdict(list)
+        for it in there:
+            if not changes.is_note(it):
+                (self.proposed if it.state is values.State.Proposed else self.decided)[it.thing].append(it)
 
     def same(self, proposal: Proposal) -> calls.Change | None:
         return alike(self.proposed[proposal.kind, proposal.wanted.tag], proposal)
 
     def refused(self, proposal: Proposal) -> calls.Change | None:
-        return alike(self.rejected[proposal.kind, proposal.wanted.tag], proposal)
+        found = self.decided[proposal.kind, proposal.wanted.tag]
+        return alike((it for it in found if it.state is values.State.Rejected), proposal)
+
+    def was_decided(self, proposal: Proposal) -> bool:
+        """Whether the same was put into force, rejected or taken back before, on whatever revision."""
+        return any(it.content == proposal.content for it in self.decided[proposal.kind, proposal.wanted.tag])
 
     def others(self, proposal: Proposal) -> list[calls.Change]:
         return [it for it in self.proposed[proposal.kind, proposal.wanted.tag] if it.content != proposal.content]
@@ -143,7 +148,10 @@ def propose(loading: Loading, proposals: collections.abc.Sequence[Proposal], wai
             count.there += 1
         elif refused is not None and not loading.is_again:
             count.there += 1
-            click.echo(f"{place}{it.words()}: {refused.decider} has rejected it (change {refused.number}); --again proposes it anew")
+            anew = "" if loading.is_once else "; --again proposes it anew"
+            click.echo(f"{place}{it.words()}: {refused.decider} has rejected it (change {refused.number}){anew}")
+        elif loading.is_once and (it.base or waiting.was_decided(it)):
+            count.there += 1
         else:
             for other in waiting.others(it):
                 what = f"the {it.kind.name} of {it.wanted.tag}"
@@ -163,19 +171,24 @@ def take_back_twice(loading: Loading, waiting: Waiting) -> None:
         loading.count.make(words, functools.partial(loading.office.decide, loading.unit, it.number, values.State.Withdrawn))
 
 
-def load(loading: Loading, wanted: collections.abc.Sequence[alarms.Wanted], latching: dict[str, bool]) -> None:
-    """Registers what is missing and proposes what differs. What was done before is seen in the office itself."""
+def load(
+    loading: Loading, wanted: collections.abc.Sequence[alarms.Wanted], latching: dict[str, bool], there: collections.abc.Iterable[calls.Change]
+) -> None:
+    """Registers what is missing and proposes what differs. What was done before is seen in the office itself; its changes are `there`."""
     office, unit, count = loading.office, loading.unit, loading.count
-    there = {it.tag for it in office.alarms(unit)}
+    registered = {it.tag for it in office.alarms(unit)}
     for it in tally.over(wanted, "registers"):
-        if it.tag in there:
+        if it.tag in registered:
             count.there += 1
         else:
             limit = loading.first_limit(it)
             words = f"{loading.place(it)}register {it.tag}, limit {limit} s" + (", latching" if it.latching else "")
             count.make(words, functools.partial(office.register, unit, it.tag, it.latching, limit))
     found = compare(office, unit, wanted, latching)
-    waiting = Waiting(tally.over(office.changes(unit), "looks at the changes"))
+    if count.is_dry:
+        first = ((it, loading.first_limit(it)) for it in found.missing)
+        found.differing.extend(Proposal(it, LIMIT, 0, it.limit, limit) for it, limit in first if limit != it.limit)
+    waiting = Waiting(there)
     in_force = sum(it.record is not None for it in wanted) - sum(it.kind is RECORD for it in found.differing)
     count.there += in_force
     take_back_twice(loading, waiting)
@@ -242,5 +255,6 @@ def command(
             click.echo(f"{tally.plural(len(wanted), 'alarm')} in {file.name}: {said}")
             return 0 if found.is_equal() else 1
         with tally.Tally(dry_run) as count:
-            load(Loading(office, unit, office.caller()[0], count, again), wanted, latching)
+            there = tally.over(office.changes(unit), "looks at the changes")
+            load(Loading(office, unit, office.caller()[0], count, again), wanted, latching, there)
         return count.status()

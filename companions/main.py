@@ -49,7 +49,7 @@ def run(words: collections.abc.Sequence[str] | None = None) -> int:
         return 2
     except (click.exceptions.Abort, KeyboardInterrupt):
         return 130
-    except sheets.Faulty as error:
+    except sheets.Wrong as error:
         click.echo(str(error), err=True)
         return 2
     except connection.Trouble as error:

@@ -6,7 +6,7 @@ import pathlib
 import tomllib
 import typing
 
-from companions import connection, values
+from companions import sheets, values
 
 CELLS = ("P1", "P2", "P3", "P4", "N")
 
@@ -37,10 +37,10 @@ def read_matrix(path: pathlib.Path) -> Matrix:
     try:
         members = tomllib.loads(path.read_text(encoding="utf-8"))
     except (OSError, ValueError) as error:
-        raise connection.Trouble(f"{path}: {error}") from error
+        raise sheets.Wrong(f"{path}: {error}") from error
     wrong = fault_of(members)
     if wrong:
-        raise connection.Trouble(f"{path}: {wrong}")
+        raise sheets.Wrong(f"{path}: {wrong}")
     return of_members(members)
 
 

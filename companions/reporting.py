@@ -17,7 +17,8 @@ from companions import audit, backups, changes, charts, connection, floods, list
 
 LOG = pathlib.Path("/var/log/shelfoffice")
 MOST = 10
-# by which names the office may refuse a call, beside MomentBehind, which it may any
+# by which names the office may refuse a call, beside MomentBehind, which it may any; first of calls that only read
+READS_409 = {"alarms": ("AlarmUnknown",), "record": ("AlarmUnknown", "RecordUnknown"), "changes": ("ChangeUnknown",), "floods": ("RangeNotAligned",)}
 NAMES_403 = {"open": ("NotAdministrator",)}
 NAMES_409 = {
     "open": ("UnitTaken",),
@@ -131,7 +132,7 @@ class Report:
 
 
 def month_of(text: str) -> Month:
-    if not re.fullmatch(r"20\d\d-(0[1-9]|1[0-2])", text):
+    if not re.fullmatch(r"20[0-9]{2}-(0[1-9]|1[0-2])", text):
         raise click.BadParameter(f"{text!r} is not a month as 2026-03")
     begin = datetime.datetime.strptime(text, "%Y-%m").replace(tzinfo=datetime.timezone.utc)
     return Month(begin, begin + datetime.timedelta(days=calendar.monthrange(begin.year, begin.month)[1]))
@@ -153,17 +154,31 @@ def decisions(books: backups.Books, unit: str, month: Month) -> list[Decision]:
     return found
 
 
-def names_of(call: audit.Call, past: shelvings.UnitPast | None) -> str:
-    """By which names the call may have been refused. What the backup rules out is left out."""
+def was_known(call: audit.Call, past: shelvings.UnitPast, registered: datetime.datetime | None) -> bool | None:
+    """Whether the unit had the alarm of a call, which was registered at a moment that the log has, if at any; None if nothing says it."""
+    if registered is not None:
+        return registered <= call.moment
+    if call.tag() in past.alarms:
+        return True
+    return False if call.tag() and call.moment <= past.moment else None
+
+
+def names_of(call: audit.Call, past: shelvings.UnitPast | None, registered: datetime.datetime | None) -> str:
+    """By which names the call may have been refused. What log and backup rule out is left out."""
     kind = call.kind()
     if call.status == 403:
         return " or ".join(NAMES_403.get(kind, ("NotGranted", "RoleLacking")))
-    names = list(NAMES_409.get(kind, ()))
-    if past is not None and call.tag() and call.tag() not in past.alarms and "AlarmUnknown" in names:
-        return "AlarmUnknown"
-    limit, seconds = (past.limit(call.tag(), call.moment) if past else None), call.body.get("seconds")
-    if past is not None and call.tag() in past.alarms:
-        names = [it for it in names if it != "AlarmUnknown"]
+    names = list((NAMES_409 if call.method == "POST" else READS_409).get(kind, ()))
+    if kind == "alarms" and call.method != "POST" and not call.tag():
+        # the list of all alarms
+        names = []
+    if past is not None and "AlarmUnknown" in names:
+        is_known = was_known(call, past, registered)
+        if is_known is False:
+            return "AlarmUnknown"
+        names = [it for it in names if it != "AlarmUnknown" or is_known is None]
+    limit = past.limit(call.tag(), call.moment) if past is not None and call.moment <= past.moment else None
+    seconds = call.body.get("seconds")
     if limit is not None and isinstance(seconds, int) and "ShelvingTimeOutOfRange" in names:
         return "ShelvingTimeOutOfRange" if seconds > limit else " or ".join(it for it in names if it != "ShelvingTimeOutOfRange")
     return " or ".join(names) or "MomentBehind"
@@ -171,9 +186,14 @@ def names_of(call: audit.Call, past: shelvings.UnitPast | None) -> str:
 
 def refusals(log: audit.Log, month: Month, units: collections.abc.Collection[str], past: dict[str, shelvings.UnitPast]) -> list[Refused]:
     counts: collections.Counter[tuple[str, str, str, str]] = collections.Counter()
+    registered: dict[tuple[str, str], datetime.datetime] = {}
+    for it in log.calls:
+        if it.is_done and it.kind() == "alarms":
+            registered[it.unit(), str(it.body.get("tag"))] = it.moment
     for it in log.calls:
         if it.is_refused and month.has(it.moment) and (not it.unit() or it.unit() in units):
-            counts[names_of(it, past.get(it.unit())), it.kind(), it.person, it.unit()] += 1
+            names = names_of(it, past.get(it.unit()), registered.get((it.unit(), it.tag())))
+            counts[names, it.kind() if it.method == "POST" else f"read {it.kind()}", it.person, it.unit()] += 1
     return [Refused(*key, count) for key, count in sorted(counts.items(), key=lambda it: (-it[1], it[0]))]
 
 
@@ -217,10 +237,10 @@ def notes(log: audit.Log, month: Month, books: ByUnit, units: collections.abc.It
         elif books[unit].moment() < month.until:
             found.append(f"The backup of {unit} is of {pages.minute(books[unit].moment())}: what came later in the month is not in it.")
     if log.damaged:
-        found.append(f"{log.damaged:,} lines of the log are damaged, and left out.")
+        found.append(f"Lines of the log that are damaged, and left out: {log.damaged:,}.")
     doubtful = [it for it in log.calls if it.is_open and month.has(it.moment)]
     if doubtful:
-        found.append(f"{len(doubtful):,} calls had no answer (502, 503 or 504), so the log does not know if they were made; they are left out.")
+        found.append(f"Calls without an answer (502, 503 or 504), of which the log does not say if they were made, and left out: {len(doubtful):,}.")
     return found
 
 

@@ -11,7 +11,6 @@
     Latched = "yes"
 """
 
-import codecs
 import collections.abc
 import csv
 import dataclasses
@@ -25,6 +24,7 @@ from companions import connection
 DELIMITERS = ",;\t"
 TIMES = {"seconds": 1, "minutes": 60, "hours": 3_600, "days": 86_400}
 MOST_FAULTS = 200
+MOST_SHOWN = 60
 
 
 @dataclasses.dataclass(frozen=True)
@@ -41,7 +41,11 @@ class Fault:
         return f"line {self.line}{where}: {self.words}"
 
 
-class Faulty(connection.Trouble):
+class Wrong(connection.Trouble):
+    """A file that the command line names is not as it has to be."""
+
+
+class Faulty(Wrong):
     """A file that is not taken, with all that is wrong in it."""
 
     def __init__(self, path: pathlib.Path, faults: collections.abc.Sequence[Fault]) -> None:
@@ -64,7 +68,11 @@ class Mapping:
     more: dict[str, typing.Any] = dataclasses.field(default_factory=dict)
 
     def header(self, column: str) -> str:
-        return self.columns.get(column, column)
+        return " ".join(self.columns.get(column, column).split())
+
+    def meant(self, column: str, text: str) -> str:
+        """What a text of a column means."""
+        return self.values.get(column, {}).get(text, text)
 
 
 @dataclasses.dataclass(frozen=True)
@@ -95,7 +103,7 @@ class Sheet:
 
     def meant(self, row: Row, column: str) -> str:
         """What stands in a column, by the words that the mapping knows."""
-        return self.mapping.values.get(column, {}).get(row.texts[column], row.texts[column])
+        return self.mapping.meant(column, row.texts[column])
 
     def number(self, row: Row, column: str, most: int, factor: int = 1) -> int | None:
         """A whole number from 1 to a limit; None and a fault if there is none."""
@@ -103,17 +111,22 @@ class Sheet:
         if text.isascii() and text.isdigit() and len(text) < 12 and 1 <= int(text) * factor <= most:
             return int(text) * factor
         counted = f", counted in {factor} seconds" if factor > 1 else ""
-        self.blame(row.line, column, f"{text!r} is not a whole number from 1 to {most // factor}{counted}")
+        self.blame(row.line, column, f"{shown(text)} is not a whole number from 1 to {most // factor}{counted}")
         return None
 
     def seconds(self, row: Row, column: str, most: int) -> int | None:
         return self.number(row, column, most, self.mapping.seconds.get(column, 1))
 
 
+def shown(text: str) -> str:
+    """A text of a file in quotes, or how it begins."""
+    return repr(text if len(text) <= MOST_SHOWN else text[:MOST_SHOWN] + "..")
+
+
 def texts_in(path: pathlib.Path, members: typing.Any, key: str) -> dict[str, str]:
     found = members.get(key, {})
     if not isinstance(found, dict) or not all(isinstance(it, str) for it in found.values()):
-        raise connection.Trouble(f"{path}: [{key}] has texts as its values")
+        raise Wrong(f"{path}: [{key}] has texts as its values")
     return dict(found)
 
 
@@ -127,23 +140,23 @@ def read_mapping(path: pathlib.Path | None, columns: Names, more: Names = ()) ->
     try:
         members = tomllib.loads(path.read_text(encoding="utf-8"))
     except (OSError, ValueError) as error:
-        raise connection.Trouble(f"{path}: {error}") from error
+        raise Wrong(f"{path}: {error}") from error
     unknown = set(members) - {"encoding", "delimiter", "columns", "seconds", "values", *more}
     named, seconds = texts_in(path, members, "columns"), texts_in(path, members, "seconds")
     meant = members.get("values", {})
     unknown |= (set(named) | set(seconds) | set(meant if isinstance(meant, dict) else {"values"})) - set(columns)
     if unknown:
-        raise connection.Trouble(f"{path}: {', '.join(sorted(unknown))} is not known here; the columns are {', '.join(columns)}")
+        raise Wrong(f"{path}: {', '.join(sorted(unknown))} is not known here; the columns are {', '.join(columns)}")
     encoding, delimiter = members.get("encoding", "utf-8"), members.get("delimiter")
     try:
-        codecs.lookup(encoding)
-    except (LookupError, TypeError) as error:
-        raise connection.Trouble(f"{path}: {encoding!r} is not the name of an encoding") from error
-    if delimiter is not None and (not isinstance(delimiter, str) or len(delimiter) != 1):
-        raise connection.Trouble(f"{path}: the delimiter is one character")
+        "a".encode(encoding).decode(encoding)
+    except (LookupError, TypeError, ValueError) as error:
+        raise Wrong(f"{path}: {encoding!r} is not the name of an encoding") from error
+    if delimiter is not None and (not isinstance(delimiter, str) or len(delimiter) != 1 or delimiter in '"\r\n'):
+        raise Wrong(f"{path}: the delimiter is one character")
     wrong = [it for it in seconds.values() if it not in TIMES]
     if wrong:
-        raise connection.Trouble(f"{path}: {wrong[0]!r} is none of {', '.join(TIMES)}")
+        raise Wrong(f"{path}: {wrong[0]!r} is none of {', '.join(TIMES)}")
     meanings = {it: texts_in(path, meant, it) for it in meant}
     rest = {it: members[it] for it in more if it in members}
     return Mapping(encoding, delimiter, named, {key: TIMES[it] for key, it in seconds.items()}, meanings, rest)
@@ -158,6 +171,8 @@ def decode(path: pathlib.Path, raw: bytes, encoding: str) -> str:
         byte = error.start - (raw.rfind(b"\n", 0, error.start) + 1) + 1
         words = f"byte {byte} of the line is not {encoding} ({error.reason}): save the file as UTF-8, or name its encoding in the mapping"
         raise Faulty(path, [Fault(line, 0, "", words)]) from error
+    except UnicodeError as error:
+        raise Faulty(path, [Fault(1, 0, "", f"the file is not {encoding}: {error}")]) from error
     return text.removeprefix("\ufeff")
 
 
@@ -167,8 +182,14 @@ def delimiter_of(header: str) -> str:
     return max(DELIMITERS, key=bare.count)
 
 
-def first_line(text: str) -> str:
-    return next((it for it in text.splitlines() if it.strip()), "")
+def first_record(text: str) -> str:
+    """The first line that is not blank, with those on which its fields in quotes go on."""
+    found = ""
+    for line in io.StringIO(text, newline=""):
+        found += line
+        if found.strip() and found.count('"') % 2 == 0:
+            break
+    return found
 
 
 def lines_of(path: pathlib.Path, text: str, delimiter: str) -> list[tuple[int, list[str]]]:
@@ -190,7 +211,7 @@ def read_sheet(path: pathlib.Path, mapping: Mapping, needed: collections.abc.Seq
         text = decode(path, path.read_bytes(), mapping.encoding)
     except OSError as error:
         raise connection.Trouble(f"{path}: {error.strerror}") from error
-    lines = lines_of(path, text, mapping.delimiter or delimiter_of(first_line(text)))
+    lines = lines_of(path, text, mapping.delimiter or delimiter_of(first_record(text)))
     if not lines:
         raise Faulty(path, [Fault(1, 0, "", "the file is empty: its first line names the columns")])
     (line, header), *rest = lines

@@ -6,7 +6,7 @@ import collections.abc
 import dataclasses
 import datetime
 
-from companions import audit, backups, calls, floods, values
+from companions import audit, backups, calls, floods, pages, values
 
 ONE_SHOT, TIMED = "one-shot", "timed"
 
@@ -81,7 +81,10 @@ class Begun:
         over = self.call.moment + datetime.timedelta(seconds=limit) if limit is not None else None
         if returned is not None and (over is None or returned < over):
             return returned, "returned to normal"
-        return (over, "its limit was over") if over is not None else (None, "not known: its limit was changed since")
+        if over is None:
+            return None, "not known: its limit was changed since"
+        # what has returned to normal after the backup is not in it
+        return (over, "its limit was over") if over <= past.moment else (None, f"not known: the backup is of {pages.minute(past.moment)}")
 
 
 def all_shelvings(log: audit.Log, past: collections.abc.Mapping[str, UnitPast]) -> list[Shelving]:
@@ -94,13 +97,21 @@ def all_shelvings(log: audit.Log, past: collections.abc.Mapping[str, UnitPast]) 
             over, why = begun.by_itself(past.get(key[0]))
             found.append(begun.ended(over, why) if over is not None and over <= moment else begun.ended(moment, how))
 
+    def end_unseen(key: tuple[str, str]) -> None:
+        begun = running.pop(key)
+        found.append(begun.ended(*begun.by_itself(past.get(key[0]))))
+
     for call in log.calls:
         key = call.unit(), call.tag()
         if not call.is_done or call.method != "POST":
             continue
         if call.kind() in ("timed-shelve", "one-shot-shelve"):
+            begun = Begun(call)
+            if key in running and running[key].kind() == begun.kind():
+                # the office would have refused it, had the one before not been over
+                end_unseen(key)
             end(key, call.moment, f"replaced by {call.person}")
-            running[key] = Begun(call)
+            running[key] = begun
         elif call.kind() == "unshelve":
             end(key, call.moment, f"ended by {call.person}")
     last = log.end()

@@ -57,9 +57,10 @@ class Tally:
 
     def __exit__(self, kind: type[BaseException] | None, error: BaseException | None, trace: types.TracebackType | None) -> None:
         self.show_refused()
-        if kind is not None and issubclass(kind, (KeyboardInterrupt, connection.Trouble, connection.Refusal)):
+        is_stopped = kind is not None and issubclass(kind, (KeyboardInterrupt, click.Abort, connection.Trouble, connection.Refusal))
+        if is_stopped:
             click.echo("stopped before the end: what is done stands; type the same line again, and it goes on")
-        if kind is None or issubclass(kind, (KeyboardInterrupt, connection.Trouble, connection.Refusal)):
+        if kind is None or is_stopped:
             words = "would be done" if self.is_dry else "done"
             click.echo(f"{words} {self.done:,}, there already {self.there:,}, refused {len(self.refused):,}")
 

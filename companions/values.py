@@ -21,8 +21,7 @@ MAX_FLOOD_PERIODS = 1_008
 TAG = re.compile(r"[A-Z0-9._-]{1,24}")
 UNIT = re.compile(r"[A-Z0-9]{1,8}")
 PERSON = re.compile(r"[a-z0-9.-]{1,32}")
-MOMENT = re.compile(r"\d{4}-\d\d-\d\dT\d\d:\d\d:\d\dZ")
-REMARK = re.compile(r"[ -~]{1,120}")
+MOMENT = re.compile(r"[0-9]{4}-[0-9]{2}-[0-9]{2}T[0-9]{2}:[0-9]{2}:[0-9]{2}Z")
 EPOCH = datetime.datetime(2000, 1, 1, tzinfo=datetime.timezone.utc)
 END_OF_TIME = datetime.datetime(2100, 1, 1, tzinfo=datetime.timezone.utc)
 

@@ -54,6 +54,21 @@ def test_a_unit_is_opened_and_its_matrix_proposed_once(plant: Plant) -> None:
     assert plant.rows("SELECT count(*) FROM changes") == [(1,)]
     said = typed("open", "U3", "--steward", "ste", "--matrix", file, *plant.words("eve"))
     assert said.returncode == 1 and "NotAdministrator" in said.stdout
+    file.write_text(TOML.replace("300", "60"))
+    assert opens("U1", "eve") == ["U1 has another matrix in force, which an Approver has put there", "done 0, there already 2, refused 0"]
+    assert plant.rows("SELECT count(*) FROM changes") == [(1,)]
+
+
+def test_a_matrix_that_was_rejected_is_proposed_again_only_if_asked(plant: Plant) -> None:
+    file = plant.folder / "matrix.toml"
+    file.write_text(TOML)
+    line = ("open", "U1", "--steward", "ste", "--matrix", file, *plant.words("eve"))
+    assert typed(*line).returncode == 0 and plant.call("amy", AT, "/units/U1/changes/1/reject", {}) == {"done": True}
+    said = typed(*line).stdout.splitlines()
+    words = "the matrix of U1: amy has rejected it (change 1); --again proposes it anew"
+    assert said == [words, "done 0, there already 2, refused 0"] and states(plant) == [3]
+    assert typed(*line, "--again").stdout == "done 1, there already 1, refused 0\n" and states(plant) == [3, 1]
+    assert typed(*line, "--again").stdout == "done 0, there already 2, refused 0\n"
 
 
 @pytest.mark.parametrize("text, words", [
@@ -69,7 +84,7 @@ def test_a_bad_matrix_is_refused_before_anything_is_sent(plant: Plant, text: str
     file = plant.folder / "matrix.toml"
     file.write_text(text)
     said = typed("open", "U2", "--steward", "ste", "--matrix", file, *plant.words("root"))
-    assert said.returncode == 1 and words in said.stdout, said.stdout
+    assert said.returncode == 2 and words in said.stdout, said.stdout
 
 
 def test_all_that_are_shown_are_approved(plant: Plant) -> None:
@@ -129,6 +144,14 @@ def test_all_that_are_shown_are_rejected(plant: Plant) -> None:
     propose(plant, RECORD)
     status, said = approve(plant, "--all", "approve", person="ann")
     assert status == 1 and "RoleLacking" in said and states(plant) == [3, 3, 3, 1]
+
+
+def test_who_leaves_at_a_question_sees_what_was_done(plant: Plant) -> None:
+    propose(plant, RECORD)
+    propose(plant, RECORD | {"tag": "B"})
+    # the end of what is typed stands for a person who presses Control and C
+    status, said = approve(plant, stdin="o\na\n")
+    assert status == 130 and said.splitlines()[-1] == "done 1, there already 0, refused 0" and states(plant) == [2, 1], said
 
 
 def test_nobody_decides_their_own(plant: Plant) -> None:

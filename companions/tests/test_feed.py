@@ -16,7 +16,7 @@ import hypothesis
 import pytest
 from hypothesis import strategies
 
-from companions import calls, connection, events, feed, tally
+from companions import calls, connection, events, feed, sheets, tally
 from companions.tests import plant as plants
 from companions.tests.plant import Plant, office as typed
 
@@ -67,7 +67,34 @@ def test_a_mapping_names_columns_words_and_moments(tmp_path: pathlib.Path) -> No
     ]
 
 
+def test_a_wide_file_is_read_to_the_end_of_its_lines() -> None:
+    names = ",".join(f"column {number}" for number in range(200))
+    text = f"seq,{names},moment,tag,event\n1,{'x' * 5_000}{',' * 200}2026-03-01T08:00:01Z,A,ACT\n"
+    assert rows_of(text) == [(2, b"1,2026-03-01T08:00:01Z,A,ACT")]
+
+
+def test_lines_of_nothing_but_delimiters_are_left_out() -> None:
+    assert rows_of("seq;moment;tag;event\n1;2026-03-01T08:00:01Z;A;ACT\n;;;\n ; ; ; \n") == [(2, b"1,2026-03-01T08:00:01Z,A,ACT")]
+
+
+def test_which_unit_a_line_is_of_is_never_guessed(tmp_path: pathlib.Path) -> None:
+    path = tmp_path / "map.toml"
+    path.write_text('[columns]\nunit = "Area"\n[values.unit]\n"Boiler house" = "U1"\n')
+    reader, line_of_a = events.Reader("U1", path), "2026-03-01T08:00:01Z,A,ACT"
+    assert rows_of(f"Area,seq,moment,tag,event\nBoiler house,1,{line_of_a}\nU2,2,{line_of_a}\nU1,3,{line_of_a}\n", reader) == [
+        (2, f"1,{line_of_a}".encode()), (4, f"3,{line_of_a}".encode())]
+    # the mapping names a column that says the unit, and the file has none
+    for head, words in (HEADER, "there is no column 'Area'"), ("Area,Area,seq,moment,tag,event\n", "the column 'Area' stands twice"):
+        with pytest.raises(events.BadHeader) as found:
+            rows_of(head, reader)
+        assert words in str(found.value)
+    with pytest.raises(events.BadHeader):
+        rows_of("seq,moment,tag,tag,event\n")
+
+
 @pytest.mark.parametrize("text, words", [
+    ("encoding = 'utf-16'", "events are not read in utf-16: save them as UTF-8"),
+    ("encoding = 'cp037'", "events are not read in cp037: save them as UTF-8"),
     ("[moments]\nform = 'x'", "[moments] has format and zone"),
     ("[moments]\nzone = 'Europe/Atlantis'", "'Europe/Atlantis' is not the name of a time zone"),
     ("[columns]\nnumber = 'x'", "number is not known here"),
@@ -75,21 +102,21 @@ def test_a_mapping_names_columns_words_and_moments(tmp_path: pathlib.Path) -> No
 def test_a_bad_mapping_is_refused(tmp_path: pathlib.Path, text: str, words: str) -> None:
     path = tmp_path / "map.toml"
     path.write_text(text)
-    with pytest.raises(connection.Trouble) as found:
+    with pytest.raises(sheets.Wrong) as found:
         events.Reader("U1", path)
     assert words in str(found.value)
 
 
 @hypothesis.given(
-    strategies.lists(strategies.sampled_from([b"x", b"y" * 64, b"z" * 900, b"w" * 5000]).map(lambda it: it), max_size=40),
+    strategies.lists(strategies.sampled_from([b"x", b"y" * 64, b"z" * 900, b"w" * 5000]), max_size=40),
     strategies.integers(1, 30),
 )
 def test_pieces_keep_all_rows_in_their_order(texts: list[bytes], times: int) -> None:
     raw = b"".join(it + b"\n" for it in texts * times * 40)
     rows = list(events.Lines().rows(raw.splitlines(keepends=True)))
     pieces = list(events.pieces(rows))
-    assert [it for piece in pieces for it in piece.rows] == rows
-    assert [it.text for it in rows] == [it[:1000] for it in texts * times * 40]
+    assert [(it.line, it.text) for piece in pieces for it in piece.rows] == [(it.line, it.text[:1000]) for it in rows]
+    assert [it.text for it in rows] == texts * times * 40
     for piece in pieces:
         assert 1 <= len(piece.rows) <= 10_000 and len(piece.body()) <= 1_048_576
     for piece, after in zip(pieces, pieces[1:]):
@@ -185,6 +212,14 @@ def test_what_is_refused_as_a_whole_stays_in_the_spool(plant: Plant, person: str
     assert said.returncode == 1 and words in said.stdout and names(folder) == ["a.csv"]
 
 
+def test_a_folder_in_which_nothing_can_be_moved_is_named(plant: Plant) -> None:
+    folder = spool(plant, a=HEADER + line(1))
+    (folder / "done").write_text("")
+    said = typed("feed", folder, "--unit", "U1", *plant.words("ann"))
+    assert said.returncode == 1 and "spool/done: File exists" in said.stdout and "done 1, there already 0, refused 0" in said.stdout
+    assert "a.csv" in names(folder)
+
+
 def test_it_waits_until_the_offices_clock_has_passed_a_moment(plant: Plant) -> None:
     ahead = time.strftime("%Y-%m-%dT%H:%M:%SZ", time.gmtime(time.time() + 3))
     folder = spool(plant, a=HEADER + line(1) + f"2,{ahead},A,RTN\n")
@@ -204,6 +239,47 @@ def test_it_waits_where_the_clock_is_behind_the_units_last_change(plant: Plant) 
     assert said.returncode == 1 and "MomentBehind" in said.stdout and names(folder) == ["a.csv"]
     said = typed("feed", folder, "--unit", "U1", "--every", "0.2", *plant.words("ann", "now"))
     assert said.returncode == 0 and names(folder) == ["done/a.csv"]
+
+
+@pytest.mark.parametrize("first", [HEADER + line(1), HEADER + "x\n"])
+@pytest.mark.parametrize("how", ["replaced", "longer"])
+def test_what_is_written_while_a_file_is_read_is_not_moved_away_unread(plant: Plant, first: str, how: str) -> None:
+    folder = spool(plant, a=first)
+    send = connection.Connection.send
+
+    def send_and_write(link: connection.Connection, method: str, path: str, body: bytes | None) -> str | connection.Missing:
+        if method == "POST":
+            if how == "replaced":
+                (folder / ".a.csv").write_text(HEADER + line(2))
+                (folder / ".a.csv").rename(folder / "a.csv")
+            else:
+                (folder / "a.csv").write_text(HEADER + line(1) + line(2))
+        return send(link, method, path, body)
+
+    with pytest.MonkeyPatch.context() as patch:
+        patch.setattr(connection.Connection, "send", send_and_write)
+        said = typed("feed", folder, "--unit", "U1", *plant.words("ann"))
+    assert said.returncode == 0 and "a.csv was written meanwhile, and stays in the folder" in said.stdout and names(folder) == ["a.csv"]
+    assert typed("feed", folder, "--unit", "U1", *plant.words("ann")).returncode == 0
+    assert names(folder) == ["done/a.csv"] and (2,) in plant.rows("SELECT seq FROM events")
+
+
+def test_who_still_writes_to_a_file_that_lost_its_name_is_read(tmp_path: pathlib.Path) -> None:
+    path = tmp_path / "events.csv"
+    with path.open("w") as written, path.open("rb") as opened_file:
+        growing = feed.Growing(path, opened_file)
+
+        def look(text: str) -> tuple[list[bytes], bool]:
+            written.write(text)
+            written.flush()
+            return [it.text for it in growing.new_rows()], growing.has_ended
+
+        assert look("one\ntw") == ([b"one"], False)
+        path.rename(tmp_path / "events.1")
+        path.write_text("new\n")
+        assert look("o\nthree\n") == ([b"two", b"three"], False)
+        assert look("four\nfi") == ([b"four"], False)
+        assert look("") == ([b"fi"], True)
 
 
 @contextlib.contextmanager

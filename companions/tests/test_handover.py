@@ -5,6 +5,7 @@ import json
 
 import pytest
 
+from companions import handover as handover_command, values
 from companions.tests.plant import Plant, office as typed
 
 AT = "2026-03-01T10:00:00Z"
@@ -125,6 +126,17 @@ def test_the_page_as_json(plant: Plant) -> None:
     assert unit["floods"] == [{"start": "2026-03-01T04:00:00Z", "until": "2026-03-01T04:10:00Z", "total": 12, "peak": 12}]
 
 
+@pytest.mark.parametrize("at, begin, until", [
+    ("2026-03-01T10:09:59Z", "2026-03-01T02:00:00Z", "2026-03-01T10:00:00Z"),
+    ("2026-03-01T10:00:00Z", "2026-03-01T02:00:00Z", "2026-03-01T10:00:00Z"),
+    ("2000-01-01T03:05:00Z", "2000-01-01T00:00:00Z", "2000-01-01T03:00:00Z"),
+    ("2000-01-01T00:00:00Z", "2000-01-01T00:00:00Z", "2000-01-01T00:10:00Z"),
+    ("2099-12-31T23:59:59Z", "2099-12-31T15:50:00Z", "2099-12-31T23:50:00Z"),
+])
+def test_the_shift_before_a_moment(at: str, begin: str, until: str) -> None:
+    assert tuple(map(values.text_of, handover_command.shift_before(values.moment_of(at), 8))) == (begin, until)
+
+
 def test_a_unit_without_a_role_is_refused(plant: Plant) -> None:
     said = typed("handover", "--units", "U9", *plant.words("vic", AT))
     assert said.returncode == 1 and "NotGranted" in said.stdout
@@ -142,6 +154,11 @@ def test_what_is_no_backup_is_refused(plant: Plant, content: bytes, words: str) 
     (folder / "plant.db").write_bytes(content)
     said = typed("handover", "--backup", folder, *plant.words("vic", AT))
     assert said.returncode == 1 and words in said.stdout, said.stdout
+
+
+def test_a_page_that_cannot_be_written_is_said(plant: Plant) -> None:
+    said = typed("handover", "--out", plant.folder / "none/page.txt", *plant.words("vic", AT))
+    assert said.returncode == 1 and "none/page.txt: No such file or directory" in said.stdout
 
 
 def test_the_running_file_is_refused(plant: Plant) -> None:

@@ -53,13 +53,14 @@ def killing(plant: Plant, seed: int) -> collections.abc.Iterator[Killer]:
         found.join()
 
 
-def type_until_done(plant: Plant, seed: int, person: str, *words: object, most: int = 8) -> int:
-    """Types a command, kills it after a random while, and types it again; how many times it was killed."""
+def type_until_done(plant: Plant, seed: int, person: str, *words: object, most: int = 8, once_killed: collections.abc.Sequence[str] = ()) -> int:
+    """Types a command, kills it after a random while, and types it again, with these words besides; how many times it was killed."""
     chosen, kills = random.Random(seed), 0
     plain = {key: it for key, it in os.environ.items() if not key.startswith("OFFICE_")}
     line = plants.command(*words, "--url", plant.url, "--patience", "30")
     while True:
-        process = subprocess.Popen(line, stdout=subprocess.PIPE, stderr=subprocess.STDOUT, text=True, env=plain | plants.signed_on(person))
+        typed_now = [*line, *once_killed] if kills else line
+        process = subprocess.Popen(typed_now, stdout=subprocess.PIPE, stderr=subprocess.STDOUT, text=True, env=plain | plants.signed_on(person))
         try:
             said, _ = process.communicate(timeout=0.6 + 1.5 * chosen.random() if kills < most else None)
         except subprocess.TimeoutExpired:
@@ -130,8 +131,10 @@ def test_feed(two: tuple[Plant, Plant], tmp_path: pathlib.Path) -> None:
 
 
 def test_successor(two: tuple[Plant, Plant], tmp_path: pathlib.Path) -> None:
-    at = "2026-03-01T08:00:00Z"
+    at, now = "2026-03-01T08:00:00Z", time.strftime("%Y-%m-%dT%H:%M:%SZ", time.gmtime())
     for plant in two:
+        for role in "Maintainer", "Operator":
+            assert plant.call("ste", at, "/units/U1/grants", {"person": "eve", "role": role}) == {"done": True}
         plant.register("U1", *(f"A-{it:03}" for it in range(60)))
         for number in range(1, 41):
             record: dict[str, object] = {"cause": "x", "consequence": "y", "action": "z", "severity": 2, "response": 60}
@@ -139,24 +142,28 @@ def test_successor(two: tuple[Plant, Plant], tmp_path: pathlib.Path) -> None:
             assert plant.call("eve", at, "/units/U1/changes", {"base": 0, "tag": f"A-{number:03}", **kinds}) == {"number": number}
             assert plant.call("amy", at, f"/units/U1/changes/{number}/approve", {}) == {"done": True}
         for number in range(41, 50):
-            now = time.strftime("%Y-%m-%dT%H:%M:%SZ", time.gmtime())
             shelf = {"seconds": 3_600, "words": f"test {number}"}
             assert plant.call("ann", now, f"/units/U1/alarms/A-{number:03}/timed-shelve", shelf) == {"done": True}
             assert plant.call("moe", now, f"/units/U1/alarms/A-{number + 9:03}/remove-from-service", {"words": "valve"}) == {"done": True}
         plant.copy("backup")
-    kills = 0
+    # of the one at which the command was killed a person is asked, and of roles
+    meant = [*(f"A-{number:03}" for number in range(41, 59)), *plants.ROLES]
+    again, kills = [word for it in meant for word in ("--again", it)], 0
     with killing(two[1], 4) as killer:
-        for seed, person in enumerate(("root", "ste", "eve", "moe", "ann")):
+        for seed, person in enumerate(("root", "ste", "eve")):
             for plant in two:
                 words = ("successor", "--from", plant.folder / "backup", "--unit", "U1", "--to", "U2")
                 if plant is two[0]:
                     clean(plant, person, *words)
                 else:
-                    kills += type_until_done(plant, seed, person, *words, most=3)
+                    kills += type_until_done(plant, seed, person, *words, most=3, once_killed=again)
+    # and of the one of which no answer came
+    clean(two[1], "eve", *words, *again)
     assert kills and all(killer.kills.values())
     assert two[1].dump(*MOMENTS) == two[0].dump(*MOMENTS)
     assert two[1].rows("SELECT count(*) FROM shelves WHERE unit = 'U2'") == [(9,)]
-    assert two[1].rows("SELECT count(*) FROM changes WHERE unit = 'U2'") == [(41,)]
+    # the matrix, forty proposals, and a note of each that was carried over
+    assert two[1].rows("SELECT count(*), sum(state_no = 4) FROM changes WHERE unit = 'U2'") == [(59, 18)]
 
 
 def test_2000_alarms_with_records_in_two_minutes(tmp_path: pathlib.Path) -> None:

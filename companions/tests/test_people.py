@@ -65,7 +65,10 @@ def test_a_sheet_of_people(plant: Plant) -> None:
     assert [it[:2] for it in roles(plant, "bob") + roles(plant, "zoe")] == [
         ("U1", "Operator"), ("U2", "Operator"), ("U2", "Viewer"), ("U2", "Engineer")]
     before = plant.dump()
-    sheet.write_text("person,units,role,end\nBob,U1,Operator,\nzoe,u2,Boss,tomorrow\nyve,,,\nxan,U1,Steward,2026-04-01T00:00:00Z\n")
+    sheet.write_text(
+        "person,units,role,end\nBob,U1,Operator,\nzoe,u2,Boss,tomorrow\nyve,,,\nxan,U1,Steward,2026-04-01T00:00:00Z\n"
+        "zoe,U1 U2,Viewer,\nzoe,U2,Viewer Operator,2026-04-01T00:00:00Z\n"
+    )
     status, said = run(plant, "join", "--file", sheet)
     assert status == 2 and [it.partition("people.csv: ")[2] for it in said] == [
         "line 2, column 1 (person): 'Bob' is not a person's name: 1 to 32 of a to z, 0 to 9, '.' and '-'",
@@ -75,6 +78,7 @@ def test_a_sheet_of_people(plant: Plant) -> None:
         "line 4, column 2 (units): '' is not a unit's code: 1 to 8 of A to Z and 0 to 9",
         "line 4, column 3 (role): '' is none of Viewer, Operator, Maintainer, Engineer, Approver, Steward",
         "line 5, column 4 (end): the role of a steward has no end",
+        "line 7, column 3 (role): zoe is Viewer in U2 on line 6, too",
     ]
     assert plant.dump() == before
 
@@ -102,6 +106,20 @@ def test_the_only_steward_of_a_unit_is_named_first_and_stays(plant: Plant) -> No
     # a backup that is older than what happened since: the office itself refuses
     status, said = run(plant, "leave", "sue", "--backup", backup, "--units", "U1", person="sue")
     assert status == 1 and said[0] == 'refused: sue, Steward in U1: LastSteward: {"name":"LastSteward","refused":16}', said
+
+
+def test_a_mapping_names_units_and_people(plant: Plant) -> None:
+    sheet, mapping = plant.folder / "people.csv", plant.folder / "map.toml"
+    sheet.write_text("who,units,role\nBob B.,Boiler house,fitter\n")
+    mapping.write_text('[columns]\nperson = "who"\n[values.person]\n"Bob B." = "bob"\n[values.units]\n"Boiler house" = "U1"\n'
+                       '[values.role]\nfitter = "Maintainer"\n')
+    assert run(plant, "join", "--file", sheet, "--map", mapping) == (0, ["done 1, there already 0, refused 0"])
+    assert roles(plant, "bob") == [("U1", "Maintainer", None)]
+
+
+def test_who_is_a_steward_of_no_unit_is_told(plant: Plant) -> None:
+    for words in ("leave", "bob"), ("join", "bob", "--units", "all", "--role", "Viewer"):
+        assert run(plant, *words, person="eve") == (0, ["you are a steward of no unit", "done 0, there already 0, refused 0"])
 
 
 @pytest.mark.parametrize("words", [

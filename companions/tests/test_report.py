@@ -133,13 +133,84 @@ def test_refusals_have_the_names_that_are_possible(plant: Plant) -> None:
     ]
 
 
+def small_plant(office: Plant) -> Logged:
+    """A unit with two alarms."""
+    logged = Logged(office)
+    opening: dict[str, object] = {"steward": "ste", **plants.MATRIX}
+    logged.call("root", "2026-02-01T08:00:00Z", "/units/U1", opening)
+    for person, role in plants.ROLES.items():
+        logged.call("ste", "2026-02-01T08:00:00Z", "/units/U1/grants", {"person": person, "role": role})
+    for tag in "A", "B":
+        logged.call("eve", "2026-02-01T08:00:00Z", "/units/U1/alarms", {"tag": tag, "latching": False, "max": 7200})
+    return logged
+
+
+def reported(logged: Logged, name: str, backup: str | None = None) -> list[list[str]]:
+    """A table of the report of March, over a backup of this name or of now."""
+    folder = logged.plant.folder
+    (folder / "log").mkdir(exist_ok=True)
+    (folder / "log/audit.log").write_text("\n".join(logged.lines) + "\n")
+    return table(report(logged.plant, "--backup", folder / backup if backup else logged.plant.copy("now")), name)
+
+
+def test_refused_reads_have_names_of_their_own(office: Plant) -> None:
+    logged = small_plant(office)
+    for path in "alarms/Z", "alarms/A/record", "alarms/Z/record", "changes/1", "floods/2026-03-01T09:00:01Z/2026-03-01T10:00:00Z":
+        assert "refused" in logged.call("vic", "2026-03-02T08:00:00Z", f"/units/U1/{path}")
+    # a backup is as old as the last change in it
+    logged.call("eve", "2026-03-03T08:00:00Z", "/units/U1/alarms", {"tag": "C", "latching": False, "max": 7200})
+    for path in "alarms", "shelves":
+        assert logged.call("vic", "2026-03-02T08:00:00Z", f"/units/U1/{path}")["name"] == "MomentBehind"
+    assert sorted(reported(logged, "refusals")) == [
+        ["AlarmUnknown", "read alarms", "vic", "U1", "1"],
+        ["AlarmUnknown", "read record", "vic", "U1", "1"],
+        ["ChangeUnknown", "read changes", "vic", "U1", "1"],
+        ["MomentBehind", "read alarms", "vic", "U1", "1"],
+        ["MomentBehind", "read shelves", "vic", "U1", "1"],
+        ["RangeNotAligned", "read floods", "vic", "U1", "1"],
+        ["RecordUnknown", "read record", "vic", "U1", "1"],
+    ]
+
+
+def test_an_alarm_is_unknown_until_it_is_registered_and_perhaps_after_the_backup(office: Plant) -> None:
+    logged = small_plant(office)
+    shelve = "/units/U1/alarms/NEW/one-shot-shelve"
+    assert logged.call("ann", "2026-03-02T08:00:00Z", shelve, {"words": "too early"})["name"] == "AlarmUnknown"
+    office.copy("20260302T090000Z")
+    assert logged.call("ann", "2026-03-02T10:00:00Z", shelve, {"words": "too early"})["name"] == "AlarmUnknown"
+    # by the first backup nobody knows when the alarm came
+    both = "AlarmUnknown or ConditionAlreadyShelved or ShelfQuota"
+    assert sorted(reported(logged, "refusals", "20260302T090000Z")) == [
+        ["AlarmUnknown", "one-shot-shelve", "ann", "U1", "1"], [both, "one-shot-shelve", "ann", "U1", "1"]]
+    logged.call("eve", "2026-03-02T11:00:00Z", "/units/U1/alarms", {"tag": "NEW", "latching": False, "max": 7200})
+    for _ in range(2):
+        logged.call("ann", "2026-03-02T12:00:00Z", shelve, {"words": "in time"})
+    assert sorted(reported(logged, "refusals")) == [
+        ["AlarmUnknown", "one-shot-shelve", "ann", "U1", "2"], ["ConditionAlreadyShelved or ShelfQuota", "one-shot-shelve", "ann", "U1", "1"]]
+
+
+def test_how_a_one_shot_ended_after_the_backup_is_not_guessed(office: Plant) -> None:
+    logged = small_plant(office)
+    logged.call("ann", "2026-03-02T08:00:00Z", "/units/U1/alarms/A/one-shot-shelve", {"words": "first"})
+    office.copy("20260302T090000Z")
+    rows = "seq,moment,tag,event\n1,2026-03-02T09:10:00Z,A,ACT\n2,2026-03-02T09:20:00Z,A,RTN\n"
+    assert logged.call("ann", "2026-03-02T09:30:00Z", "/units/U1/imports", rows)["new"] == 2
+    logged.call("ann", "2026-03-02T09:40:00Z", "/units/U1/alarms/A/one-shot-shelve", {"words": "second"})
+    logged.call("ann", "2026-03-02T09:50:00Z", "/units/U1/alarms/A/unshelve", {})
+    words = [["A", "2026-03-02T09:20:00Z", "returned to normal"], ["A", "2026-03-02T09:50:00Z", "ended by ann"]]
+    assert [[it[1], it[4], it[6]] for it in reported(logged, "shelvings")] == words
+    words[0][1:] = ["", "not known: the backup is of 2026-03-02 09:00"]
+    assert [[it[1], it[4], it[6]] for it in reported(logged, "shelvings", "20260302T090000Z")] == words
+
+
 def test_the_page_says_what_it_cannot(plant: Plant) -> None:
     out = report(plant, "--backup", plant.folder / "backup")
     page = Tags((out / "report-2026-03.html").read_text())
     text = " ".join(it.strip() for it in page.texts)
     assert page.open_tags == []
     for words in (
-        "The log has no answers", "1 lines of the log are damaged", "1 calls had no answer (502, 503 or 504)", "is <ended>",
+        "The log has no answers", "Lines of the log that are damaged, and left out: 1.", "and left out: 1. ", "is <ended>",
+        "Calls without an answer (502, 503 or 504), of which the log does not say if they were made, and left out: 1.",
         "The log goes from 2026-02-01 08:00 to 2026-04-01 08:00", "2026-03: U1",
     ):
         assert words in text, words
@@ -174,6 +245,21 @@ def test_a_log_that_is_no_log(tmp_path: pathlib.Path) -> None:
     broken = tmp_path / "audit.log-1.gz"
     broken.write_bytes(gzip.compress(path.read_bytes() * 100)[:-12])
     assert audit.read_log([broken]).damaged > 0
+
+
+def test_a_body_that_is_nested_too_deep_is_a_call_without_members(tmp_path: pathlib.Path) -> None:
+    path, body = tmp_path / "audit.log", '{"a":' + "[" * 100_000
+    members = {"moment": "2026-03-01T08:00:00Z", "person": "ann", "request": "POST /units/U1/alarms", "status": 400, "office": "400"}
+    path.write_text(json.dumps(members | {"body": body}) + "\n" + "[" * 100_000 + "\n")
+    found = audit.read_log([path])
+    assert found.damaged == 1 and [(it.person, it.status, it.body) for it in found.calls] == [("ann", 400, {})]
+
+
+def test_calls_of_one_second_stay_in_the_order_of_the_files(tmp_path: pathlib.Path) -> None:
+    for name, person in ("audit.log", "late"), ("audit.log-20260301", "early"), ("audit.log-20260302", "later"):
+        members = {"moment": "2026-03-01T08:00:00Z", "person": person, "request": "POST /units/U1/alarms", "status": 200, "office": "200", "body": ""}
+        (tmp_path / name).write_text(json.dumps(members) + "\n")
+    assert [it.person for it in audit.read_log([tmp_path]).calls] == ["early", "later", "late"]
 
 
 def test_floods_are_those_that_the_office_finds(office: Plant) -> None:

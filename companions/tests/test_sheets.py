@@ -9,7 +9,7 @@ import hypothesis
 import pytest
 from hypothesis import strategies
 
-from companions import alarms, connection, sheets, values
+from companions import alarms, sheets, values
 
 HEADER = "tag,latching,limit,cause,consequence,action,severity,response\n"
 GOOD = 'PT-101,no,3600,seal leak,loss of pressure,close XV-7,2,120\n'
@@ -74,6 +74,14 @@ def test_a_mark_semicolons_and_line_ends_in_quotes() -> None:
     assert (first.line, second.line) == (2, 6)
 
 
+@pytest.mark.parametrize("delimiter", [",", ";", "\t"])
+def test_a_header_may_have_line_ends_in_quotes(delimiter: str) -> None:
+    names = ['"Longest\nshelf (min)"', "tag", '"latching"', '"note, or; more\r\nof it"']
+    text = delimiter.join(names) + "\n" + delimiter.join(["60", "A", "no", "x"]) + "\n"
+    mapping = sheets.Mapping(columns={"limit": "Longest shelf (min)"}, seconds={"limit": 60})
+    assert [(it.line, it.tag, it.limit) for it in read("\n\n" + text, mapping)] == [(6, "A", 3600)]
+
+
 def test_a_mapping_names_columns_values_times_and_encoding(tmp_path: pathlib.Path) -> None:
     path = tmp_path / "map.toml"
     path.write_text(
@@ -85,19 +93,36 @@ def test_a_mapping_names_columns_values_times_and_encoding(tmp_path: pathlib.Pat
     assert [(it.tag, it.latching, it.limit) for it in read(text, mapping)] == [("A", True, 3600), ("B", False, 60)]
 
 
+def test_a_mapping_gives_every_column_its_meanings(tmp_path: pathlib.Path) -> None:
+    path = tmp_path / "map.toml"
+    path.write_text(
+        '[columns]\nunit = "Area"\ntag = "Tag  name"\n[values.unit]\n"Boiler house" = "U1"\n[values.tag]\n"pt 101" = "PT-101"\n'
+        '[values.cause]\n"-" = "not known"\n[values.severity]\nhigh = "2"\n'
+    )
+    mapping = sheets.read_mapping(path, alarms.COLUMNS)
+    text = "Area,Tag name,latching,limit,cause,consequence,action,severity,response\n" + (
+        "Boiler house,pt 101,no,60,-,loss,close,high,120\nU2,B,no,60,,,,,\nU1,C,no,60,,,,,\n")
+    first, second = read(text, mapping)
+    assert (first.tag, first.record) == ("PT-101", values.Record("not known", "loss", "close", 2, 120)) and second.tag == "C"
+
+
 @pytest.mark.parametrize("text, words", [
     ("[columns]\ncolour = 'x'", "colour is not known here"),
     ("[columns]\ntag = 3", "has texts as its values"),
     ("[seconds]\nlimit = 'weeks'", "'weeks' is none of"),
     ("encoding = 'utf-99'", "'utf-99' is not the name of an encoding"),
+    ("encoding = 'base64'", "'base64' is not the name of an encoding"),
+    ("encoding = 'undefined'", "'undefined' is not the name of an encoding"),
+    ("encoding = 8", "8 is not the name of an encoding"),
     ("delimiter = ';;'", "the delimiter is one character"),
+    ("delimiter = '\"'", "the delimiter is one character"),
     ("tag = 'Tag'", "tag is not known here"),
     ("[columns", "map.toml: "),
 ])
 def test_a_bad_mapping_is_refused(tmp_path: pathlib.Path, text: str, words: str) -> None:
     path = tmp_path / "map.toml"
     path.write_text(text)
-    with pytest.raises(connection.Trouble) as found:
+    with pytest.raises(sheets.Wrong) as found:
         sheets.read_mapping(path, alarms.COLUMNS)
     assert words in str(found.value)
 
@@ -109,6 +134,7 @@ def test_all_faults_are_listed_at_once_by_line_and_column() -> None:
         "PT-101,no,604801,x,,close,6,1.5\n"
         f"B,no,60,{'x' * 121},caf\u00e9,close,1,60\n"
         "C,no,60\n"
+        f"D\0,no,{'9' * 1000},,,,,\n"
     )
     assert faults(text) == [
         "line 3, column 1 (tag): 'pt-101' is not a tag: 1 to 24 of A to Z, 0 to 9, '-', '.' and '_'",
@@ -122,6 +148,8 @@ def test_all_faults_are_listed_at_once_by_line_and_column() -> None:
         "line 6, column 4 (cause): has 121 characters; 120 are the most",
         "line 6, column 5 (consequence): has '\u00e9', which is not a printable character of ASCII",
         "line 7: 3 columns, where the header has 8",
+        "line 8, column 1 (tag): 'D\\x00' is not a tag: 1 to 24 of A to Z, 0 to 9, '-', '.' and '_'",
+        f"line 8, column 3 (limit): '{'9' * 60}..' is not a whole number from 1 to 604800",
     ]
 
 
@@ -129,20 +157,39 @@ def test_all_faults_are_listed_at_once_by_line_and_column() -> None:
     (b"", "line 1: the file is empty: its first line names the columns"),
     (b"\n\n", "line 1: the file is empty: its first line names the columns"),
     (b"tag,latching\nA,no\n", "line 1: there is no column 'limit'; the columns are tag, latching"),
-    (b"tag,limit,latching,TAG\n", "line 1: there is no column"),
     (b"tag,tag,limit,latching\n", "line 1, column 2 (tag): the column 'tag' stands twice"),
     (b"tag,latching,limit,cause\nA,no,60,x\n", "line 1: a record needs all of its columns: there is no 'consequence', "),
     (b"tag,latching,limit\nA,no,60\nB\xff,no,60\n", "line 3: byte 2 of the line is not utf-8 (invalid start byte)"),
     ("tag,latching,limit\n".encode("utf-16"), "line 1: byte 1 of the line is not utf-8"),
     (b'tag,latching,limit\nA,no,60\n"B,no,60\n', "line 3: not a line of comma-separated values: unexpected end of data"),
     (b'tag,latching,limit\nA,no,60\nB,"n"o,60\n', "line 3: not a line of comma-separated values: ',' expected after '\"'"),
+    (b"tag,latching,limit,note\nA,no,60,x\nB,no,60," + b"y" * 200_000, "line 3: not a line of comma-separated values: field larger than field limit"),
 ])
 def test_a_bad_file_is_refused(text: bytes, words: str) -> None:
-    if words.endswith("there is no column"):
-        # another case of letters stands for the column only where no name is the same
-        assert read(text) == []
-    else:
-        assert faults(text)[0].startswith(words)
+    assert faults(text)[0].startswith(words)
+
+
+def test_a_file_of_another_encoding_is_refused() -> None:
+    assert faults(b"tag,latching,limit\n", sheets.Mapping("utf-16"))[0].startswith("line 1: byte 19 of the line is not utf-16 (truncated data)")
+    assert faults(b"xn--zz-,latching,limit\n", sheets.Mapping("idna"))[0].startswith("line 1: the file is not idna")
+
+
+def test_another_case_of_letters_stands_for_a_column_only_where_no_name_is_the_same() -> None:
+    assert [(it.tag, it.limit) for it in read("TAG,tag,Limit,latching\nx,A,60,no\n")] == [("A", 60)]
+    assert faults("TAG,Tag,limit,latching\nA,B,60,no\n") == ["line 1, column 2 (tag): the column 'tag' stands twice"]
+
+
+@pytest.mark.parametrize("text", ["\u0662\u0660\u0662\u0666-03-01T10:00:00Z", "2026-03-01T10:00:60Z", "2026-02-29T10:00:00Z", "1999-12-31T23:59:59Z",
+                                  "2100-01-01T00:00:00Z", "2026-03-01T10:00:00Z\n", "2026-03-01T10:00:00+00:00"])
+def test_what_is_not_a_moment(text: str) -> None:
+    with pytest.raises(ValueError):
+        values.moment_of(text)
+
+
+def test_moments_are_counted_from_the_first_one_of_2000() -> None:
+    for text, seconds in ("2000-01-01T00:00:00Z", 0), ("2026-03-01T10:00:00Z", 825_674_400), ("2099-12-31T23:59:59Z", 3_155_759_999):
+        assert values.seconds_at(values.moment_of(text)) == seconds
+        assert values.text_of(values.moment_at(seconds)) == text
 
 
 def test_a_unit_has_no_more_than_2000_alarms() -> None:

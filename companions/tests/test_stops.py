@@ -5,6 +5,7 @@ import contextlib
 import csv
 import io
 import itertools
+import json
 import pathlib
 import signal
 import subprocess
@@ -14,6 +15,7 @@ import hypothesis
 import pytest
 from hypothesis import strategies
 
+from companions import connection
 from companions.tests import plant as plants
 from companions.tests.plant import Plant, office as typed
 
@@ -34,6 +36,61 @@ def test_a_stopped_command_says_what_it_has_done(office: Plant, how: signal.Sign
     assert process.returncode == 130 and "type the same line again, and it goes on" in said
     # the call on its way may have been made
     assert any(f"done {it:,}, there already 0, refused 0" in said for it in (there, there - 1)), (said, there)
+
+
+def test_a_service_that_is_stopped_has_not_failed(office: Plant) -> None:
+    office.open("U1")
+    spool = office.folder / "spool"
+    spool.mkdir()
+    process = subprocess.Popen(
+        plants.command("feed", spool, "--unit", "U1", "--follow", "--every", "0.1", *office.words("ann")), stdout=subprocess.PIPE, text=True
+    )
+    (spool / "a.csv").write_text("seq,moment,tag,event\n")
+    plants.wait_for("the file", lambda: (spool / "done/a.csv").exists())
+    process.send_signal(signal.SIGTERM)
+    assert "done 0, there already 0, refused 0" in process.communicate()[0]
+    unit = (plants.TOP / "companions/shelfoffice-feed@.service").read_text().splitlines()
+    assert f"SuccessExitStatus={process.returncode}" in unit
+
+
+def test_a_dry_run_sends_nothing_that_changes_anything(office: Plant, monkeypatch: pytest.MonkeyPatch) -> None:
+    office.open("U1")
+    office.register("U1", "A")
+    change = {"kind": "limit", "base": 0, "tag": "A", "max": 60}
+    assert office.call("eve", "2026-03-01T08:00:00Z", "/units/U1/changes", change) == {"number": 1}
+    backup, matrix, alarms, events = office.copy("backup"), office.folder / "m.toml", office.folder / "a.csv", office.folder / "e.csv"
+    matrix.write_text('bands = [300]\ncells = [["P3", "P4"], ["P1", "P2"]]\n')
+    alarms.write_text(HEADER + "A,no,60,x,y,z,2,60\nB,no,60,,,,,\n")
+    events.write_text("seq,moment,tag,event\n1,2026-03-01T09:00:00Z,A,ACT\n")
+    sent: list[tuple[str, str, bytes | None]] = []
+    send = connection.Connection.send
+
+    def noted(link: connection.Connection, method: str, path: str, body: bytes | None) -> str | connection.Missing:
+        sent.append((method, path, body))
+        return send(link, method, path, body)
+
+    monkeypatch.setattr(connection.Connection, "send", noted)
+    lines: list[tuple[str, list[object]]] = [
+        ("root", ["open", "U2", "--steward", "ste", "--matrix", matrix]),
+        ("eve", ["open", "U1", "--steward", "ste", "--matrix", matrix]),
+        ("ste", ["join", "bob", "--units", "all", "--role", "Viewer"]),
+        ("ste", ["leave", "vic"]),
+        ("eve", ["load", alarms, "--unit", "U1"]),
+        ("amy", ["approve", "--unit", "U1", "--all", "approve"]),
+        ("ann", ["feed", events, "--unit", "U1"]),
+        ("root", ["successor", "--from", backup, "--unit", "U1", "--to", "U2"]),
+        ("eve", ["successor", "--from", backup, "--unit", "U1", "--to", "U2"]),
+    ]
+    for person, words in lines:
+        said = typed(*words, "--dry-run", *office.words(person))
+        assert said.returncode == 0 and "would be done " in said.stdout, said.stdout
+    assert sent and {method for method, _, _ in sent} == {"GET"}
+    # in the new unit a steward asks who holds a role by a call that the office refuses in any case
+    office.open("U3")
+    sent.clear()
+    assert typed("successor", "--from", backup, "--unit", "U1", "--to", "U3", "--dry-run", *office.words("ste")).returncode == 0
+    posts = [(path, json.loads(body or b"{}")) for method, path, body in sent if method == "POST"]
+    assert posts and all(path.endswith("/grants") and members["end"] == "2000-01-01T00:00:00Z" for path, members in posts)
 
 
 @pytest.fixture(scope="module")

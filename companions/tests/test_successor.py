@@ -1,6 +1,5 @@
 """`office full` and `office successor` against the program."""
 
-import itertools
 import json
 import random
 import signal
@@ -18,14 +17,21 @@ from companions.tests.plant import MATRIX, Plant, office as typed
 
 AT = "2026-03-01T10:00:00Z"
 LATER = "2026-03-01T10:30:00Z"
-TYPISTS = ("root", "ste", "eve", "moe", "ann")
+TYPISTS = ("root", "ste", "eve")
+EVERYTHING = ("A", "C", "L", "amy", "ann", "con", "eve", "moe", "vic")
 RECORD = {"kind": "record", "base": 0, "cause": "seal leak", "consequence": "loss", "action": "close", "severity": 2, "response": 120}
 
 
 @pytest.fixture
 def plant(office: Plant) -> Plant:
+    return filled(office)
+
+
+def filled(office: Plant) -> Plant:
     """A unit with something of every kind."""
     office.open("U1")
+    for role in "Maintainer", "Operator":
+        office.call("ste", AT, "/units/U1/grants", {"person": "eve", "role": role})
     office.call("ste", AT, "/units/U1/grants", {"person": "con", "role": "Viewer", "end": "2026-04-01T00:00:00Z"})
     office.call("ste", AT, "/units/U1/grants", {"person": "gone", "role": "Viewer", "end": "2026-03-01T10:10:00Z"})
     office.register("U1", "A", "B", "C", "D", moment=AT)
@@ -60,6 +66,22 @@ def of_unit(plant: Plant, unit: str) -> dict[str, list[tuple[object, ...]]]:
     return found
 
 
+def notes_in(plant: Plant, unit: str) -> list[tuple[object, ...]]:
+    """The notes of what was carried over."""
+    text = "SELECT tag, consequence, remedy, state_no FROM changes WHERE unit = '%s' AND cause = 'carried over from U1' ORDER BY number"
+    return plant.rows(text % unit)
+
+
+def decisions(said: list[str]) -> list[str]:
+    return [it.removeprefix("to decide: ") for it in said if it.startswith("to decide: ")]
+
+
+def running(plant: Plant, unit: str, at: str = LATER) -> set[str]:
+    """The alarms of a unit that are shelved or out of service."""
+    rows = str(plant.call("vic", at, f"/units/{unit}/alarms")).splitlines()[1:]
+    return {it.split()[0] for it in rows if it.split()[3].replace("D", "-") != "---"}
+
+
 def test_a_successor_is_as_the_full_unit(plant: Plant) -> None:
     plant.copy("backup")
     before = plant.dump()
@@ -70,11 +92,9 @@ def test_a_successor_is_as_the_full_unit(plant: Plant) -> None:
         counts[person] = next(it for it in said if it.startswith("done"))
     assert counts == {
         "root": "done 1, there already 0, refused 0",
-        "ste": "done 6, there already 2, refused 0",
-        # 25 alarms, the matrix, 4 records, and the 2 limits that were approved
-        "eve": "done 32, there already 1, refused 0",
-        "moe": "done 1, there already 1, refused 0",
-        "ann": "done 2, there already 1, refused 0",
+        "ste": "done 8, there already 2, refused 0",
+        # 25 alarms, the matrix, 4 records, the 2 limits that were approved, 2 shelves, and what is out of service
+        "eve": "done 35, there already 1, refused 0",
     }
     old, new = of_unit(plant, "U1"), of_unit(plant, "U2")
     assert of_unit(plant, "U1") == {key: [it[1:] for it in rows if it[0] == "U1"] for key, rows in before.items() if key != "office"}
@@ -82,15 +102,20 @@ def test_a_successor_is_as_the_full_unit(plant: Plant) -> None:
     assert [it[:2] for it in new["alarms"]] == [it[:2] for it in old["alarms"]]
     limits = {typing.cast(str, it[0]): it[2] for it in new["alarms"]}
     assert (limits["A"], limits["D"], limits["B"], limits["L"]) == (3200, 60, 3600, 7200)
-    assert [it[9:] for it in new["alarms"] if it[8] is not None] == [("moe", "valve")]
+    assert [it[9:] for it in new["alarms"] if it[8] is not None] == [("eve", "valve")]
     # the same ends, words and kinds
     shelves = {typing.cast(str, it[0]): it[1:] for it in old["shelves"]}
     assert [(it[0], it[1], it[5]) for it in new["shelves"]] == [("A", 0, "pump test"), ("C", 1, "wiring")]
     assert new["shelves"][0][3] == shelves["A"][2]
-    changes = plant.rows("SELECT kind_no, tag, max_s, severity, state_no FROM changes WHERE unit = 'U2' ORDER BY number")
+    changes = plant.rows("SELECT kind_no, tag, max_s, severity, state_no FROM changes WHERE unit = 'U2' AND state_no != 4 ORDER BY number")
     assert changes == [
         (2, None, None, None, 1), (3, "A", 5400, None, 1), (1, "A", None, 2, 1), (1, "B", None, 2, 1), (1, "C", None, 1, 1),
         (3, "D", 5400, None, 1), (1, "L", None, 2, 1)]
+    assert notes_in(plant, "U2") == [
+        ("L", "out of service since 2026-03-01T10:00:00Z by moe", "valve", 4),
+        ("A", "shelved since 2026-03-01T10:00:00Z by ann", "pump test", 4),
+        ("C", "shelved since 2026-03-01T10:00:00Z by ann", "wiring", 4),
+    ]
     # once all is approved limits, records and matrix are those of the full unit
     assert typed("approve", "--unit", "U2", "--all", "approve", *plant.words("amy", LATER)).returncode == 0
     for text in (
@@ -108,21 +133,23 @@ def test_it_says_what_is_left_and_does_nothing_twice(plant: Plant) -> None:
     opens = "would: open U2 with the matrix in force, the quota 2000, and ste as its steward"
     assert said[:2] == [opens, "would be done 1, there already 0, refused 0"]
     assert plant.rows("SELECT count(*) FROM units") == [(1,)]
-    assert said[3] == "the others who type this line, in this order: Steward (ste), Engineer (eve), Maintainer (moe), Operator (ann)"
+    others = "Steward (ste), Engineer (eve), an Engineer who is Operator and Maintainer of U2, too"
+    assert said[3] == f"the others who type this line, in this order: {others}"
     for person in TYPISTS:
         status, said = succeed(plant, person)
-    assert [it for it in said if it.startswith("to decide")] == [
-        "to decide: change 8 of U1, limit of B, by eve, waits there: decide it, and propose it anew in U2 if it is wanted",
-        "to decide: A: ann shelved it in U1, until 2026-03-01 11:23; in U2 it is shelved by whoever carries it over",
-        "to decide: C: ann shelved it in U1, its limit begins anew; in U2 it is shelved by whoever carries it over",
-        "to decide: B: stands in U1 since 2026-03-01 09:00; U2 learns of it by its next event",
-        "to decide: C: suppressed by design in U1; U2 learns of it by its next event",
-        "to decide: L: out of service in U1 since 2026-03-01 10:00 by moe; in U2 since now",
-        "to decide: 1 grant of U1 that ended are not granted in U2",
-        "to decide: send the events of the control system to U2 from now on, and take the roles in U1 once nobody needs it",
+    assert decisions(said) == [
+        "change 8 of U1, limit of B, by eve, waits there: decide it, and propose it anew in U2 if it is wanted",
+        "L: out of service in U1 since 2026-03-01 10:00 by moe; in U2 since now",
+        "A: ann shelved it in U1, until 2026-03-01 11:23; in U2 it is shelved by whoever carries it over",
+        "C: ann shelved it in U1, its limit begins anew; in U2 it is shelved by whoever carries it over",
+        "B: stands in U1 since 2026-03-01 09:00; U2 learns of it by its next event",
+        "C: suppressed by design in U1; U2 learns of it by its next event",
+        "1 grant of U1 that ended are not granted in U2",
+        "send the events of the control system to U2 from now on, and take the roles in U1 once nobody needs it",
     ]
+    assert "the others who type this line, in this order: Steward (ste)" in said
     first = plant.dump()
-    for person in TYPISTS[1:]:
+    for person in (*TYPISTS[1:], "moe", "ann"):
         status, said = succeed(plant, person)
         assert status == 0 and next(it for it in said if it.startswith("done")).startswith("done 0, "), said
     assert plant.dump() == first
@@ -142,31 +169,35 @@ class Kill(BaseException):
     """Stands for a kill."""
 
 
-def run_until(plant: Plant, person: str, to: str, steps: int | None) -> bool:
-    """The part of a person, killed before its step of this number: a call that is sent, or one that was answered."""
-    left = itertools.count(0) if steps is None else iter(range(steps))
+def run_until(plant: Plant, person: str, to: str, steps: int | None, again: tuple[str, ...] = ()) -> int:
+    """The part of a person, killed before its step of this number: a call that is sent, or one that was answered. How many steps it has, 0 if it was
+    killed."""
+    made = 0
     target = connection.Target(f"http://127.0.0.1:{plant.port}", person, LATER)
     with opened(plant.folder / "backup") as books:
         old = successor.read_old(books, "U1")
     with Office(target) as office, pytest.MonkeyPatch.context() as patch:
         send = office.link.send
 
+        def step() -> None:
+            nonlocal made
+            if made == steps:
+                raise Kill
+            made += 1
+
         def killed_send(method: str, path: str, body: bytes | None) -> str | connection.Missing:
-            if next(left, None) is None:
-                raise Kill
+            step()
             answer = send(method, path, body)
-            if next(left, None) is None:
-                raise Kill
+            step()
             return answer
 
         patch.setattr(office.link, "send", killed_send)
         try:
             with tally.Tally() as count:
-                found = successor.Succession(office, old, to, count)
-                found.make(office.units().get(to), "ste")
+                successor.Succession(office, old, to, count, again).make("ste")
         except Kill:
-            return False
-    return True
+            return 0
+    return made
 
 
 def test_killed_at_any_step_it_ends_in_the_books_of_one_clean_run(plant: Plant) -> None:
@@ -177,8 +208,10 @@ def test_killed_at_any_step_it_ends_in_the_books_of_one_clean_run(plant: Plant) 
     for number in range(4):
         unit, kills = f"K{number}", 0
         for person in TYPISTS:
-            while not run_until(plant, person, unit, chosen.randrange(4, 90) if kills < 12 else None):
-                kills += 1
+            again: tuple[str, ...] = ()
+            while not run_until(plant, person, unit, chosen.randrange(4, 60) if kills < 12 else None, again):
+                # at what it was killed only a person knows: here everything is meant
+                kills, again = kills + 1, EVERYTHING
         assert kills > 2
         assert of_unit(plant, unit) == of_unit(plant, "CLEAN")
 
@@ -188,15 +221,16 @@ def test_the_command_itself_is_killed(plant: Plant) -> None:
     chosen, kills = random.Random(2), 0
     for person in TYPISTS:
         words = plants.command("successor", "--from", plant.folder / "backup", "--unit", "U1", "--to", "KILLED", *plant.words(person, LATER))
+        again: list[str] = []
         while True:
-            process = subprocess.Popen(words, stdout=subprocess.DEVNULL)
+            process = subprocess.Popen([*words, *again], stdout=subprocess.DEVNULL)
             try:
                 assert process.wait(0.3 + 0.7 * chosen.random() if kills < 12 else None) == 0
                 break
             except subprocess.TimeoutExpired:
                 process.send_signal(signal.SIGKILL)
                 process.wait()
-                kills += 1
+                kills, again = kills + 1, [word for it in EVERYTHING for word in ("--again", it)]
         assert succeed(plant, person, "CLEAN")[0] == 0
     assert kills and of_unit(plant, "KILLED") == of_unit(plant, "CLEAN")
 
@@ -209,10 +243,10 @@ def test_how_full_each_unit_is(plant: Plant) -> None:
     backup = plant.copy("backup")
     said = typed("full", backup)
     assert said.returncode == 0 and f"by the backup of 2026-03-01 10:00 UTC, {backup}" in said.stdout
-    assert "25 (1 %)" in said.stdout and "8 (0 %)" in said.stdout and "full 2045-04-22" in said.stdout
+    assert "25 (1 %)" in said.stdout and "10 (2 %)" in said.stdout and "full 2045-04-22" in said.stdout
     found = json.loads(typed("full", backup, "--json").stdout)
     assert [(it["what"], it["count"], it["most"]) for it in found["U1"]] == [
-        ("alarms", 25, 2000), ("grants", 8, 500), ("changes", 8, 20000), ("events", 2, 100000)]
+        ("alarms", 25, 2000), ("grants", 10, 500), ("changes", 8, 20000), ("events", 2, 100000)]
     events = found["V1"][3]
     # 400 events in the 28.1 days since the first one: 99,600 more take 6,993 days
     assert (events["count"], events["a_day"], events["full"]) == (400, 14.2, "2045-04-22")
@@ -233,6 +267,13 @@ def test_the_newest_of_a_folder_of_backups_is_read_if_it_is_whole(plant: Plant) 
     said = typed("full", folder)
     assert said.returncode == 1 and "plant.db-wal is not what was backed up: take another backup" in said.stdout
     assert typed("full", folder / "20260301T030000Z").returncode == 0
+    (folder / "20260302T030000Z/SHA256SUMS").write_bytes(b"")
+    said = typed("full", folder)
+    assert said.returncode == 1 and "SHA256SUMS is empty: take another backup" in said.stdout
+    # a folder whose name is no moment is none of them
+    (folder / "20260399T030000Z").mkdir()
+    (folder / "20260302T030000Z").rename(folder / "aside")
+    assert "2026-03-01 03:00" in typed("full", folder).stdout
 
 
 def test_what_the_offices_own_backup_makes_is_read(plant: Plant) -> None:
