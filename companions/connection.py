@@ -29,6 +29,7 @@ PROXY = "http://127.0.0.1:8081"
 PORT = "http://127.0.0.1:8080"
 PAUSES = (0.2, 0.5, 1.0, 2.0)  # seconds before an office that is away is asked again; the last one from then on
 SETTLING = 1.0  # seconds in which a call that had no answer may be made yet
+TURNS = 3  # how often a call is made again, a second later, that met the turn of a second
 TIMES = httpx.Timeout(90.0, connect=10.0)
 
 
@@ -178,7 +179,18 @@ class Connection:
         return self.target.moment or values.text_of(values.now())
 
     def send(self, method: str, path: str, body: bytes | None) -> str | Missing:
-        """One try: what the office answered, or that it did not. Refusals and whatever no repetition helps against are raised."""
+        """One try; of two calls at the turn of a second the later may come first, and the other, refused with MomentBehind, is made again."""
+        for _ in range(TURNS):
+            try:
+                return self.send_once(method, path, body)
+            except Refusal as refusal:
+                if refusal.name != "MomentBehind" or self.target.moment is not None:
+                    raise
+            time.sleep(1.0)
+        return self.send_once(method, path, body)
+
+    def send_once(self, method: str, path: str, body: bytes | None) -> str | Missing:
+        """What the office answered, or that it did not. Refusals and whatever no repetition helps against are raised."""
         fields = {} if self.target.person is None else {"X-Person": self.target.person, "X-Moment": self.moment()}
         try:
             answer = self.client.request(method, self.url + path, content=body, headers=fields)

@@ -12,6 +12,7 @@ from companions import calls, connection, values
 
 DONE = httpx.Response(200, text='{"done":true}')
 UNITS = httpx.Response(200, text='{"units":[]}')
+BEHIND = httpx.Response(409, text='{"name":"MomentBehind","refused":5,"value":"2026-03-01T10:00:01Z"}')
 UNKNOWN = httpx.Response(409, text='{"name":"AlarmUnknown","refused":8}')
 STATUS = httpx.Response(200, text='{"limit":60,"limit_revision":0,"out_of_service":false,"shelf":"Unshelved","shelf_left":0,"state":"Normal",'
                                   '"suppressed":false,"suppressed_or_shelved":false,"tag":"A"}')
@@ -39,14 +40,28 @@ def no_pauses(monkeypatch: pytest.MonkeyPatch) -> list[float]:
     return waited
 
 
-def office_of(script: Script, patience: float = 60) -> calls.Office:
-    found = calls.Office(connection.Target("http://office", "eve", "2026-03-01T10:00:00Z", patience=patience))
+def office_of(script: Script, patience: float = 60, moment: str | None = "2026-03-01T10:00:00Z") -> calls.Office:
+    found = calls.Office(connection.Target("http://office", "eve", moment, patience=patience))
     found.link.client = httpx.Client(transport=httpx.MockTransport(script))
     return found
 
 
 def page(status: int, **fields: str) -> httpx.Response:
     return httpx.Response(status, headers=fields, text="<html>")
+
+
+def test_a_call_at_the_turn_of_a_second_is_made_again(no_pauses: list[float]) -> None:
+    script = Script(BEHIND, BEHIND, DONE)
+    assert office_of(script, moment=None).register("U1", "A", False, 60) is calls.Outcome.done
+    assert script.asked == ["POST /units/U1/alarms"] * 3 and no_pauses == [1.0, 1.0]
+
+
+@pytest.mark.parametrize(("moment", "times"), [(None, connection.TURNS + 1), ("2026-03-01T10:00:00Z", 1)])
+def test_a_call_of_a_moment_that_stays_behind_is_refused(moment: str | None, times: int) -> None:
+    script = Script(*[BEHIND] * times)
+    with pytest.raises(connection.Refusal, match="MomentBehind"):
+        office_of(script, moment=moment).register("U1", "A", False, 60)
+    assert len(script.asked) == times
 
 
 def test_a_read_is_repeated_until_the_office_answers() -> None:
