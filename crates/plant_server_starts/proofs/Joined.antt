@@ -42,6 +42,7 @@ module _ {D N : Type 0} {g : Ghosts D} where
   outcome store (left.Unopened rest) w calls answers found within closed may = absurd closed
   outcome store (left.Refused conn) w calls answers found within closed may = absurd closed
   outcome store (left.Unclosed it) w calls answers found within closed may = within.files found may
+  outcome store (left.InMemory it) w calls answers found within closed may = absurd closed
   outcome store (left.Migrated old made) w calls answers found within closed may = absurd closed
 
 module _ {D N : Type 0} (g : Ghosts D) (h : Ghosts N) where
