@@ -232,7 +232,7 @@ def test_it_waits_until_the_offices_clock_has_passed_a_moment(plant: Plant) -> N
 
 
 def test_it_waits_where_the_clock_is_behind_the_units_last_change(plant: Plant) -> None:
-    ahead = time.strftime("%Y-%m-%dT%H:%M:%SZ", time.gmtime(time.time() + 3))
+    ahead = time.strftime("%Y-%m-%dT%H:%M:%SZ", time.gmtime(time.time() + 15))
     assert plant.call("ann", ahead, "/units/U1/alarms/A/one-shot-shelve", {"words": "ahead"}) == {"done": True}
     folder = spool(plant, a=HEADER + line(1))
     said = typed("feed", folder, "--unit", "U1", "--every", "0.2", "--longest-wait", "0", *plant.words("ann", "now"))
