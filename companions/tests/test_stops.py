@@ -22,13 +22,18 @@ from companions.tests.plant import Plant, office as typed
 HEADER = "tag,latching,limit,cause,consequence,action,severity,response\n"
 
 
+def heeds_interrupts() -> None:
+    """Also where the tests themselves run in the background, with SIGINT ignored."""
+    signal.signal(signal.SIGINT, signal.SIG_DFL)
+
+
 @pytest.mark.parametrize("how", [signal.SIGINT, signal.SIGTERM])
 def test_a_stopped_command_says_what_it_has_done(office: Plant, how: signal.Signals) -> None:
     office.open("U1")
     file = office.folder / "alarms.csv"
     file.write_text(HEADER + "".join(f"A-{it},no,3600,cause,effect,act,2,{1 + it}\n" for it in range(2_000)))
     words = plants.command("load", file, "--unit", "U1", *office.words("eve"))
-    process = subprocess.Popen(words, stdout=subprocess.PIPE, stderr=subprocess.STDOUT, text=True)
+    process = subprocess.Popen(words, stdout=subprocess.PIPE, stderr=subprocess.STDOUT, text=True, preexec_fn=heeds_interrupts)
     plants.wait_for("ten alarms", lambda: int(office.rows("SELECT count(*) FROM alarms")[0][0]) > 9)
     process.send_signal(how)
     said = process.communicate()[0]
