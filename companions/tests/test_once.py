@@ -79,7 +79,7 @@ def test_nothing_is_made_twice(office: Plant, monkeypatch: pytest.MonkeyPatch, s
         old = successor.read_old(books, "U1")
     monkeypatch.setattr(connection, "PAUSES", (0.0,))
     monkeypatch.setattr(connection, "SETTLING", 0.0)
-    for unit in "W1", "W2", "W3":
+    for unit in "U2", "U3", "U4":
         for what in ("root", "ste", *chosen.choices(STEPS, k=14)):
             if what in ("root", "ste", "eve"):
                 type_it(office, old, what, unit, chosen, made)
