@@ -1,6 +1,6 @@
 -- The contracts of the trait `Books`, in terms of its ghost members.
 use Rattle.std.specs.Prelude.{IfOk, List, OnErr, OnOk, Option, Result, Some, ℕ, ◌≡◌}
-use Rattle.plant_books.specs.{Contents.{Content, IsKnownTo, after_changes, part_in}, Counting.{Counts}}
+use Rattle.plant_books.specs.{Contents.{Content, IsKnownTo, after_changes, part_in}, Counting.{Counts}, Crashes.{LosesNothing}}
 use Rattle.plant_model.specs.{Worlds.{unit_named}, declared.{call.Call.{Call}, rows.{RowEdit.{RowEdit}, UnitPart.{UnitPart}}}}
 use Rattle.plant_types.specs.{Names.{Name}, declared.fault.Fault.{Fault}}
 
@@ -36,3 +36,12 @@ Makes represents before after u cs said = (m : Content) → represents before m 
 -- the call adds one to the count of `Store` if it fails with `Store`, else nothing
 abbrev pub CountsBy : {B A : Type 0} → (B → ℕ) → B → B → Result A Fault → Type 0
 CountsBy stores before after said = Counts (stores before) (stores after) said
+
+-- a question leaves the books unchanged: they hold what they held, the keeper's premise held before, a crash leaves what
+-- it left before, and the fault Store is counted
+pub record LeavesUnchanged {B A : Type 0} (represents : B → Content → Type 0) (is_honest is_clean leaves_books : B → Type 0)
+    (may_leave : B → Content → Type 0) (stores : B → ℕ) (before after : B) (said : Result A Fault) : Type 0 where
+  pub same : Keeps represents before after
+  pub honest : WasHonest is_honest before after
+  pub crash : LosesNothing represents is_honest is_clean leaves_books may_leave before after
+  pub count : CountsBy stores before after said

@@ -2,8 +2,8 @@
 //! and what its contracts state about a failure of the store and a crash.
 
 ghost use Rattle.std.specs.Prelude.{◌≡◌, IfOk, IsTrue, None, OnOk, ℕ};
-ghost use Rattle.plant_books.specs.Crashes.{IsSettled, LosesNoPart, LosesNothing};
-ghost use Rattle.plant_books.specs.Books.{CountsBy, Finds, FindsPart, Keeps, KeepsOnErr, Makes, WasHonest};
+ghost use Rattle.plant_books.specs.Crashes.{IsSettled, LosesNoPart};
+ghost use Rattle.plant_books.specs.Books.{CountsBy, Finds, FindsPart, KeepsOnErr, LeavesUnchanged, Makes, WasHonest};
 ghost use Rattle.plant_books.specs.Contents.{Content, codes_held, events_in, mine_shelves, mine_units, rows_but_history};
 ghost use Rattle.plant_model.specs.Worlds.{unit_named};
 ghost use Rattle.std.specs.FinMap as fin;
@@ -66,76 +66,52 @@ pub trait Books {
     fn taken(&mut self, unit: &UnitCode) -> Result<bool, Fault>
         ensures found { Finds represents is_honest self.old self.new result
             (λ m. fin.contains_key m.units unit.now) }
-        ensures same { Keeps represents self.old self.new }
-        ensures honest { WasHonest is_honest self.old self.new }
-        ensures crash { LosesNothing represents is_honest is_clean leaves_books may_leave self.old self.new }
-        ensures count { CountsBy stores self.old self.new result };
+        ensures unchanged { LeavesUnchanged represents is_honest is_clean leaves_books may_leave stores self.old self.new result };
 
     /// All rows of the unit. `None` if it was never opened.
     fn rows(&mut self, unit: &UnitCode) -> Result<Option<UnitRows>, Fault>
         ensures found { Finds represents is_honest self.old self.new result
             (λ m. fin.get m.units unit.now) }
-        ensures same { Keeps represents self.old self.new }
-        ensures honest { WasHonest is_honest self.old self.new }
-        ensures crash { LosesNothing represents is_honest is_clean leaves_books may_leave self.old self.new }
-        ensures count { CountsBy stores self.old self.new result };
+        ensures unchanged { LeavesUnchanged represents is_honest is_clean leaves_books may_leave stores self.old self.new result };
 
     /// All rows of the unit except its history, which is its events, its changes, and the limits and cells of its
     /// matrices. `None` if it was never opened.
     fn rows_but_history(&mut self, unit: &UnitCode) -> Result<Option<UnitRows>, Fault>
         ensures found { Finds represents is_honest self.old self.new result
             (λ m. rows_but_history m unit.now) }
-        ensures same { Keeps represents self.old self.new }
-        ensures honest { WasHonest is_honest self.old self.new }
-        ensures crash { LosesNothing represents is_honest is_clean leaves_books may_leave self.old self.new }
-        ensures count { CountsBy stores self.old self.new result };
+        ensures unchanged { LeavesUnchanged represents is_honest is_clean leaves_books may_leave stores self.old self.new result };
 
     /// All events of the unit. Empty if it was never opened.
     fn events(&mut self, unit: &UnitCode) -> Result<Sorted<Event>, Fault>
         ensures found { Finds represents is_honest self.old self.new result
             (λ m. events_in m unit.now) }
-        ensures same { Keeps represents self.old self.new }
-        ensures honest { WasHonest is_honest self.old self.new }
-        ensures crash { LosesNothing represents is_honest is_clean leaves_books may_leave self.old self.new }
-        ensures count { CountsBy stores self.old self.new result };
+        ensures unchanged { LeavesUnchanged represents is_honest is_clean leaves_books may_leave stores self.old self.new result };
 
     /// The rows of the unit that the call looks at. `None` if the unit was never opened or the call names no unit.
     fn part(&mut self, call: &Call) -> Result<Option<UnitPart>, Fault>
         ensures found { FindsPart represents is_honest self.old self.new call.now result }
         ensures none { unit_named call.now.request ≡ None → IfOk result (λ part. part ≡ None) }
-        ensures same { Keeps represents self.old self.new }
-        ensures honest { WasHonest is_honest self.old self.new }
-        ensures crash { LosesNothing represents is_honest is_clean leaves_books may_leave self.old self.new }
-        ensures count { CountsBy stores self.old self.new result };
+        ensures unchanged { LeavesUnchanged represents is_honest is_clean leaves_books may_leave stores self.old self.new result };
 
     /// The codes of the units in which the person holds a role at the moment, in order, each once.
     fn held(&mut self, person: &Person, now: Moment) -> Result<List<UnitCode>, Fault>
         ensures found { Finds represents is_honest self.old self.new result
             (λ m. codes_held m now person.now) }
-        ensures same { Keeps represents self.old self.new }
-        ensures honest { WasHonest is_honest self.old self.new }
-        ensures crash { LosesNothing represents is_honest is_clean leaves_books may_leave self.old self.new }
-        ensures count { CountsBy stores self.old self.new result };
+        ensures unchanged { LeavesUnchanged represents is_honest is_clean leaves_books may_leave stores self.old self.new result };
 
     /// The units in which the person holds a role at the moment, in the order of their codes, each once, with the roles
     /// in the order of their numbers.
     fn mine_units(&mut self, person: &Person, now: Moment) -> Result<List<MineUnit>, Fault>
         ensures found { Finds represents is_honest self.old self.new result
             (λ m. mine_units m now person.now) }
-        ensures same { Keeps represents self.old self.new }
-        ensures honest { WasHonest is_honest self.old self.new }
-        ensures crash { LosesNothing represents is_honest is_clean leaves_books may_leave self.old self.new }
-        ensures count { CountsBy stores self.old self.new result };
+        ensures unchanged { LeavesUnchanged represents is_honest is_clean leaves_books may_leave stores self.old self.new result };
 
     /// Every shelf of the units in which the person holds a role at the moment, in the order of units and tags, each
     /// once. Shelves whose time has passed are among them.
     fn mine_shelves(&mut self, person: &Person, now: Moment) -> Result<List<MineRow>, Fault>
         ensures found { Finds represents is_honest self.old self.new result
             (λ m. mine_shelves m now person.now) }
-        ensures same { Keeps represents self.old self.new }
-        ensures honest { WasHonest is_honest self.old self.new }
-        ensures crash { LosesNothing represents is_honest is_clean leaves_books may_leave self.old self.new }
-        ensures count { CountsBy stores self.old self.new result };
+        ensures unchanged { LeavesUnchanged represents is_honest is_clean leaves_books may_leave stores self.old self.new result };
 
     /// Makes the changes to this unit's rows in their order: all of them, or none. `seen` has the unit's rows that the
     /// caller looked at. If it is given, a row whose key is not in it may be inserted as a new row, which saves a

@@ -24,11 +24,11 @@ pub fn count_after(stores: u64, fault: &Fault) -> u64
 }
 
 /// Returns the result as it is, and counts a fault of the store.
-fn counted<T: Drop>(stores: &mut u64, said: Result<T, Fault>) -> Result<T, Fault>
-    ensures same { result ≡ said }
+fn counted<T: Drop>(stores: &mut u64, outcome: Result<T, Fault>) -> Result<T, Fault>
+    ensures same { result ≡ outcome }
     ensures count { Counts stores.old stores.new result }
 {
-    match said {
+    match outcome {
         Ok(found) => Ok(found),
         Err(fault) => {
             *stores = count_after(*stores, &fault);
@@ -106,8 +106,8 @@ impl Books for Plain {
         let Some(unit) = call.request.unit() else {
             return Ok(None);
         };
-        let said = part_at(self.alloc, &self.units, unit, call);
-        counted(&mut self.stores, said)
+        let part = part_at(self.alloc, &self.units, unit, call);
+        counted(&mut self.stores, part)
     }
 
     fn held(&mut self, person: &Person, now: Moment) -> Result<List<UnitCode>, Fault> {

@@ -23,7 +23,7 @@ use Rattle.plant_types.{specs.{Names.{Name, same_name}, Options.{when}, declared
 use Rattle.plant_types.proofs.public.Orders.{name_total}
 use Rattle.plant_alarm.specs.Shelves.{shelf_state}
 use Rattle.plant_office.specs.{Answers.{CountsAnswer, IfSaid, OnFault, answer_as, reply_or_fault}, Lines.{line_of_mine, line_of_shelf}, Runs.{IsAlike}}
-use Rattle.plant_office.specs.{Enduring.{HoldsWorld, Endures, IsUnmade, books_state}, Outcomes.{confirms}, Served.{Holds, IsIsolated, IsOwnUnit, IsServed}, Serves.{Serves}}
+use Rattle.plant_office.specs.{Enduring.{HoldsWorld, Endures, IsUnmade, books_state}, Outcomes.{confirms}, Served.{Holds, IsIsolated, IsOwnUnit, IsServed}, Serves.{OnlyAsks, Serves}}
 use Rattle.plant_office.proofs.public.Enduring.{holds_alike}
 use Rattle.plant_books.specs.Crashes.{LosesNoPart, LosesNothing}
 use Rattle.plant_unit.specs.Judged.{IsOpening, IsPartOf, IsVerdictOn}
@@ -410,11 +410,18 @@ holds_opened b w c u reply cs legal h matrix named opens v =
 abbrev pub Loses : {B : Type 0} → Ghosts B → B → B → Type 0
 Loses books before after = LosesNothing books.represents books.is_honest books.is_clean books.leaves_books books.may_leave before after
 
-pub loses_then : {B : Type 0} (books : Ghosts B) {before mid after : B} → Loses books before mid → Loses books mid after → Loses books before after
-loses_then books one two = record {
-  clean = λ h. one.clean (two.clean h);
-  fewer = λ h x l. one.fewer (two.clean h) x (two.fewer h x l);
-  sound = λ h s. two.sound h (one.sound (two.clean h) s);
+-- two questions, one after the other
+pub asks_then : {B X Y : Type 0} {x : X} {y : Y} (books : Ghosts B) {before mid after : B} → OnlyAsks books before mid (Ok x)
+    → OnlyAsks books mid after (Ok y) → OnlyAsks books before after (Ok y)
+asks_then books one two = record {
+  same = λ m held. two.same m (one.same m held);
+  honest = λ h. one.honest (two.honest h);
+  crash = record {
+    clean = λ h. one.crash.clean (two.crash.clean h);
+    fewer = λ h x l. one.crash.fewer (two.crash.clean h) x (two.crash.fewer h x l);
+    sound = λ h s. two.crash.sound h (one.crash.sound (two.crash.clean h) s);
+  };
+  count = two.count ∙ one.count;
 }
 
 unmade_says : (c : Call) (a : Answer) → IsUnmade c a → confirms c a ≡ false
@@ -468,15 +475,15 @@ module _ {B : Type 0} (books : Ghosts B) (c : Call) (u : Name) (cs : List RowEdi
     | inr new ↦
         let m = of.content in
         inr (
-          holds_alike x (after_changes m u cs) (next w c) (new.1 m (it.same m of.held) (it.known m of.held w of.legal of.holds new.0))
-              (it.meant m of.held w of.legal of.holds new.0),
+          holds_alike x (after_changes m u cs) (next w c) (new.1 m (it.same m of.represents) (it.known m of.represents w of.legal of.holds new.0))
+              (it.meant m of.represents w of.legal of.holds new.0),
           it.legal w of.legal,
         )
   ]
 
   made_sound : books.is_clean after → (w : World) → HoldsWorld w (books_state books before) → books.leaves_books before → books.leaves_books after
   made_sound tidy w of s =
-      it.writes.sound tidy of.content (it.same of.content of.held) (λ honest. it.known of.content of.held w of.legal of.holds honest)
+      it.writes.sound tidy of.content (it.same of.content of.represents) (λ honest. it.known of.content of.represents w of.legal of.holds honest)
       (it.read.sound (it.writes.clean tidy) s)
 
   -- a call that was made
@@ -488,8 +495,8 @@ module _ {B : Type 0} (books : Ghosts B) (c : Call) (u : Name) (cs : List RowEdi
     clean = λ tidy. it.read.clean (it.writes.clean tidy);
     kept = λ tidy _. kept tidy;
     made = λ honest _ w of.
-        let s = served of.content of.held w of.legal of.holds honest in
-        record { content = s.after; held = s.left_it; holds = s.holds; legal = s.legal };
+        let s = served of.content of.represents w of.legal of.holds honest in
+        record { content = s.after; represents = s.left_it; holds = s.holds; legal = s.legal };
     unmade = λ none. absurd (true≢false (sym (ap not changes) ∙ none));
     each = made_each;
     quiet = λ _ reads. absurd (true≢false (sym reads ∙ changes));
@@ -512,17 +519,16 @@ module _ {B : Type 0} (books : Ghosts B) (c : Call) (u : Name) (cs : List RowEdi
 -- a call whose answer leaves the books as they were
 pub serves_same : {B : Type 0} {books : Ghosts B} {c : Call} {a : Said} {before after : B}
     → ((m : Content) → books.represents before m → (w : World) → IsLegalWorld w → Holds m w → books.is_honest after
-    → IsServed w c a (books.represents after)) → (books.is_honest after → books.is_honest before)
-    → ((m : Content) → books.represents before m → books.represents after m) → books.stores after ≡ books.stores before
-    → IsUnmade c (answer_as (Ok a)) → Loses books before after → Serves books c (Ok a) before after
-serves_same {B} {books} {c} {a} {before} {after} served honest same count none crash =
+    → IsServed w c a (books.represents after)) → {X : Type 0} {x : X} → OnlyAsks books before after (Ok x) → IsUnmade c (answer_as (Ok a))
+    → Serves books c (Ok a) before after
+serves_same {B} {books} {c} {a} {before} {after} served asks none =
     record {
       served = served;
-      honest = honest;
-      unchanged = λ m k _. same m k;
+      honest = asks.honest;
+      unchanged = λ m k _. asks.same m k;
       fault = λ _ _. tt;
-      count = count;
-      endures = endures_unmade books c (answer_as (Ok a)) before after none same crash;
+      count = asks.count;
+      endures = endures_unmade books c (answer_as (Ok a)) before after none asks.same asks.crash;
     }
 
 -- a call whose reply changed the books

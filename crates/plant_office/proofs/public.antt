@@ -1,3 +1,4 @@
 pub mod Running
 pub mod Enduring
 pub mod Failures
+pub mod FaultLaws

@@ -10,7 +10,7 @@ use Rattle.plant_office.specs.{Outcomes.{IsOutcome, after_calls, confirmed, conf
 -- the state of books at a moment, as their keeper shows it
 pub record BooksState : Type 1 where
   -- they hold this content, if the keeper's premise holds
-  pub held : Content → Type 0
+  pub represents : Content → Type 0
   -- the keeper's premise: the disk has returned what was written, and no failure has shut the store
   pub honest : Type 0
   -- the disk has returned what was written
@@ -24,7 +24,7 @@ pub record BooksState : Type 1 where
 abbrev pub books_state : {B : Type 0} → Ghosts B → B → BooksState
 books_state g b =
     record {
-      held = g.represents b;
+      represents = g.represents b;
       honest = g.is_honest b;
       clean = g.is_clean b;
       leaves = g.may_leave b;
@@ -40,7 +40,7 @@ IsUnmade c (Faulted f) = ⊥
 -- the books hold the rows of a legal world
 pub record HoldsWorld (w : World) (books : BooksState) : Type 0 where
   pub content : Content
-  pub held : books.held content
+  pub represents : books.represents content
   pub holds : Holds content w
   pub legal : IsLegalWorld w
 
@@ -50,7 +50,7 @@ pub record Endures (c : Call) (a : Answer) (before after : BooksState) : Type 0 
   -- a call is confirmed only once it is kept
   pub kept : after.clean → confirms c a ≡ true → after.honest
   pub made : after.honest → confirms c a ≡ true → (w : World) → HoldsWorld w before → HoldsWorld (next w c) after
-  pub unmade : confirms c a ≡ false → (m : Content) → before.held m → after.held m
+  pub unmade : confirms c a ≡ false → (m : Content) → before.represents m → after.represents m
   -- a crash leaves what it left before, or the books with the call
   pub each : after.clean → (w : World) → HoldsWorld w before → (x : Content) → after.leaves x
       → before.leaves x ⊎ (Holds x (next w c) × IsLegalWorld (next w c))
@@ -61,7 +61,7 @@ pub record Endures (c : Call) (a : Answer) (before after : BooksState) : Type 0 
 -- the same, and while the store is open a crash leaves what the books hold
 pub record EnduresSettled (c : Call) (a : Answer) (before after : BooksState) : Type 0 where
   pub endures : Endures c a before after
-  pub settled : after.honest → (m : Content) → after.held m → (x : Content) → after.leaves x → Alike x m
+  pub settled : after.honest → (m : Content) → after.represents m → (x : Content) → after.leaves x → Alike x m
 
 -- the books after calls with these answers, which began at this world: they hold the confirmed calls, and a crash
 -- leaves these, or these and one that is in doubt

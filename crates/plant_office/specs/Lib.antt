@@ -3,6 +3,7 @@ pub mod Answers
 pub mod Served
 pub mod Runs
 pub mod Outcomes
+pub mod Faults
 pub mod Enduring
 pub mod Failures
 pub mod Lives

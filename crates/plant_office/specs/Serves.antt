@@ -1,6 +1,6 @@
 -- What serving a call returns, and what it leaves of the books.
-use Rattle.std.specs.Prelude.{IfOk, OnErr, Option, Result, Some, false, ◌≡◌}
-use Rattle.plant_books.specs.{Books.{Keeps, WasHonest}, Contents.{Content, part_in}, Counting.{Counts}, Crashes.{LosesNothing}, declared.books.Books.{Ghosts}}
+use Rattle.std.specs.Prelude.{IfOk, Ok, OnErr, Option, Result, Some, false, ◌≡◌}
+use Rattle.plant_books.specs.{Books.{LeavesUnchanged}, Contents.{Content, part_in}, Counting.{Counts}, declared.books.Books.{Ghosts}}
 use Rattle.plant_model.specs.{Verdicts.{changes_history}, Worlds.{IsLegalWorld, World, unit_named}, declared.{call.Call.{Call}, reply.Refused.{Refused}}}
 use Rattle.plant_model.specs.declared.{reply.Reply.{Reply}, rows.UnitPart.{UnitPart}}
 use Rattle.plant_office.specs.{Answers.{answer_as}, Enduring.{Endures, books_state}, Served.{Holds, IsServed}}
@@ -21,11 +21,13 @@ pub record Serves {B : Type 0} (books : Ghosts B) (c : Call) (said : Result (Res
   -- a crash leaves what it may leave after such a call
   pub endures : Endures c (answer_as said) (books_state books before) (books_state books after)
 
+-- a question with this result left the books unchanged
+abbrev pub OnlyAsks : {B A : Type 0} → Ghosts B → B → B → Result A Fault → Type 0
+OnlyAsks books before after said = LeavesUnchanged books.represents books.is_honest books.is_clean books.leaves_books
+    books.may_leave books.stores before after said
+
 -- the books gave this part of a unit's rows for a call, and hold what they held
 pub record HaveRead {B : Type 0} (books : Ghosts B) (before after : B) (c : Call) (part : Option UnitPart) : Type 0 where
   pub found : (m : Content) → books.represents before m → books.is_honest after → (u : Name)
       → unit_named c.request ≡ Some u → part ≡ part_in m c u
-  pub same : Keeps books.represents before after
-  pub honest : WasHonest books.is_honest before after
-  pub crash : LosesNothing books.represents books.is_honest books.is_clean books.leaves_books books.may_leave before after
-  pub count : books.stores after ≡ books.stores before
+  pub unchanged : OnlyAsks books before after (Ok part)

@@ -7,9 +7,10 @@ ghost use Rattle.plant_books.specs.{Books.{WasHonest}, Contents.{Content}, decla
 ghost use Rattle.plant_types.specs.Results.{OnlyMemory};
 ghost use Rattle.plant_model.specs.{Legality.{has_matrix, is_matrix_kind}, Verdicts.{changes_history, is_opening}};
 ghost use Rattle.plant_model.specs.steps.RowChanges.{changed, changed_by};
-ghost use Rattle.plant_model.specs.{Views.{view}, Worlds.{World, IsLegalWorld, unit_named}, declared.call.Request.TheVariants.{MyShelves, MyUnits, Shelves}};
+ghost use Rattle.plant_model.specs.{Views.{view}, Worlds.{World, IsLegalWorld, unit_named}, declared.call.Request.TheVariants.{MyShelves, MyUnits}};
 ghost use Rattle.plant_model.specs.declared.rows.UnitRows.{UnitRows};
 ghost use Rattle.plant_office.specs.{Answers.{CountsAnswer, IfSaid, OnFault, answer_as, reply_or_fault}, Lines.{line_of_mine, line_of_shelf}};
+ghost use Rattle.plant_office.specs.Faults as spec;
 ghost use Rattle.plant_office.specs.{Enduring.{EnduresAll, EnduresSettled, books_state}, Failures.{StandBeforeFailure}};
 ghost use Rattle.plant_office.specs.{Runs.{AllChangeNothing, EachKeepsUnchanged, IsRun, stores_in}, Served.{Holds, IsIsolated, IsServed}, Serves.{HaveRead, Serves}};
 
@@ -20,7 +21,7 @@ use plant_model::{
 };
 use plant_ration::ChangeKind;
 use plant_types::{Fault, List, Moment, UnitCode};
-use plant_unit::{is_read, judge, judge_open, judge_shelves, shelf_line};
+use plant_unit::{is_read, judge, judge_open, shelf_line};
 use std::alloc::Global;
 
 /// The rows that the call looked at, if it looked at a unit.
@@ -92,12 +93,20 @@ pub const NO_FAULTS: Faults = Faults {
     store: false,
 };
 
-/// Notes the fault of a result, if any.
-fn note_fault(faults: &mut Faults, said: &Result<Result<Reply, Refused>, Fault>) {
-    match said {
-        Ok(_) => {}
-        Err(Fault::Memory) => faults.memory = true,
-        Err(Fault::Store) => faults.store = true,
+/// These faults, with that of a call if it was answered by one.
+fn noted(faults: Faults, outcome: &Result<Result<Reply, Refused>, Fault>) -> Faults
+    ensures { result ≡ spec.noted faults (answer_as outcome.now ∷ []) }
+{
+    match outcome {
+        Ok(_) => faults,
+        Err(Fault::Memory) => Faults {
+            memory: true,
+            ..faults
+        },
+        Err(Fault::Store) => Faults {
+            store: true,
+            ..faults
+        },
     }
 }
 
@@ -111,7 +120,8 @@ pub struct Office<B: Books> {
 impl<B: Books> Office<B> {
     /// The office over these books, which stay as they are.
     pub fn new(alloc: Global, books: B) -> Office<B>
-        ensures { result.books ≡ books }
+        ensures books { result.books ≡ books }
+        ensures faults { result.faults ≡ spec.no_faults }
     {
         Office {
             books,
@@ -134,7 +144,9 @@ impl<B: Books> Office<B> {
 
     /// Which faults were returned as answers since this was last called.
     pub fn take_faults(&mut self) -> Faults
-        ensures { self.new.books ≡ self.old.books }
+        ensures faults { result ≡ self.old.faults }
+        ensures none { self.new.faults ≡ spec.no_faults }
+        ensures books { self.new.books ≡ self.old.books }
     {
         let faults = self.faults;
         self.faults = NO_FAULTS;
@@ -205,16 +217,16 @@ impl<B: Books> Office<B> {
     fn serve_part(
         &mut self,
         unit: &UnitCode,
-        part: &Option<UnitPart>,
+        part: &mut Option<UnitPart>,
         call: &Call,
     ) -> Result<Result<Reply, Refused>, Fault>
         requires named { unit_named call.now.request ≡ Some unit.now }
         requires plain { is_opening call.now.request ≡ false }
-        ensures serves { (before : B) → HaveRead B.Books before self.old.books call.now part.now
+        ensures serves { (before : B) → HaveRead B.Books before self.old.books call.now part.old
             → Serves B.Books call.now result before self.new.books }
     {
         note_matrix(&call.request);
-        match judge(self.alloc, part.as_ref(), call)? {
+        match judge(self.alloc, part, call)? {
             Verdict::Refused(refused) => Ok(Err(refused)),
             Verdict::Accepted(reply, mut changes) => {
                 if is_read(&call.request) {
@@ -226,42 +238,6 @@ impl<B: Books> Office<B> {
         }
     }
 
-    /// Serves a call for the shelves of a unit from that part. It takes the shelves out of the part.
-    fn serve_shelves(
-        &self,
-        unit: &UnitCode,
-        part: &mut Option<UnitPart>,
-        call: &Call,
-    ) -> Result<Result<Reply, Refused>, Fault>
-        requires { call.now.request ≡ Shelves unit.now }
-        ensures serves { (before : B) → HaveRead B.Books before self.now.books call.now part.old
-            → Serves B.Books call.now result before self.now.books }
-    {
-        note_matrix(&call.request);
-        match judge_shelves(self.alloc, part, unit, call)? {
-            Verdict::Refused(refused) => Ok(Err(refused)),
-            Verdict::Accepted(reply, _) => Ok(Ok(reply)),
-        }
-    }
-
-    /// Serves a call on a unit from that part.
-    fn serve_from(
-        &mut self,
-        unit: &UnitCode,
-        part: &mut Option<UnitPart>,
-        call: &Call,
-    ) -> Result<Result<Reply, Refused>, Fault>
-        requires named { unit_named call.now.request ≡ Some unit.now }
-        requires plain { is_opening call.now.request ≡ false }
-        ensures serves { (before : B) → HaveRead B.Books before self.old.books call.now part.old
-            → Serves B.Books call.now result before self.new.books }
-    {
-        match &call.request {
-            Request::Shelves { unit } => self.serve_shelves(unit, part, call),
-            _ => self.serve_part(unit, part, call),
-        }
-    }
-
     /// Serves a call on a unit. It owns the part of the unit's rows, and returns at few places: the prover treats the
     /// whole part at each of them.
     fn serve_unit(&mut self, unit: &UnitCode, call: &Call) -> Result<Result<Reply, Refused>, Fault>
@@ -270,7 +246,7 @@ impl<B: Books> Office<B> {
         ensures serves { Serves B.Books call.now result self.old.books self.new.books }
     {
         let mut part = self.books.part(call)?;
-        self.serve_from(unit, &mut part, call)
+        self.serve_part(unit, &mut part, call)
     }
 
     fn serve_opening(
@@ -332,12 +308,14 @@ impl<B: Books> Office<B> {
         ensures count { CountsAnswer (B.stores self.old.books) (B.stores self.new.books) result }
         ensures endures { EnduresSettled call.now result
             (books_state B.Books self.old.books) (books_state B.Books self.new.books) }
+        ensures faults { self.new.faults ≡ spec.noted self.old.faults (result ∷ []) }
     {
-        let said = self.serve_call(call);
+        let faults = self.faults;
+        let outcome = self.serve_call(call);
         // Gives the proof what a crash leaves now. Does nothing at run time.
         self.books.settle();
-        note_fault(&mut self.faults, &said);
-        answer_of(said)
+        self.faults = noted(faults, &outcome);
+        answer_of(outcome)
     }
 
     /// Answers the calls in their order, each as `serve` does. Room for all answers is made first: the only error is
@@ -388,10 +366,10 @@ fn push_answer(answers: &mut Vec<Answer>, answer: Answer)
 }
 
 /// The reply if the changes were made, else the fault.
-fn reply_if_made(made: Result<(), Fault>, reply: Reply) -> Result<Result<Reply, Refused>, Fault>
-    ensures { result ≡ reply_or_fault made reply }
+fn reply_if_made(outcome: Result<(), Fault>, reply: Reply) -> Result<Result<Reply, Refused>, Fault>
+    ensures { result ≡ reply_or_fault outcome reply }
 {
-    match made {
+    match outcome {
         Ok(()) => Ok(Ok(reply)),
         Err(fault) => {
             drop(reply);
@@ -401,10 +379,10 @@ fn reply_if_made(made: Result<(), Fault>, reply: Reply) -> Result<Result<Reply, 
 }
 
 /// The reply, the refusal or the fault as an answer.
-fn answer_of(said: Result<Result<Reply, Refused>, Fault>) -> Answer
-    ensures { result ≡ answer_as said }
+fn answer_of(outcome: Result<Result<Reply, Refused>, Fault>) -> Answer
+    ensures { result ≡ answer_as outcome }
 {
-    match said {
+    match outcome {
         Ok(Ok(reply)) => Answer::Reply(reply),
         Ok(Err(refused)) => Answer::Refused(refused),
         Err(fault) => Answer::Fault(fault),

@@ -13,7 +13,7 @@ use plant_alarm::AlarmState;
 use plant_model::{AlarmLine, StandingLine};
 use plant_ration::Cell;
 use plant_types::{Fault, Moment, UnitCode};
-use std::alloc::Global;
+use std::alloc::{AllocError, Global};
 
 /// The active alarms of a unit at a moment: a heading, and a line for each.
 #[tactic(auto, unfolding(crate::specs::Texts::standing_text))]
@@ -34,10 +34,9 @@ pub fn standing_text(
     Ok(text)
 }
 
-fn push_standing(text: &mut Vec<u8>, line: &StandingLine) -> Result<(), Fault>
-    ensures value { Adds result text.old.items text.new.items
+fn push_standing(text: &mut Vec<u8>, line: &StandingLine) -> Result<(), AllocError>
+    ensures { Adds result text.old.items text.new.items
         (line_of (standing_columns line.now)) }
-    ensures err { OnlyMemory result }
 {
     push_left(text, 24, line.tag.as_bytes())?;
     push_left(text, 14, state_name(line.state))?;
@@ -68,9 +67,8 @@ pub fn alarm_text(
     Ok(text)
 }
 
-fn push_alarm(text: &mut Vec<u8>, line: &AlarmLine) -> Result<(), Fault>
-    ensures value { Adds result text.old.items text.new.items (line_of (alarm_columns line.now)) }
-    ensures err { OnlyMemory result }
+fn push_alarm(text: &mut Vec<u8>, line: &AlarmLine) -> Result<(), AllocError>
+    ensures { Adds result text.old.items text.new.items (line_of (alarm_columns line.now)) }
 {
     let mut buffer = Buffer::new();
     push_left(text, 24, line.tag.as_bytes())?;

@@ -11,7 +11,7 @@ use crate::heading::room_for;
 use itoa::Buffer;
 use plant_model::FloodLine;
 use plant_types::{Fault, Moment, UnitCode};
-use std::alloc::Global;
+use std::alloc::{AllocError, Global};
 
 /// The floods of a unit in a range of time: a heading, and a line for each.
 #[tactic(auto, unfolding(crate::specs::Texts::flood_text))]
@@ -40,10 +40,9 @@ fn push_flood_heading(
     begin: Moment,
     until: Moment,
     count: usize,
-) -> Result<(), Fault>
-    ensures value { Adds result text.old.items text.new.items
+) -> Result<(), AllocError>
+    ensures { Adds result text.old.items text.new.items
         (flood_heading unit.now begin until count) }
-    ensures err { OnlyMemory result }
 {
     let mut buffer = Buffer::new();
     push_column(text, b"FLOODS")?;
@@ -56,9 +55,8 @@ fn push_flood_heading(
     push_last(text, buffer.format(count).as_bytes())
 }
 
-fn push_flood(text: &mut Vec<u8>, line: &FloodLine) -> Result<(), Fault>
-    ensures value { Adds result text.old.items text.new.items (line_of (flood_columns line.now)) }
-    ensures err { OnlyMemory result }
+fn push_flood(text: &mut Vec<u8>, line: &FloodLine) -> Result<(), AllocError>
+    ensures { Adds result text.old.items text.new.items (line_of (flood_columns line.now)) }
 {
     let mut total = Buffer::new();
     let mut peak = Buffer::new();

@@ -2,12 +2,13 @@
 //! takes.
 
 ghost use Rattle.std.specs.Prelude.{◌≡◌, ◌++◌};
-ghost use Rattle.plant_types.specs.{Adding.{Adds}, Results.{OnlyMemory}};
+ghost use Rattle.plant_types.specs.Adding.{Adds};
 ghost use Rattle.plant_report.specs.Texts.{heading};
 
 use crate::columns::{push_column, push_last, push_moment};
 use itoa::Buffer;
-use plant_types::{Fault, Moment};
+use plant_types::Moment;
+use std::alloc::AllocError;
 
 /// How many bytes are allocated for a line at first; most lines take fewer.
 const LINE_ROOM: usize = 128;
@@ -24,10 +25,9 @@ pub fn push_heading(
     whose: &[u8],
     at: Moment,
     count: usize,
-) -> Result<(), Fault>
-    ensures value { Adds result text.old.items text.new.items
+) -> Result<(), AllocError>
+    ensures { Adds result text.old.items text.new.items
         (heading what.now whose.now at count) }
-    ensures err { OnlyMemory result }
 {
     let mut buffer = Buffer::new();
     push_column(text, what)?;

@@ -10,7 +10,7 @@ use crate::heading::{push_heading, room_for};
 use itoa::Buffer;
 use plant_model::{MineLine, ShelfLine};
 use plant_types::{Fault, Moment, Person, UnitCode};
-use std::alloc::Global;
+use std::alloc::{AllocError, Global};
 
 /// The shelves of a unit at a moment: a heading, and a line for each.
 #[tactic(auto, unfolding(crate::specs::Texts::shelf_text))]
@@ -51,17 +51,15 @@ pub fn mine_text(
     Ok(text)
 }
 
-fn push_mine(text: &mut Vec<u8>, line: &MineLine) -> Result<(), Fault>
-    ensures value { Adds result text.old.items text.new.items (line_of (mine_columns line.now)) }
-    ensures err { OnlyMemory result }
+fn push_mine(text: &mut Vec<u8>, line: &MineLine) -> Result<(), AllocError>
+    ensures { Adds result text.old.items text.new.items (line_of (mine_columns line.now)) }
 {
     push_left(text, 8, line.unit.as_bytes())?;
     push_shelf(text, &line.line)
 }
 
-fn push_shelf(text: &mut Vec<u8>, line: &ShelfLine) -> Result<(), Fault>
-    ensures value { Adds result text.old.items text.new.items (line_of (shelf_columns line.now)) }
-    ensures err { OnlyMemory result }
+fn push_shelf(text: &mut Vec<u8>, line: &ShelfLine) -> Result<(), AllocError>
+    ensures { Adds result text.old.items text.new.items (line_of (shelf_columns line.now)) }
 {
     let mut buffer = Buffer::new();
     push_left(text, 24, line.tag.as_bytes())?;

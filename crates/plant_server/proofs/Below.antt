@@ -9,7 +9,7 @@ use Rattle.plant_wire.specs.Ran.{Ran}
 
 -- the lower books hold whatever the upper ones hold, and a crash leaves no more of them
 pub record Hands (upper lower : BooksState) : Type 0 where
-  pub held : (m : Content) → upper.held m → lower.held m
+  pub represents : (m : Content) → upper.represents m → lower.represents m
   pub leaves : (x : Content) → lower.leaves x → upper.leaves x
   pub sound : upper.sound → lower.sound
 
@@ -17,7 +17,7 @@ handed : (upper lower : BooksState) → Hands upper lower → (w : World) (calls
     → AreAfter w calls answers lower
 handed upper lower it w calls answers k = record {
   long = k.long;
-  now = record { content = k.now.content; held = it.held k.now.content k.now.held; holds = k.now.holds; legal = k.now.legal };
+  now = record { content = k.now.content; represents = it.represents k.now.content k.now.represents; holds = k.now.holds; legal = k.now.legal };
   sound = it.sound k.sound;
   outcomes = λ x l. k.outcomes x (it.leaves x l);
 }
@@ -32,12 +32,12 @@ ran_below before after before_below after_below count counted_to count_below cou
     answers is =
     record {
       run = λ m h w legal rows told.
-          let run = is.run m (down.held m h) w legal rows (honest told) in
+          let run = is.run m (down.represents m h) w legal rows (honest told) in
           record {
             answered = run.answered;
             isolated = run.isolated;
             after = run.after;
-            left_it = up.held run.after run.left_it;
+            left_it = up.represents run.after run.left_it;
             holds = run.holds;
             legal = run.legal;
           };
@@ -56,6 +56,6 @@ ran_below before after before_below after_below count counted_to count_below cou
         honest = λ told. honest_before (is.stands.honest (honest told));
         kept = λ tidy some. honest_before (is.stands.kept (clean_after tidy) some);
         answered = λ tidy w at. is.stands.answered (clean_after tidy) w
-            (record { content = at.content; held = down.held at.content at.held; holds = at.holds; legal = at.legal });
+            (record { content = at.content; represents = down.represents at.content at.represents; holds = at.holds; legal = at.legal });
       };
     }

@@ -89,7 +89,7 @@ module _ {D N : Type 0} {g : Ghosts D} (before end : BooksState) (admin : Name) 
   ran_on_files calls answers is = record {
     answered = λ w at honest.
         let now = at.now (is.stands.honest (tells honest)) in
-        let run = is.run now.content now.held w now.legal now.holds (tells honest) in
+        let run = is.run now.content now.represents w now.legal now.holds (tells honest) in
         record { answered = run.answered; isolated = run.isolated };
     before_failure = λ w at clean. before_failure calls answers is w at (tidy (closing.clean clean));
     meanwhile = λ w at own clean. outcomes calls answers is w at own (closing.clean clean);

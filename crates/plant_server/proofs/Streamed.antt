@@ -44,7 +44,7 @@ module _ (ran also : List Call → List Answer → Type 0)
   sent s = record {
     events = s.events;
     count = s.count;
-    held = s.held;
+    connections = s.connections;
     made = follows _ _ s.made;
     answered = s.answered;
     goes = s.goes;
@@ -61,7 +61,7 @@ module _ (ran also : List Call → List Answer → Type 0)
 module _ (ran also : List Call → List Answer → Type 0)
     (follows : (calls : List Call) (answers : List Answer) → ran calls answers → also calls answers)
     (lost gone : Type 0) (loses : lost → gone) (s : Streams) where
-  streamed : (n : ExitStatus) → IsStreamed ran s n → IsStreamed also s n
+  pub streamed : (n : ExitStatus) → IsStreamed ran s n → IsStreamed also s n
   streamed n is = record {
     end = is.end;
     ended = is.ended;

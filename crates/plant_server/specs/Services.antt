@@ -1,14 +1,15 @@
 -- How one session over the streams, or the connections of a port, were served.
 use Rattle.std.specs.Io.KnownBytes.{Appends}
-use Rattle.std.specs.Prelude.{Bool, true, false, IsTrue, List, [], ℕ, length, map, nat_lt, ◌≡◌, ◌≤◌}
+use Rattle.std.specs.Prelude.{Bool, true, false, if◌then◌else◌, IsTrue, List, [], ℕ, length, map, nat_lt, ◌≡◌, ◌≤◌}
 use Rattle.std.specs.Prelude.{Err, None, Ok, Option, Result, Some}
-use Rattle.plant_server_listener.specs.Connections.{AreExchanges, Exchange, answers_over, calls_over}
+use Rattle.plant_server_listener.specs.Connections.{AreExchanges, Exchange, answers_over, calls_over, faults_of}
 use Rattle.plant_server_listener.specs.declared.while_open.Stopped.{Stopped}
 use Rattle.plant_server_listener.specs.declared.while_open.Stopped.TheVariants as stopped
 use Rattle.plant_server_options.specs.declared.words.Service.{Service}
-use Rattle.plant_server_clients.specs.{Accounts.{AreSent, Outcome}, Events.{AreTold, Event}}
+use Rattle.plant_server_clients.specs.{Accounts.{AreSent, Outcome}, Events.{AreTold, Event}, Faults.{reported_faults}}
 use Rattle.plant_server_log.specs.Log.{Tells, TellsFaults}
 use Rattle.plant_server_clients.specs.declared.serving.Halted.TheVariants as halted
+use Rattle.plant_office.specs.declared.office.Faults.{Faults}
 use Rattle.plant_model.specs.declared.{call.Call.{Call}, reply.Answer.{Answer}}
 use Rattle.plant_server.specs.Statuses.{end_text, exit_status_of, few_descriptors_text, halted_text, listening_text, served, served_at_once, stopped_text}
 use Rattle.plant_server.specs.Streams.{Bytes, IsSaid, Lines, Streams}
@@ -28,9 +29,10 @@ pub record IsStreamed (ran : OfCalls) (s : Streams) (n : ExitStatus) : Type 0 wh
   pub status : n ≡ exit_status_of end
 
 -- What was written while a port was served. On the output: the address on which it listens, and then the log. On
--- standard error: a notice, if there is one; then lines about faults that were answered; then why it is served no
+-- standard error: a notice, if there is one; then lines about the faults that were answered; then why it is served no
 -- longer.
-pub record ArePortLines (log : Bytes → Bytes → Type 0) (notice why : List ℕ) (lines : Lines) : Type 0 where
+pub record ArePortLines (log : Bytes → Bytes → Type 0) (notice : List ℕ) (kinds : List Faults) (why : List ℕ)
+    (lines : Lines) : Type 0 where
   pub address : List ℕ
   pub first : Bytes
   pub listening : IsSaid lines.printed first (listening_text address)
@@ -38,12 +40,17 @@ pub record ArePortLines (log : Bytes → Bytes → Type 0) (notice why : List �
   pub noted : Bytes
   pub told : Bytes
   pub said : IsSaid lines.reported noted notice
-  pub faults : TellsFaults noted told
+  pub faults : TellsFaults noted kinds told
   pub ended : IsSaid told lines.reported_after why
 
 -- the log got the lines of these events
 abbrev pub IsLogged : List Event → Bytes → Bytes → Type 0
 IsLogged events before after = (text : List ℕ) × AreTold events text × Appends before after text
+
+-- The kinds of fault that a service reports, if it reports any: after each connection those that its calls were
+-- answered. The latest come first.
+abbrev pub reported_in_turn : Bool → List Exchange → List Faults
+reported_in_turn reports exchanges = if reports then map faults_of exchanges else []
 
 -- all of n connections were served, or fewer
 abbrev pub AreAsMany : ℕ → ℕ → Result (Unit {0}) Stopped → Type 0
@@ -60,7 +67,8 @@ pub record AreInTurn (ran : OfCalls) (lost : Type 0) (service : Service) (lines 
   pub result : Result (Unit {0}) Stopped
   pub many : AreAsMany service.connections (length exchanges) result
   pub status : n ≡ served result
-  pub said : ArePortLines (λ before after. Tells before (map (λ x. x.end) exchanges) after) [] (stopped_text result) lines
+  pub said : ArePortLines (λ before after. Tells before (map (λ x. x.end) exchanges) after) []
+      (reported_in_turn service.while_open exchanges) (stopped_text result) lines
   pub shut : result ≡ Err stopped.Shut → IsTrue service.while_open × lost
 
 -- They were served many at once: as many in all as the service asks for, or fewer if the port failed, or if the store
@@ -70,7 +78,8 @@ pub record AreAtOnce (ran : OfCalls) (lost : Type 0) (service : Service) (lines 
   pub result : Outcome
   pub sent : AreSent ran service.connections result
   pub status : n ≡ served_at_once result
-  pub said : ArePortLines (IsLogged sent.events) few_descriptors_text (halted_text result) lines
+  pub said : ArePortLines (IsLogged sent.events) few_descriptors_text (reported_faults service.while_open sent.events)
+      (halted_text result) lines
   pub shut : result ≡ Err halted.Shut → IsTrue service.while_open × lost
 
 -- whether connections are served many at once

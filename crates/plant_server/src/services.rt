@@ -3,10 +3,10 @@
 
 ghost use Rattle.std.specs.{Duration.{as_nanos}, Prelude.{◌≡◌, ◌+◌, ◌*◌, List, ℕ, length, map, option_map}};
 ghost use Rattle.std.specs.Prelude.{Err, IsTrue, OnErr, OnOk};
-ghost use Rattle.plant_server_clients.specs.Accounts.{AreSent};
+ghost use Rattle.plant_server_clients.specs.{Accounts.{AreSent}, Faults.{reported_faults}};
 ghost use Rattle.plant_server_listener.specs.Connections.{AreExchanges, Exchange, answers_over, calls_over};
 ghost use Rattle.plant_server_log.specs.Log.{Tells, TellsFaults};
-ghost use Rattle.plant_server.specs.Services.{AreAsMany, AreOfPort, HasServed, IsLogged, IsStreamed, is_at_once};
+ghost use Rattle.plant_server.specs.Services.{AreAsMany, AreOfPort, HasServed, IsLogged, IsStreamed, is_at_once, reported_in_turn};
 ghost use Rattle.plant_server.specs.Streams.{Bytes, IsSaid, lines_of, streams_of};
 ghost use Rattle.plant_wire.specs.Over.{RanOn};
 ghost use Rattle.plant_server.specs.Statuses as statuses;
@@ -68,10 +68,10 @@ fn serve_listener<L: Listener, B: Books, W: Write, E: Write>(
     ensures served { (exchanges : List Exchange) × AreExchanges exchanges
         × RanOn B.Books office.old.books office.new.books (calls_over exchanges) (answers_over exchanges)
         × AreAsMany service.connections (length exchanges) result
-        × Tells (W.contents output.old) (map (λ x. x.end) exchanges) (W.contents output.new) }
+        × Tells (W.contents output.old) (map (λ x. x.end) exchanges) (W.contents output.new)
+        × TellsFaults (E.contents errors.old) (reported_in_turn service.while_open exchanges) (E.contents errors.new) }
     ensures shut { result ≡ Err Stopped.Shut
         → IsTrue service.while_open × (¬ B.is_honest office.new.books) }
-    ensures told { TellsFaults (E.contents errors.old) (E.contents errors.new) }
 {
     if service.while_open {
         return serve_while_open(alloc, listener, service.connections, office, output, errors);
@@ -111,10 +111,10 @@ fn serve_in_turn<B: Books, W: Write, E: Write>(
         × AreAsMany service.connections (length exchanges) result
         × (address : List ℕ) × (first : Bytes)
         × IsSaid (W.contents output.old) first (statuses.listening_text address)
-        × Tells first (map (λ x. x.end) exchanges) (W.contents output.new) }
+        × Tells first (map (λ x. x.end) exchanges) (W.contents output.new)
+        × TellsFaults (E.contents errors.old) (reported_in_turn service.while_open exchanges) (E.contents errors.new) }
     ensures shut { result ≡ Err Stopped.Shut
         → IsTrue service.while_open × (¬ B.is_honest office.new.books) }
-    ensures told { TellsFaults (E.contents errors.old) (E.contents errors.new) }
 {
     match listen_in_turn(rt, service, output) {
         Ok(mut port) => serve_listener(rt.alloc(), &mut port, office, service, output, errors),
@@ -161,9 +161,9 @@ fn serve_at_once<B: Books, W: Write, E: Write>(
     ensures sent { (sent : AreSent (RanOn B.Books office.old.books office.new.books) service.connections result)
         × (address : List ℕ) × (first : Bytes)
         × IsSaid (W.contents output.old) first (statuses.listening_text address)
-        × IsLogged sent.events first (W.contents output.new) }
-    ensures told { (warned : Bytes) × IsSaid (E.contents errors.old) warned statuses.few_descriptors_text
-        × TellsFaults warned (E.contents errors.new) }
+        × IsLogged sent.events first (W.contents output.new)
+        × (warned : Bytes) × IsSaid (E.contents errors.old) warned statuses.few_descriptors_text
+        × TellsFaults warned (reported_faults service.while_open sent.events) (E.contents errors.new) }
     ensures shut { result ≡ Err Halted.Shut
         → IsTrue service.while_open × (¬ B.is_honest office.new.books) }
 {

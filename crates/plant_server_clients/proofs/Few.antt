@@ -1,4 +1,4 @@
--- While one waits, fewer calls are made than connections were held.
+-- While one waits, fewer calls are made than connections were open.
 use Rattle.std.proofs.Common.{◌≡◌, ◌≢◌, ◌⊎◌, ◌<◌, ◌≤◌, ◌+◌, ℕ, List, [], ◌∷◌, Bool, true, false, true≢false, cond, length, inl, inr}
 use Rattle.std.proofs.Common.{refl, sym, ap, subst, ◌∙◌, arith, nat_eq, eq-eqb, eqb-true, length-append}
 use Rattle.std.proofs.lemmas.Bool.{eqb-false}
@@ -7,7 +7,7 @@ use Rattle.plant_wire_call.{specs.Front.{Item, StandsAtFront, body_length, item_
 use Rattle.plant_wire.specs.{Marks.{Last, begun, breaking, calls_of, last_marks, marked_item, nothing}, Session.{IsIdle}, Step.{StandsLast}}
 use Rattle.plant_server_clients.specs.Events.{Event, opened, came, ended, answered, broke, stopped, left, failed, closed, reported, who, of, all_calls, arrivals}
 use Rattle.plant_server_clients.specs.Events.{arrivals_in, calls_for, calls_in, marks_in, marks_of}
-use Rattle.plant_server_clients.specs.{Accounts.{AtEachMoment}, Fairness.{IsBounded, IsFair, IsSteady, held_after, held_with, without}}
+use Rattle.plant_server_clients.specs.{Accounts.{AtEachMoment}, Fairness.{IsBounded, IsFair, IsSteady, open_after, open_with, without}}
 use Rattle.plant_server_clients.specs.Stages.{Leads, Moves, Stage, fresh, gone, served, ending}
 use Rattle.plant_server_clients.proofs.Waited.{is_over, leads_once, leads_parts, none_of, not_over, over_leads, over_moves, own_marks, wait_moves}
 
@@ -35,75 +35,75 @@ dead : {A : Type 0} (s t : Stage) → s ≡ t → is_live t ≡ false → is_liv
 dead s t is off on = absurd (true≢false (sym on ∙ ap is_live is ∙ off))
 
 -- an event of the connection itself
-held_own : (ks : List ℕ) (s t : Stage) (e : Event) → Moves s e t → (is_live s ≡ true → Has (who e) ks) → is_live t ≡ true
-    → Has (who e) (held_with ks e)
-held_own ks fresh t (opened k) is has live = inl refl
-held_own ks fresh t (came k bytes) is has live = absurd is
-held_own ks fresh t (ended k) is has live = absurd is
-held_own ks fresh t (answered k mark) is has live = absurd is
-held_own ks fresh t (broke k cause) is has live = absurd is
-held_own ks fresh t (stopped k last) is has live = absurd is
-held_own ks fresh t (left k bytes) is has live = absurd is
-held_own ks fresh t (failed k trial) is has live = absurd is
-held_own ks fresh t (closed k how) is has live = absurd is
-held_own ks fresh t (reported ready) is has live = dead t fresh is refl live
-held_own ks (served u p) t (opened k) is has live = absurd is
-held_own ks (served u p) t (came k bytes) is has live = has refl
-held_own ks (served u p) t (ended k) is has live = has refl
-held_own ks (served u p) t (answered k mark) is has live = has refl
-held_own ks (served u p) t (broke k cause) is has live = has refl
-held_own ks (served u p) t (stopped k last) is has live = has refl
-held_own ks (served u p) t (left k bytes) is has live = has refl
-held_own ks (served u p) t (failed k trial) is has live = has refl
-held_own ks (served u p) t (closed k how) is has live = dead t gone is.1 refl live
-held_own ks (served u p) t (reported ready) is has live = has refl
-held_own ks (ending end p) t (opened k) is has live = absurd is
-held_own ks (ending end p) t (came k bytes) is has live = absurd is
-held_own ks (ending end p) t (ended k) is has live = absurd is
-held_own ks (ending end p) t (answered k mark) is has live = absurd is
-held_own ks (ending end p) t (broke k cause) is has live = absurd is
-held_own ks (ending end p) t (stopped k last) is has live = absurd is
-held_own ks (ending end p) t (left k bytes) is has live = has refl
-held_own ks (ending end p) t (failed k trial) is has live = has refl
-held_own ks (ending end p) t (closed k how) is has live = dead t gone is.1 refl live
-held_own ks (ending end p) t (reported ready) is has live = has refl
-held_own ks gone t (opened k) is has live = absurd is
-held_own ks gone t (came k bytes) is has live = absurd is
-held_own ks gone t (ended k) is has live = absurd is
-held_own ks gone t (answered k mark) is has live = absurd is
-held_own ks gone t (broke k cause) is has live = absurd is
-held_own ks gone t (stopped k last) is has live = absurd is
-held_own ks gone t (left k bytes) is has live = absurd is
-held_own ks gone t (failed k trial) is has live = absurd is
-held_own ks gone t (closed k how) is has live = absurd is
-held_own ks gone t (reported ready) is has live = dead t gone is refl live
+open_own : (ks : List ℕ) (s t : Stage) (e : Event) → Moves s e t → (is_live s ≡ true → Has (who e) ks) → is_live t ≡ true
+    → Has (who e) (open_with ks e)
+open_own ks fresh t (opened k) is has live = inl refl
+open_own ks fresh t (came k bytes) is has live = absurd is
+open_own ks fresh t (ended k) is has live = absurd is
+open_own ks fresh t (answered k mark) is has live = absurd is
+open_own ks fresh t (broke k cause) is has live = absurd is
+open_own ks fresh t (stopped k last) is has live = absurd is
+open_own ks fresh t (left k bytes) is has live = absurd is
+open_own ks fresh t (failed k trial) is has live = absurd is
+open_own ks fresh t (closed k how) is has live = absurd is
+open_own ks fresh t (reported ready) is has live = dead t fresh is refl live
+open_own ks (served u p) t (opened k) is has live = absurd is
+open_own ks (served u p) t (came k bytes) is has live = has refl
+open_own ks (served u p) t (ended k) is has live = has refl
+open_own ks (served u p) t (answered k mark) is has live = has refl
+open_own ks (served u p) t (broke k cause) is has live = has refl
+open_own ks (served u p) t (stopped k last) is has live = has refl
+open_own ks (served u p) t (left k bytes) is has live = has refl
+open_own ks (served u p) t (failed k trial) is has live = has refl
+open_own ks (served u p) t (closed k how) is has live = dead t gone is.1 refl live
+open_own ks (served u p) t (reported ready) is has live = has refl
+open_own ks (ending end p) t (opened k) is has live = absurd is
+open_own ks (ending end p) t (came k bytes) is has live = absurd is
+open_own ks (ending end p) t (ended k) is has live = absurd is
+open_own ks (ending end p) t (answered k mark) is has live = absurd is
+open_own ks (ending end p) t (broke k cause) is has live = absurd is
+open_own ks (ending end p) t (stopped k last) is has live = absurd is
+open_own ks (ending end p) t (left k bytes) is has live = has refl
+open_own ks (ending end p) t (failed k trial) is has live = has refl
+open_own ks (ending end p) t (closed k how) is has live = dead t gone is.1 refl live
+open_own ks (ending end p) t (reported ready) is has live = has refl
+open_own ks gone t (opened k) is has live = absurd is
+open_own ks gone t (came k bytes) is has live = absurd is
+open_own ks gone t (ended k) is has live = absurd is
+open_own ks gone t (answered k mark) is has live = absurd is
+open_own ks gone t (broke k cause) is has live = absurd is
+open_own ks gone t (stopped k last) is has live = absurd is
+open_own ks gone t (left k bytes) is has live = absurd is
+open_own ks gone t (failed k trial) is has live = absurd is
+open_own ks gone t (closed k how) is has live = absurd is
+open_own ks gone t (reported ready) is has live = dead t gone is refl live
 
 -- one of another
-held_other : (ks : List ℕ) (j : ℕ) (e : Event) → who e ≢ j → Has j ks → Has j (held_with ks e)
-held_other ks j (opened k) differ has = inr has
-held_other ks j (came k bytes) differ has = has
-held_other ks j (ended k) differ has = has
-held_other ks j (answered k mark) differ has = has
-held_other ks j (broke k cause) differ has = has
-held_other ks j (stopped k last) differ has = has
-held_other ks j (left k bytes) differ has = has
-held_other ks j (failed k trial) differ has = has
-held_other ks j (closed k how) differ has = has_without j k ks differ has
-held_other ks j (reported ready) differ has = has
+open_other : (ks : List ℕ) (j : ℕ) (e : Event) → who e ≢ j → Has j ks → Has j (open_with ks e)
+open_other ks j (opened k) differ has = inr has
+open_other ks j (came k bytes) differ has = has
+open_other ks j (ended k) differ has = has
+open_other ks j (answered k mark) differ has = has
+open_other ks j (broke k cause) differ has = has
+open_other ks j (stopped k last) differ has = has
+open_other ks j (left k bytes) differ has = has
+open_other ks j (failed k trial) differ has = has
+open_other ks j (closed k how) differ has = has_without j k ks differ has
+open_other ks j (reported ready) differ has = has
 
-held_live : (j : ℕ) (ks : List ℕ) (s t : Stage) (es : List Event) → (is_live s ≡ true → Has j ks) → Leads j s es t → is_live t ≡ true
-    → Has j (held_after ks es)
-held_live j ks s t [] has leads live = has (ap is_live (sym leads) ∙ live)
-held_live j ks s t (e ∷ es) has (mid, goes, rest) live = held_live j (held_with ks e) mid t es (one (nat_eq (who e) j) refl) rest live
+open_live : (j : ℕ) (ks : List ℕ) (s t : Stage) (es : List Event) → (is_live s ≡ true → Has j ks) → Leads j s es t → is_live t ≡ true
+    → Has j (open_after ks es)
+open_live j ks s t [] has leads live = has (ap is_live (sym leads) ∙ live)
+open_live j ks s t (e ∷ es) has (mid, goes, rest) live = open_live j (open_with ks e) mid t es (one (nat_eq (who e) j) refl) rest live
   where
-    one : (own : Bool) → nat_eq (who e) j ≡ own → is_live mid ≡ true → Has j (held_with ks e)
+    one : (own : Bool) → nat_eq (who e) j ≡ own → is_live mid ≡ true → Has j (open_with ks e)
     one true is now =
         let same = eqb-true (who e) j is in
-        subst (λ (i : ℕ). Has i (held_with ks e)) same
-        (held_own ks s mid e (goes.own same) (λ on. subst (λ (i : ℕ). Has i ks) (sym same) (has on)) now)
+        subst (λ (i : ℕ). Has i (open_with ks e)) same
+        (open_own ks s mid e (goes.own same) (λ on. subst (λ (i : ℕ). Has i ks) (sym same) (has on)) now)
     one false is now =
         let differ = eqb-false (who e) j is in
-        held_other ks j e differ (has (ap is_live (sym (goes.other differ)) ∙ now))
+        open_other ks j e differ (has (ap is_live (sym (goes.other differ)) ∙ now))
 
 -- Calls of one connection
 calls_one : (j : ℕ) (e : Event) (es : List Event) → length (calls_for j (e ∷ es)) ≡ length (of j e (calls_in e)) + length (calls_for j es)
@@ -315,8 +315,8 @@ total_fewer (j ∷ js) es k few none (inr has) = omega (arith, few j, total_fewe
 
 bounded_now : (now : List Event) → IsFair now → IsSteady now → ((k : ℕ) → (s : Stage) × Leads k fresh now s) → IsBounded now
 bounded_now now fair steady goes es since k is waited =
-    let most = covers (held_after [] es) since among in
-    let fewer = total_fewer (held_after [] es) since k each own here in
+    let most = covers (open_after [] es) since among in
+    let fewer = total_fewer (open_after [] es) since k each own here in
     omega (arith, most, fewer)
   where
     own : length (calls_for k since) ≡ 0
@@ -326,8 +326,8 @@ bounded_now now fair steady goes es since k is waited =
         let halves = leads_parts k fresh (served last.0 []) es since last.1 in
         wait_calls k first.0 last.0 halves.0 since (leads_once k fresh halves.0 (served first.0 []) es halves.1 first.1) first.2 halves.2 waited.2
 
-    here : Has k (held_after [] es)
-    here = held_live k [] fresh (served waited.0.0 []) es (λ off. absurd (true≢false (sym off))) waited.0.1 refl
+    here : Has k (open_after [] es)
+    here = open_live k [] fresh (served waited.0.0 []) es (λ off. absurd (true≢false (sym off))) waited.0.1 refl
 
     each : (j : ℕ) → length (calls_for j since) ≤ 1
     each j = one (nat_eq j k) refl
@@ -336,17 +336,17 @@ bounded_now now fair steady goes es since k is waited =
         one true e = subst (λ (i : ℕ). length (calls_for i since) ≤ 1) (sym (eqb-true j k e)) (omega (arith, own))
         one false e = fair es since k j is (eqb-false j k e) waited
 
-    among : (j : ℕ) → 0 < length (calls_for j since) → Has j (held_after [] es)
+    among : (j : ℕ) → 0 < length (calls_for j since) → Has j (open_after [] es)
     among j some =
         let all = goes j in
         let halves = leads_parts j fresh all.0 es since (subst (λ (ys : List Event). Leads j fresh ys all.0) is all.1) in
         by_stage halves.0 halves.1 all.0 halves.2
       where
-        by_stage : (s : Stage) → Leads j fresh es s → (t : Stage) → Leads j s since t → Has j (held_after [] es)
+        by_stage : (s : Stage) → Leads j fresh es s → (t : Stage) → Leads j s since t → Has j (open_after [] es)
         by_stage fresh first t next =
             let none = fresh_calls j fresh t since refl next (steady es since k is waited) in absurd (omega (arith, none, some))
-        by_stage (served u p) first t next = held_live j [] fresh (served u p) es (λ off. absurd (true≢false (sym off))) first refl
-        by_stage (ending end p) first t next = held_live j [] fresh (ending end p) es (λ off. absurd (true≢false (sym off))) first refl
+        by_stage (served u p) first t next = open_live j [] fresh (served u p) es (λ off. absurd (true≢false (sym off))) first refl
+        by_stage (ending end p) first t next = open_live j [] fresh (ending end p) es (λ off. absurd (true≢false (sym off))) first refl
         by_stage gone first t next = let none = over_calls j gone t since next refl in absurd (omega (arith, none, some))
 
 pub bounded : (events : List Event) (last : ℕ → Stage) → ((k : ℕ) → Leads k fresh events (last k)) → AtEachMoment IsFair events

@@ -3,11 +3,12 @@ use Rattle.std.proofs.Common.{◌≡◌, ◌≢◌, ◌+◌, slice_get, slice_se
 use Rattle.std.proofs.Common.{take, Bool, false, true, ◌≤◌, length, arith, eq-eqb, cond}
 use Rattle.std.specs.{Io.KnownBytes.{Appends}, List.{remove}, Prelude.{Err}}
 use Rattle.plant_books.specs.declared.books.Books as books
-use Rattle.plant_wire.specs.{Causes.{cause_text}, Marks.{IsFaultless, Last, Mark, answers_of, begun, breaking, calls_of, last_marks, last_text, malformed, mark_text, nothing, said}, Over.{RanOn}}
+use Rattle.plant_wire.specs.{Causes.{cause_text}, Marks.{IsFaultless, Last, Mark, answers_of, begun, breaking, calls_of, last_marks, last_text, malformed, mark_text, nothing, said}, Over.{RanNoting}}
 use Rattle.plant_wire.specs.Step.{AnswersBroken, AnswersOne, AnswersPart, Stalls, StandsLast}
 use Rattle.plant_wire.specs.Session.{IsIdle}
 use Rattle.plant_wire_call.specs.declared.causes.Cause.{Cause}
 use Rattle.plant_wire.specs.declared.{reads.End.{End, TheVariants.{BrokenInput, Fault}}, step.{Step.{Step}, Stop.{Stop}}}
+use Rattle.plant_office.{specs.{Faults.{noted}, declared.office.Faults.{Faults}}, proofs.public.FaultLaws.{added_none}}
 use Rattle.plant_server_log.specs.Log.{line_of}
 use Rattle.plant_server_clients.specs.Events.{Event, IsToldBy, Log, Logs, Shows, Trial, answered, answers_in, broke, calls_in, came, closed, ended, failed}
 use Rattle.plant_server_clients.specs.Events.{all_calls, arrivals, left, marks_of, opened, port_in, reading, seen_by, stopped, who, writing}
@@ -15,7 +16,7 @@ use Rattle.plant_server_clients.specs.{Causes.{Always, AreDue, CausedAt, Expired
 use Rattle.plant_server_clients.specs.Stages.{AreOpenConnections, Goes, IsOpen, Leads, MayClose, Moves, Stage, end_for, served, ending, stage_by, stage_in}
 use Rattle.plant_server_clients.specs.Happens.{Answers, ConnectionState, Happened, Made, Moved, Passed, ServiceState, Turned, Went, connection_state}
 use Rattle.plant_server_clients.proofs.Due.{due_answered, due_broke, due_came, due_closed, due_ended, due_failed, due_left, due_none, due_opened, due_stopped}
-use Rattle.plant_server_clients.proofs.{Due.{due_then, late_cause}, Held.{lifted, lifted_closed, lifted_opened}, Leading.{makes_none, shows_untold}}
+use Rattle.plant_server_clients.proofs.{Due.{due_then, late_cause}, Numbers.{lifted, lifted_closed, lifted_opened}, Leading.{makes_none, shows_untold}}
 use Rattle.plant_server_clients.proofs.{Texts.{cause_some, mark_some, stop_faultless}, Waited.{idle_stage}}
 use Rattle.plant_server_clients.specs.declared.connections.{Asked.{Asked}, Connection.{Connection}}
 
@@ -180,13 +181,15 @@ abbrev DueBefore : Connection → Connection → Event → Type 0
 DueBefore l l' e = (last : Option Event) (later : List Event) → ((each : Option Event) → AreDue each later)
     → (l'.pending.text.items ≢ [] → OffersTo l.number later) → AreDue last (e ∷ later)
 
-module _ {B : Type 0} (b : books.Ghosts B) (x y : B) (honest : b.is_honest y → b.is_honest x) (l l' : Connection) (same : l'.number ≡ l.number) where
+module _ {B : Type 0} (b : books.Ghosts B) (x y : B) (f g : Faults) (honest : b.is_honest y → b.is_honest x) (l l' : Connection)
+    (same : l'.number ≡ l.number) where
   -- no request was answered, since none is whole
-  pub made_waiting : RanOn b x y [] [] → stage_in l' ≡ stage_in l → IsIdle l.unread.items → Made b x y l l' true
+  pub made_waiting : RanNoting b x y f g [] [] → stage_in l' ≡ stage_in l → IsIdle l.unread.items → Made b x y f g l l' true
   made_waiting ran stays idle = record {
     events = [];
     unseen = refl;
-    makes = record { ran = ran; honest = honest };
+    makes = record { ran = ran.0; honest = honest };
+    notes = ran.1;
     went = went_none l l' same stays;
     once = omega arith;
     answers = λ _ u at busy none v leads. busy (idle_stage l.unread.items l.pending.text.items l.end u (λ _ _. idle) at);
@@ -196,13 +199,14 @@ module _ {B : Type 0} (b : books.Ghosts B) (x y : B) (honest : b.is_honest y →
   }
 
   made_one : (e : Event) → who e ≡ l.number → (port_in e ≡ []) → IsToldBy e []
-      → RanOn b x y (calls_in e) (answers_in e) → Moves (stage_in l) e (stage_in l') → length (all_calls (e ∷ [])) ≤ 1 → Answers l (e ∷ [])
+      → RanNoting b x y f g (calls_in e) (answers_in e) → Moves (stage_in l) e (stage_in l') → length (all_calls (e ∷ [])) ≤ 1 → Answers l (e ∷ [])
       → length (arrivals (e ∷ [])) ≡ 0 → DueBefore l l' e
-      → Made b x y l l' true
+      → Made b x y f g l l' true
   made_one e is unseen untold ran moves few answers calm due = record {
     events = e ∷ [];
     unseen = append-nil (port_in e) ∙ unseen;
-    makes = (y, record { ran = ran; honest = honest }, makes_none b y);
+    makes = (y, record { ran = ran.0; honest = honest }, makes_none b y);
+    notes = ran.1 ∙ ap (noted f) (sym (append-nil (answers_in e)));
     went = went_one l l' e same is untold moves;
     once = few;
     answers = λ _. answers;
@@ -213,8 +217,8 @@ module _ {B : Type 0} (b : books.Ghosts B) (x y : B) (honest : b.is_honest y →
 
   module _ (is : l.end ≡ None) (empty : l.pending.text.items ≡ []) (before : List ℕ) (none_before : before ≡ []) where
     -- one request was answered
-    pub made_answered : (n : ℕ) → AnswersOne l.unread.items (Some before) (Some l'.pending.text.items) (RanOn b x y) n
-        → stage_in l' ≡ served (drop n l.unread.items) l'.pending.text.items → Made b x y l l' true
+    pub made_answered : (n : ℕ) → AnswersOne l.unread.items (Some before) (Some l'.pending.text.items) (RanNoting b x y f g) n
+        → stage_in l' ≡ served (drop n l.unread.items) l'.pending.text.items → Made b x y f g l l' true
     made_answered n a now =
         let text : l'.pending.text.items ≡ mark_text a.mark = a.writes ∙ ap (λ (t : List ℕ). t ++ mark_text a.mark) none_before in
         made_one (answered l.number a.mark) refl refl refl a.served (rw is (empty, (n, a.stands, now ∙ ap (served (drop n l.unread.items)) text)))
@@ -223,8 +227,8 @@ module _ {B : Type 0} (b : books.Ghosts B) (x y : B) (honest : b.is_honest y →
         due_answered last l.number a.mark later (offers (λ gone_text. mark_some a.mark (sym text ∙ gone_text))) (each (Some (answered l.number a.mark))))
 
     -- the cause that breaks the stream was answered
-    pub made_broke : AnswersBroken l.unread.items (Some before) (Some l'.pending.text.items) (RanOn b x y)
-        → stage_in l' ≡ ending BrokenInput l'.pending.text.items → Made b x y l l' true
+    pub made_broke : AnswersBroken l.unread.items (Some before) (Some l'.pending.text.items) (RanNoting b x y f g)
+        → stage_in l' ≡ ending BrokenInput l'.pending.text.items → Made b x y f g l l' true
     made_broke a now =
         let text : l'.pending.text.items ≡ cause_text a.cause = a.writes ∙ ap (λ (t : List ℕ). t ++ cause_text a.cause) none_before in
         made_one (broke l.number a.cause) refl refl refl a.served (rw is (empty, a.stands, now ∙ ap (ending BrokenInput) text))
@@ -233,34 +237,35 @@ module _ {B : Type 0} (b : books.Ghosts B) (x y : B) (honest : b.is_honest y →
         due_broke last l.number a.cause later (offers (λ gone_text. cause_some a.cause (sym text ∙ gone_text))) (each (Some (broke l.number a.cause))))
 
     -- memory ran out for what was begun
-    made_stopped : (last : Last) → StandsLast l.unread.items last → IsFaultless last → RanOn b x y (calls_of (last_marks last)) (answers_of (last_marks last))
-        → stage_in l' ≡ ending Fault [] → Made b x y l l' true
+    made_stopped : (last : Last) → StandsLast l.unread.items last → IsFaultless last → RanNoting b x y f g (calls_of (last_marks last)) (answers_of (last_marks last))
+        → stage_in l' ≡ ending Fault [] → Made b x y f g l l' true
     made_stopped last stands why ran now =
         made_one (stopped l.number last) refl refl refl ran (rw is (empty, stands, why, now))
         (few_calls (last_marks last) (one_last last)) (λ u at busy none v leads. ends_stopped l.number u v last (stage_in l) at leads) refl
         (λ before later each offers.
         due_then before (stopped l.number last ∷ []) later (due_stopped before l.number last) (each (Some (stopped l.number last))))
 
-    pub made_part : (stop : Stop) (after : List ℕ) (lost : ℕ) (short : Bool) → AnswersPart l.unread.items (Some before) (Some after) (RanOn b x y) stop
+    pub made_part : (stop : Stop) (after : List ℕ) (lost : ℕ) (short : Bool) → AnswersPart l.unread.items (Some before) (Some after) (RanNoting b x y f g) stop
         → Stalls {A = Step} lost (cond short 1 0) (Err stop) → (short ≡ true → least_room_of_answers ≤ length after)
-        → stage_in l' ≡ ending Fault [] → Made b x y l l' true
+        → stage_in l' ≡ ending Fault [] → Made b x y f g l l' true
     made_part stop after lost short a stalls full now =
         let text : after ≡ take a.part (last_text a.last) = a.writes ∙ ap (λ (t : List ℕ). t ++ take a.part (last_text a.last)) none_before in
         made_stopped a.last a.stands (stop_faultless a.last a.part lost short stop a.why stalls
         (λ is_short. subst (λ (t : List ℕ). least_room_of_answers ≤ length t) text (full is_short))) a.served now
 
 -- memory ran out before anything was begun
-pub made_short : {B : Type 0} (b : books.Ghosts B) (x : B) (l l' : Connection) → l'.number ≡ l.number → l.end ≡ None → l.pending.text.items ≡ []
-    → stage_in l' ≡ ending Fault [] → Made b x x l l' true
-made_short b x l l' same is empty now =
-    made_stopped b x x (λ t. t) l l' same is empty [] refl nothing tt tt (makes_none b x).ran now
+pub made_short : {B : Type 0} (b : books.Ghosts B) (x : B) (f : Faults) (l l' : Connection) → l'.number ≡ l.number → l.end ≡ None → l.pending.text.items ≡ []
+    → stage_in l' ≡ ending Fault [] → Made b x x f f l l' true
+made_short b x f l l' same is empty now =
+    made_stopped b x x f f (λ t. t) l l' same is empty [] refl nothing tt tt ((makes_none b x).ran, sym (added_none f)) now
 
-pub made_none : {B : Type 0} (b : books.Ghosts B) (x : B) (l : Connection) (serves : Bool)
-    → (serves ≡ true → (u : List ℕ) → stage_in l ≡ served u [] → IsIdle u) → Made b x x l l serves
-made_none b x l serves idle = record {
+pub made_none : {B : Type 0} (b : books.Ghosts B) (x : B) (f : Faults) (l : Connection) (serves : Bool)
+    → (serves ≡ true → (u : List ℕ) → stage_in l ≡ served u [] → IsIdle u) → Made b x x f f l l serves
+made_none b x f l serves idle = record {
   events = [];
   unseen = refl;
   makes = makes_none b x;
+  notes = sym (added_none f);
   went = went_none l l refl refl;
   once = omega arith;
   answers = λ is u at busy none v leads. busy (idle is u at);

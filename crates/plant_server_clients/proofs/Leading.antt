@@ -4,7 +4,8 @@ use Rattle.std.specs.Prelude.{IfSome}
 use Rattle.std.{proofs.{KnownBytes.{Appends-nil, Appends-trans}, lemmas.Grind.{flat_map-append}}}
 use Rattle.plant_model.specs.declared.{call.Call.{Call}, reply.Answer.{Answer}}
 use Rattle.plant_books.specs.declared.books.Books as books
-use Rattle.plant_office.specs.Enduring.{books_state}
+use Rattle.plant_office.specs.{Enduring.{books_state}, Faults.{noted}}
+use Rattle.plant_office.proofs.public.FaultLaws.{added_none}
 use Rattle.plant_wire.proofs.public.Running.{ran_none, ran_joins}
 use Rattle.plant_server_clients.specs.Books.{AreQuiet, IsMoment, Makes, MakesEach}
 use Rattle.plant_server_clients.specs.Events.{AreTold, Event, Logs, Seen, Shows, all_answers, all_calls, answers_in, at_ports, calls_in, failed, port_in, reading}
@@ -211,12 +212,12 @@ went_then es fs l m n p q = record {
 
 module _ {B : Type 0} (b : books.Ghosts B) where
   -- a read of the connection, an answer and a write
-  pub turned_all : (x y : B) (s t u : Option (List Event)) (l m n o : Connection) (asked : Asked) (here goes_on : Bool) (over : Option End)
-      (p : Moved s t l m asked.reads reading here) (made : Made b x y m n asked.serves) (q : Moved t u n o false writing goes_on)
+  pub turned_all : (x y : B) (f g : Faults) (s t u : Option (List Event)) (l m n o : Connection) (asked : Asked) (here goes_on : Bool) (over : Option End)
+      (p : Moved s t l m asked.reads reading here) (made : Made b x y f g m n asked.serves) (q : Moved t u n o false writing goes_on)
       → IsTurnOf l asked.reads asked.serves (p.events ++ (made.events ++ q.events))
       → IfSome over (λ end. IsDueTo o end (p.events ++ (made.events ++ q.events)))
       → Turned b x y (connection_state s l) (connection_state u o) asked over
-  turned_all x y s t u l m n o asked here goes_on over p made q one why = record {
+  turned_all x y f g s t u l m n o asked here goes_on over p made q one why = record {
     events = p.events ++ (made.events ++ q.events);
     logged = logged_then s t u p.events (made.events ++ q.events) p.logged
         (logged_then t t u made.events q.events (subst (λ (es : List Event). Logs t t es) (sym made.unseen) (logs_none t)) q.logged);
@@ -240,29 +241,50 @@ module _ {B : Type 0} (b : books.Ghosts B) where
   }
 
   -- a write that failed
-  pub lost_write : (x y : B) (s t u : Option (List Event)) (l m n o : Connection) (reads serves here : Bool) (p : Moved s t l m reads reading here)
-      (made : Made b x y m n serves) (q : Moved t u n o false writing false) → IsDueTo o WriteFailed (p.events ++ (made.events ++ q.events))
-  lost_write x y s t u l m n o reads serves here p made q =
+  pub lost_write : (x y : B) (f g : Faults) (s t u : Option (List Event)) (l m n o : Connection) (reads serves here : Bool) (p : Moved s t l m reads reading here)
+      (made : Made b x y f g m n serves) (q : Moved t u n o false writing false) → IsDueTo o WriteFailed (p.events ++ (made.events ++ q.events))
+  lost_write x y f g s t u l m n o reads serves here p made q =
       inr (λ before. inl (last_then before p.events (made.events ++ q.events) ∙ last_then (last_of before p.events) made.events q.events
       ∙ q.lost refl (last_of (last_of before p.events) made.events) ∙ ap (λ k. Some (failed k writing)) (sym q.went.same)))
 
-  -- other faults of the connection are noted as reported
-  turned_with : (x y : B) (before : ConnectionState) (t : Option (List Event)) (m : Connection) (faults : Faults) (asked : Asked) (over : Option End)
-      → Turned b x y before (connection_state t m) asked over → Turned b x y before (connection_state t (reporting m faults)) asked over
-  turned_with x y before t m faults asked over p = record {
-    events = p.events;
-    logged = p.logged;
-    makes = p.makes;
-    went = record { own = p.went.own; same = p.went.same; untold = p.went.untold; leads = p.went.leads };
-    one = p.one;
-    why = p.why;
-  }
-
-  -- then its faults were reported, or not
-  pub turned_reported : (x y y' : B) (before : ConnectionState) (t : Option (List Event)) (m m' : Connection) (asked : Asked) (over : Option End)
+  -- then faults of the connection were reported, or not
+  unfoldable pub turned_reported : (x y y' : B) (before : ConnectionState) (t : Option (List Event)) (m m' : Connection) (asked : Asked) (over : Option End)
       → y' ≡ y → m' ≡ reporting m m'.faults → Turned b x y before (connection_state t m) asked over
       → Turned b x y' before (connection_state t m') asked over
   turned_reported x y y' before t m m' asked over same is p =
-      subst (λ (z : B). Turned b x z before (connection_state t m') asked over) (sym same)
-      (subst (λ (n : Connection). Turned b x y before (connection_state t n) asked over) (sym is)
-      (turned_with x y before t m m'.faults asked over p))
+      let went : Went p.events before.connection (reporting m m'.faults) =
+      record { own = p.went.own; same = p.went.same; untold = p.went.untold; leads = p.went.leads } in
+      let why : IfSome over (λ end. IsDueTo (reporting m m'.faults) end p.events) = p.why in
+      record {
+        events = p.events;
+        logged = p.logged;
+        makes = subst (λ (z : B). MakesEach b x p.events z) (sym same) p.makes;
+        went = subst (λ (n : Connection). Went p.events before.connection n) (sym is) went;
+        one = p.one;
+        why = subst (λ (n : Connection). IfSome over (λ end. IsDueTo n end p.events)) (sym is) why;
+      }
+
+-- the answers of a turn
+no_answers : (es : List Event) → AreQuiet es → all_answers es ≡ []
+no_answers [] quiet = refl
+no_answers (e ∷ es) quiet = ap (λ xs. xs ++ all_answers es) quiet.1 ∙ no_answers es quiet.2
+
+module _ {B : Type 0} (b : books.Ghosts B) where
+  pub notes_all : (x y : B) (f g : Faults) (s t u : Option (List Event)) (l m n o : Connection) (asked : Asked) (here goes_on : Bool)
+      (over : Option End) (p : Moved s t l m asked.reads reading here) (made : Made b x y f g m n asked.serves) (q : Moved t u n o false writing goes_on)
+      (one : IsTurnOf l asked.reads asked.serves (p.events ++ (made.events ++ q.events)))
+      (why : IfSome over (λ end. IsDueTo o end (p.events ++ (made.events ++ q.events))))
+      → g ≡ noted f (all_answers (turned_all b x y f g s t u l m n o asked here goes_on over p made q one why).events)
+  unfolding turned_all
+  notes_all x y f g s t u l m n o asked here goes_on over p made q one why =
+      let first : all_answers (p.events ++ (made.events ++ q.events)) ≡ all_answers (made.events ++ q.events) =
+      flat_map-append answers_in p.events (made.events ++ q.events)
+      ∙ ap (λ xs. xs ++ all_answers (made.events ++ q.events)) (no_answers p.events p.quiet) in
+      let last : all_answers (made.events ++ q.events) ≡ all_answers made.events = flat_map-append answers_in made.events q.events
+      ∙ ap (λ xs. all_answers made.events ++ xs) (no_answers q.events q.quiet) ∙ append-nil (all_answers made.events) in
+      made.notes ∙ ap (noted f) (sym (first ∙ last))
+
+  pub notes_short : (x : B) (f : Faults) (s t : Option (List Event)) (l m : Connection) (asked : Asked) (p : Moved s t l m asked.reads reading false)
+      (one : IsTurnOf l asked.reads asked.serves p.events) → f ≡ noted f (all_answers (turned_short b x s t l m asked p one).events)
+  unfolding turned_short
+  notes_short x f s t l m asked p one = sym (added_none f) ∙ ap (noted f) (sym (no_answers p.events p.quiet))

@@ -5,7 +5,8 @@ mod Waited
 mod Paced
 mod OneTurn
 mod Rounds
-mod Held
+mod Numbers
+mod Aligned
 mod Moments
 mod Ends
 mod Handled
@@ -16,3 +17,4 @@ mod Waits
 mod Apart
 mod Few
 mod Ordered
+mod Telling

@@ -2,6 +2,7 @@
 use Rattle.std.proofs.Common.{◌≡◌, ◌+◌, ℕ, List, [], ◌∷◌, ◌++◌, Bool, false, Option, length, inl, inr, refl, sym, ap, subst, ◌∙◌, arith, length-append}
 use Rattle.std.proofs.lemmas.Grind.{flat_map-append}
 use Rattle.plant_books.specs.declared.books.Books as books
+use Rattle.plant_office.specs.declared.office.Faults.{Faults}
 use Rattle.plant_wire.specs.{declared.reads.End.TheVariants.{ReadFailed}}
 use Rattle.plant_server_clients.specs.{Books.{AreQuiet}, Causes.{OffersTo, last_of}}
 use Rattle.plant_server_clients.specs.Events.{Event, all_calls, arrivals, arrivals_in, calls_in, closed, marks_of, reading, writing}
@@ -26,8 +27,9 @@ arrive_all es fs gs =
     ap length (flat_map-append arrivals_in es (fs ++ gs)) ∙ length-append (arrivals es) (arrivals (fs ++ gs))
     ∙ ap (λ n. length (arrivals es) + n) (ap length (flat_map-append arrivals_in fs gs) ∙ length-append (arrivals fs) (arrivals gs))
 
-module _ {B : Type 0} (b : books.Ghosts B) (x y : B) (s t u : Option (List Event)) (l m n o : Connection) (reads serves here goes_on : Bool) where
-  pub turn_one : (p : Moved s t l m reads reading here) (made : Made b x y m n serves) (q : Moved t u n o false writing goes_on)
+module _ {B : Type 0} (b : books.Ghosts B) (x y : B) (f g : Faults) (s t u : Option (List Event)) (l m n o : Connection)
+    (reads serves here goes_on : Bool) where
+  pub turn_one : (p : Moved s t l m reads reading here) (made : Made b x y f g m n serves) (q : Moved t u n o false writing goes_on)
       → IsTurnOf l reads serves (p.events ++ (made.events ++ q.events))
   turn_one p made q = record {
     own = (went_then p.events (made.events ++ q.events) l m o p.went (went_then made.events q.events m n o made.went q.went)).own;

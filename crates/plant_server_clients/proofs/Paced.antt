@@ -7,8 +7,8 @@ use Rattle.plant_server_clients.specs.Events.{Event, all_calls, arrivals, arriva
 use Rattle.plant_server_clients.specs.{Accounts.{AtEachMoment}, Fairness.{HasWaited, IsFair, IsSteady, IsWaiting}, Happens.{AreOf, IsTurnOf}, Prompt.{ArePrompt}}
 use Rattle.plant_server_clients.specs.Paces.{AreKept, AreRising, Came, IsBelow, IsPaced, IsStill, Keeps, Owes, Splits, numbers}
 use Rattle.plant_server_clients.specs.Stages.{AreOpenConnections, Leads, Stage, fresh, served, connection_with, stage_of}
-use Rattle.plant_server_clients.proofs.{Due.{due_then}, Held.{stage_at}, Leading.{leads_then}}
-use Rattle.plant_server_clients.proofs.Waited.{WaitedOn, counted_of, held_of, leads_once, leads_parts, none_waits, waited_on, waits_before, waits_calm}
+use Rattle.plant_server_clients.proofs.{Due.{due_then}, Numbers.{stage_at}, Leading.{leads_then}}
+use Rattle.plant_server_clients.proofs.Waited.{WaitedOn, counted_of, open_of, leads_once, leads_parts, none_waits, waited_on, waits_before, waits_calm}
 use Rattle.plant_server_clients.specs.declared.connections.Connection.{Connection}
 
 -- Lists in two ways
@@ -500,8 +500,8 @@ turn_keeps b at count ls l fs ok rising is splits one es now leads kept =
   where
     placed : (k : ℕ) → IsWaiting k es → k ≢ l.number → (k < l.number) ⊎ (b ≤ k)
     placed k (u, at_it, busy) differ =
-        let held = held_of k count ls u [] (leads_once k fresh (stage_of k count ls) (served u []) es (leads k) at_it) in
-        placed_at b at k ls l held.0 splits rising is held.1 differ
+        let it = open_of k count ls u [] (leads_once k fresh (stage_of k count ls) (served u []) es (leads k) at_it) in
+        placed_at b at k ls l it.0 splits rising is it.1 differ
 
     answered : IsWaiting l.number es → marks_of l.number fs ≡ [] → IsWaiting l.number (es ++ fs) → ⊥
     answered (u, at_it, busy) none (v, all, still_busy) =
@@ -547,17 +547,17 @@ come_keeps given count ls first fs quiet few goes due es now leads kept = record
 -- after it all had
 pub keeps_end : (given : Option Event → Type 0) (a b count : ℕ) (ls : List Connection) (first : ℕ → Stage) (es : List Event)
     → ((k : ℕ) → Leads k (first k) es (stage_of k count ls)) → Splits b zero (numbers ls) → Keeps given a b first es → Keeps given a 0 first es
-keeps_end given a b count ls first es goes splits p before held leads kept =
+keeps_end given a b count ls first es goes splits p before it leads kept =
     record { paced = paced; still = still; fair = after.fair; steady = after.steady; due = after.due }
   where
     after : AreKept b (before ++ es)
-    after = p before held leads kept
+    after = p before it leads kept
 
     reached : (k : ℕ) → IsWaiting k (before ++ es) → b ≤ k
     reached k now =
         let all = leads_then k fresh (first k) (stage_of k count ls) before es (leads k) (goes k) in
-        let held = held_of k count ls now.0 [] (leads_once k fresh (stage_of k count ls) (served now.0 []) (before ++ es) all now.1) in
-        from_at b k ls held.0 splits held.1
+        let it = open_of k count ls now.0 [] (leads_once k fresh (stage_of k count ls) (served now.0 []) (before ++ es) all now.1) in
+        from_at b k ls it.0 splits it.1
 
     still : IsStill 0 (before ++ es)
     still xs since k is waited =
@@ -569,8 +569,8 @@ keeps_end given a b count ls first es goes splits p before held leads kept =
         let owes = after.paced xs since k j is apart waited in
         let now = subst (IsWaiting k) (sym is) waited.1 in
         let all = leads_then k fresh (first k) (stage_of k count ls) before es (leads k) (goes k) in
-        let held = held_of k count ls now.0 [] (leads_once k fresh (stage_of k count ls) (served now.0 []) (before ++ es) all now.1) in
-        let le = from_at b k ls held.0 splits held.1 in
+        let it = open_of k count ls now.0 [] (leads_once k fresh (stage_of k count ls) (served now.0 []) (before ++ es) all now.1) in
+        let le = from_at b k ls it.0 splits it.1 in
         record {
           one = owes.one;
           between = λ p q. absurd (omega arith);

@@ -8,12 +8,12 @@ use Rattle.plant_books.specs.declared.books.Books as books
 use Rattle.plant_server_clients.specs.{Accounts.{AtEachMoment}, Causes.{Always, CausedAt, HasCause, HasReported, IsDueTo, last_of}}
 use Rattle.plant_server_clients.specs.Events.{Event, Logs, Seen, arrivals, calls_for, reported, reports, reports_in}
 use Rattle.plant_server_clients.specs.{Fairness.{IsFair, IsSteady}, Happens.{ConnectionState, Happened, Passed, ServiceState, Turned, connection_state, stages}}
-use Rattle.plant_server_clients.specs.Held.{IsRound, IsTurn, IsTurnAt, IsUnderWay, IsWithinRound, new_service}
+use Rattle.plant_server_clients.specs.Service.{IsRound, IsTurn, IsTurnAt, IsUnderWay, IsWithinRound, new_service}
 use Rattle.plant_server_clients.specs.{Paces.{AreKept, AreRising, IsPaced, IsStill, Keeps, Splits, numbers}, Prompt.{ArePrompt}}
 use Rattle.plant_server_clients.specs.Stages.{AreOpenConnections, Leads, Stage, fresh, stage_in, stage_of}
 use Rattle.plant_server_clients.proofs.Handled.{events_connection, happened_connection, turned_at}
 use Rattle.plant_server_clients.proofs.Leading.{events_asked, events_none, events_passed, events_then, happened_asked, happened_none, happened_passed, sees}
-use Rattle.plant_server_clients.proofs.{Due.{due_none, due_reported, last_then, connection_cause}, Held.{lifted, none_yet, set_got, set_connections, stage_at}}
+use Rattle.plant_server_clients.proofs.{Due.{due_none, due_reported, last_then, connection_cause}, Numbers.{lifted, none_yet, set_got, set_connections, stage_at}}
 use Rattle.plant_server_clients.proofs.{Leading.{happened_then}, Waited.{none_of}}
 use Rattle.plant_server_clients.proofs.Paced.{alone_keeps, come_keeps, fair_of, keeps_end, keeps_then, nothing_owed, numbers_length, numbers_removed, numbers_set, quiet_keeps, splits_here, splits_past, splits_removed, steady_of, turn_keeps}
 use Rattle.plant_server_clients.specs.declared.{connections.{Asked.{Asked}, Connection.{Connection}}, ports.Ready.{Ready}}
@@ -23,27 +23,27 @@ some_same x y is = cc
 
 -- no call
 module _ {B : Type 0} (b : books.Ghosts B) (x : B) {s t : ServiceState} {cause : Option Event → Type 0} {comes : Bool} (p : Passed cause comes s t) where
-  by_events : (given : Option Event → Type 0) (a c : ℕ) → Keeps given a c (stages s) p.events
+  pub by_events : (given : Option Event → Type 0) (a c : ℕ) → Keeps given a c (stages s) p.events
       → Keeps given a c (stages s) (happened_passed {b = b} {x = x} p).events
   by_events given a c keeps = subst (Keeps given a c (stages s)) (sym (events_passed b x p)) keeps
 
   -- nothing came
-  passed_keeps : comes ≡ false → (a : ℕ) → Keeps cause a a (stages s) (happened_passed {b = b} {x = x} p).events
+  pub passed_keeps : comes ≡ false → (a : ℕ) → Keeps cause a a (stages s) (happened_passed {b = b} {x = x} p).events
   passed_keeps shut a = by_events cause a a (quiet_keeps cause a (stages s) p.events p.quiet (p.arrives.none shut) p.due)
 
   module _ (given : Option Event → Type 0) (gives : (before : Option Event) → given before → cause before) where
-    passed_busy : Keeps given 0 t.count (stages s) (happened_passed {b = b} {x = x} p).events
+    pub passed_busy : Keeps given 0 t.count (stages s) (happened_passed {b = b} {x = x} p).events
     passed_busy =
         by_events given 0 t.count
         (come_keeps given t.count t.connections (stages s) p.events p.quiet p.arrives.one p.leads (λ before now. p.due before (gives before now)))
 
-    passed_alone : ArePrompt s.connections → Keeps given 0 0 (stages s) (happened_passed {b = b} {x = x} p).events
+    pub passed_alone : ArePrompt s.connections → Keeps given 0 0 (stages s) (happened_passed {b = b} {x = x} p).events
     passed_alone are =
         by_events given 0 0
         (alone_keeps given 0 0 p.one.0 s.count s.connections p.events are p.one.1 (λ before now. p.due before (gives before now)))
 
     -- as a turn
-    pub turn_passed : (serves : Bool) → IsTurn given b x x s t serves
+    unfoldable pub turn_passed : (serves : Bool) → IsTurn given b x x s t serves
     turn_passed serves = record { happened = happened_passed p; alone = λ _ are. passed_alone are; busy = λ _. passed_busy }
 
 pub none_keeps : {B : Type 0} (b : books.Ghosts B) (x : B) (s : ServiceState) (given : Option Event → Type 0) (a : ℕ)
@@ -51,20 +51,20 @@ pub none_keeps : {B : Type 0} (b : books.Ghosts B) (x : B) (s : ServiceState) (g
 none_keeps b x s given a =
     subst (Keeps given a a (stages s)) (sym (events_none b x s)) (quiet_keeps given a (stages s) [] tt refl (λ before _. due_none before))
 
-none_busy : {B : Type 0} (b : books.Ghosts B) (x : B) (s : ServiceState) (given : Option Event → Type 0)
+pub none_busy : {B : Type 0} (b : books.Ghosts B) (x : B) (s : ServiceState) (given : Option Event → Type 0)
     → Keeps given 0 s.count (stages s) (happened_none {b = b} {x = x} {s = s}).events
 none_busy b x s given =
     subst (Keeps given 0 s.count (stages s)) (sym (events_none b x s))
     (come_keeps given s.count s.connections (stages s) [] tt (omega arith) (λ k. refl) (λ before _. due_none before))
 
 -- nothing was done
-pub turn_none : {B : Type 0} (b : books.Ghosts B) (x : B) (s : ServiceState) (given : Option Event → Type 0) (serves : Bool)
+unfoldable pub turn_none : {B : Type 0} (b : books.Ghosts B) (x : B) (s : ServiceState) (given : Option Event → Type 0) (serves : Bool)
     → IsTurn given b x x s s serves
 turn_none b x s given serves =
     record { happened = happened_none; alone = λ _ _. none_keeps b x s given 0; busy = λ _. none_busy b x s given }
 
 -- a turn, whatever is given
-pub turn_given : {B : Type 0} {b : books.Ghosts B} {x y : B} {s t : ServiceState} {serves : Bool} (given : Option Event → Type 0)
+unfoldable pub turn_given : {B : Type 0} {b : books.Ghosts B} {x y : B} {s t : ServiceState} {serves : Bool} (given : Option Event → Type 0)
     → IsTurn Always b x y s t serves → IsTurn given b x y s t serves
 turn_given given p =
     record { happened = p.happened; alone = λ now are es _. p.alone now are es tt; busy = λ now es _. p.busy now es tt }
@@ -88,20 +88,20 @@ module _ {B : Type 0} {b : books.Ghosts B} {x y z : B} {s t u : ServiceState} wh
 module _ {B : Type 0} {b : books.Ghosts B} {x y : B} {l : Connection} {after : ConnectionState} {asked : Asked} {over : Option End}
     (s : ServiceState) (at : ℕ) (ok : AreOpenConnections s.count s.connections) (is : slice_get s.connections at ≡ Some l)
     (p : Turned b x y (connection_state s.seen.ports l) after asked over) where
-  of_connection : (a c : ℕ) → Keeps Always a c (stages s) p.events → Keeps Always a c (stages s) (happened_connection s at ok is p).events
+  pub of_connection : (a c : ℕ) → Keeps Always a c (stages s) p.events → Keeps Always a c (stages s) (happened_connection s at ok is p).events
   of_connection a c keeps = subst (Keeps Always a c (stages s)) (sym (events_connection s at ok is p)) keeps
 
-  connection_alone : ArePrompt s.connections → Keeps Always 0 0 (stages s) (happened_connection s at ok is p).events
+  pub connection_alone : ArePrompt s.connections → Keeps Always 0 0 (stages s) (happened_connection s at ok is p).events
   connection_alone are =
       of_connection 0 0 (alone_keeps Always 0 0 l.number s.count s.connections p.events are p.one.own (λ before _. p.one.due before))
 
-  connection_busy : asked.serves ≡ false → Keeps Always 0 s.count (stages s) (happened_connection s at ok is p).events
+  pub connection_busy : asked.serves ≡ false → Keeps Always 0 s.count (stages s) (happened_connection s at ok is p).events
   connection_busy unserved =
       of_connection 0 s.count
       (come_keeps Always s.count (slice_set s.connections at after.connection) (stages s) p.events (p.one.quiet unserved) p.one.arrives.one
       (lifted s.count s.connections at l after.connection p.events ok is p.went.same p.went.own p.went.leads) (λ before _. p.one.due before))
 
-  connection_paces : AreRising (numbers s.connections) → asked.reads ≡ false → asked.serves ≡ true → (bound : ℕ) (m : Connection)
+  pub connection_paces : AreRising (numbers s.connections) → asked.reads ≡ false → asked.serves ≡ true → (bound : ℕ) (m : Connection)
       → slice_get s.connections at ≡ Some m → Splits bound (suc at) (numbers s.connections)
       → Keeps Always bound m.number (stages s) (happened_connection s at ok is p).events
   connection_paces rising unread serving bound m is_m splits =
@@ -116,7 +116,7 @@ module _ {B : Type 0} {b : books.Ghosts B} {x y : B} {l : Connection} {after : C
       })))
 
   -- after it the connection may be closed so
-  connection_closes : WaitsBelow after.connection.unread.items after.connection.wanted → (end : End) → over ≡ Some end → (es : List Event)
+  pub connection_closes : WaitsBelow after.connection.unread.items after.connection.wanted → (end : End) → over ≡ Some end → (es : List Event)
       → ((k : ℕ) → Leads k fresh (es ++ (happened_connection s at ok is p).events) (stages (turned_at s at after) k))
       → CausedAt (slice_set s.connections at after.connection) at end (last_of None (es ++ (happened_connection s at ok is p).events))
   connection_closes waits end now es leads m is_m =
@@ -133,7 +133,7 @@ module _ {B : Type 0} {b : books.Ghosts B} {x y : B} {l : Connection} {after : C
       (subst (λ (es' : List Event). HasCause (last_of None (es ++ es')) l'.number end) (sym events) (connection_cause l' end es p.events at_it due))
 
   -- a turn, after which it is still there
-  pub turn_stays : AreRising (numbers s.connections) → IsTurnAt b x y s (turned_at s at after) (record { at = at; asked = asked })
+  unfoldable pub turn_stays : AreRising (numbers s.connections) → IsTurnAt b x y s (turned_at s at after) (record { at = at; asked = asked })
   turn_stays rising = record {
     turned = record { happened = happened_connection s at ok is p; alone = λ _ are. connection_alone are; busy = λ unserved. connection_busy unserved };
     paces = connection_paces rising;
@@ -141,7 +141,7 @@ module _ {B : Type 0} {b : books.Ghosts B} {x y : B} {l : Connection} {after : C
   }
 
   -- a turn, after which it is closed
-  pub turn_closes : AreRising (numbers s.connections) → WaitsBelow after.connection.unread.items after.connection.wanted → (end : End)
+  unfoldable pub turn_closes : AreRising (numbers s.connections) → WaitsBelow after.connection.unread.items after.connection.wanted → (end : End)
       → over ≡ Some end → (u : ServiceState)
       → Passed (CausedAt (slice_set s.connections at after.connection) at end) false (turned_at s at after) u
       → u.count ≡ s.count → u.connections ≡ remove (slice_set s.connections at after.connection) at
@@ -169,7 +169,7 @@ module _ {B : Type 0} {b : books.Ghosts B} {x y : B} {l : Connection} {after : C
       }
 
 -- the next connection's turn, in a turn of all connections
-pub round_next : {B : Type 0} {b : books.Ghosts B} {x y z : B} {s t u : ServiceState} (i at : ℕ) (l : Connection) → i ≡ suc at
+unfoldable pub round_next : {B : Type 0} {b : books.Ghosts B} {x y z : B} {s t u : ServiceState} (i at : ℕ) (l : Connection) → i ≡ suc at
     → IsWithinRound b x y s t i → AreRising (numbers t.connections) → slice_get t.connections at ≡ Some l
     → IsTurnAt b y z t u (record { at = at; asked = record { reads = false; serves = true } }) → IsWithinRound b x z s u at
 round_next {s = s} {t = t} {u = u} i at l e r rising is p = record {
@@ -185,7 +185,7 @@ round_next {s = s} {t = t} {u = u} i at l e r rising is p = record {
 }
 
 -- where no connection is at the place
-pub round_past : {B : Type 0} {b : books.Ghosts B} {x y : B} {s t : ServiceState} (i at : ℕ) → i ≡ suc at → length t.connections ≤ at
+unfoldable pub round_past : {B : Type 0} {b : books.Ghosts B} {x y : B} {s t : ServiceState} (i at : ℕ) → i ≡ suc at → length t.connections ≤ at
     → IsWithinRound b x y s t i → IsWithinRound b x y s t at
 round_past {t = t} i at e past r = record {
   happened = r.happened;
@@ -195,12 +195,12 @@ round_past {t = t} i at e past r = record {
   keeps = r.keeps;
 }
 
-pub round_start : {B : Type 0} {b : books.Ghosts B} {x : B} {s : ServiceState} (at : ℕ) → Splits s.count at (numbers s.connections)
+unfoldable pub round_start : {B : Type 0} {b : books.Ghosts B} {x : B} {s : ServiceState} (at : ℕ) → Splits s.count at (numbers s.connections)
     → IsWithinRound b x x s s at
 round_start {b = b} {x = x} {s = s} at splits =
     record { happened = happened_none; bound = s.count; splits = splits; keeps = none_keeps b x s Always s.count }
 
-pub round_end : {B : Type 0} {b : books.Ghosts B} {x y : B} {s t : ServiceState} (i : ℕ) → i ≡ 0 → IsWithinRound b x y s t i
+unfoldable pub round_end : {B : Type 0} {b : books.Ghosts B} {x y : B} {s t : ServiceState} (i : ℕ) → i ≡ 0 → IsWithinRound b x y s t i
     → IsRound Always s.count b x y s t
 round_end {s = s} {t = t} i e r = record {
   happened = r.happened;
@@ -208,12 +208,12 @@ round_end {s = s} {t = t} i e r = record {
       (subst (λ (j : ℕ). Splits r.bound j (numbers t.connections)) e r.splits) r.keeps;
 }
 
-way_leads : {B : Type 0} {b : books.Ghosts B} {x y : B} {seen : Seen} {now : ServiceState} {turns : ℕ} (w : IsUnderWay b x y seen now turns) (k : ℕ)
+pub way_leads : {B : Type 0} {b : books.Ghosts B} {x y : B} {seen : Seen} {now : ServiceState} {turns : ℕ} (w : IsUnderWay b x y seen now turns) (k : ℕ)
     → Leads k fresh w.happened.events (stages now k)
 way_leads {now = now} w k = subst (λ (a : Stage). Leads k a w.happened.events (stages now k)) (none_yet k) (w.happened.leads k)
 
 -- a service from its start on
-kept_none : AreKept 0 []
+pub kept_none : AreKept 0 []
 kept_none = record { due = due_none None; paced = paced; still = still; steady = λ es fs is. steady_of 0 es (subst (IsStill 0) (sym (none_of es fs (sym is)).0) still); fair = λ es fs is. fair_of 0 es (subst (IsPaced 0) (sym (none_of es fs (sym is)).0) paced) }
   where
     still : IsStill 0 []
@@ -241,11 +241,11 @@ way_start {b = b} {x = x} {seen = seen} ls e =
       asked = omega arith;
     })
 
-reports-append : (es fs : List Event) → length (reports (es ++ fs)) ≡ length (reports es) + length (reports fs)
+pub reports-append : (es fs : List Event) → length (reports (es ++ fs)) ≡ length (reports es) + length (reports fs)
 reports-append es fs = ap length (flat_map-append reports_in es fs) ∙ length-append (reports es) (reports fs)
 
 -- the ports were asked what can be done next
-pub way_asked : {B : Type 0} {b : books.Ghosts B} {x y : B} {seen : Seen} {now : ServiceState} {turns : ℕ} (ports : Option (List Event))
+unfoldable pub way_asked : {B : Type 0} {b : books.Ghosts B} {x y : B} {seen : Seen} {now : ServiceState} {turns : ℕ} (ports : Option (List Event))
     (ready : Ready) → IsUnderWay b x y seen now turns → Logs now.seen.ports ports (reported ready ∷ [])
     → IsUnderWay b x y seen (sees now ports) (turns + 1)
 way_asked {now = now} {turns = turns} ports ready w logged =
@@ -266,7 +266,7 @@ unfolding way_asked
 way_last ports ready w logged =
     ap (last_of None) (events_asked ports ready w.happened logged) ∙ last_then None w.happened.events (reported ready ∷ [])
 
-pub way_then : {B : Type 0} {b : books.Ghosts B} {x y z : B} {seen : Seen} {s t : ServiceState} {turns : ℕ} (given : Option Event → Type 0)
+unfoldable pub way_then : {B : Type 0} {b : books.Ghosts B} {x y z : B} {seen : Seen} {s t : ServiceState} {turns : ℕ} (given : Option Event → Type 0)
     → (w : IsUnderWay b x y seen s turns) → given (last_of None w.happened.events) → IsRound given 0 b y z s t
     → IsUnderWay b x z seen t turns
 way_then {turns = turns} given w now r =

@@ -11,7 +11,7 @@ use Rattle.plant_wire.specs.declared.reads.End.{End}
 use Rattle.plant_server_clients.specs.Events.{Event, opened, came, ended, answered, broke, stopped, left, failed, closed, reported, who, of, arrivals, arrivals_in}
 use Rattle.plant_server_clients.specs.Events.{marks_in, marks_of}
 use Rattle.plant_server_clients.specs.{Fairness.{HasWaited, IsWaiting}, Happens.{AreOf}, Prompt.{ArePrompt, IsPrompt}}
-use Rattle.plant_server_clients.specs.Stages.{Leads, Moves, Stage, fresh, gone, served, ending, connection_with, stage_by, stage_held, stage_in, stage_of}
+use Rattle.plant_server_clients.specs.Stages.{Leads, Moves, Stage, fresh, gone, served, ending, connection_with, stage_by, stage_if_open, stage_in, stage_of}
 use Rattle.plant_server_clients.proofs.Leading.{leads_then}
 use Rattle.plant_server_clients.specs.declared.connections.Connection.{Connection}
 
@@ -311,11 +311,11 @@ prompt_of k (x ∷ ls) l are is = go (nat_eq x.number k) (prompt_of k ls l are.1
     go true later e = let same : x ≡ l = cc in subst IsPrompt same are.0
     go false later e = later e
 
--- a connection that is served is held
-pub held_of : (k count : ℕ) (ls : List Connection) (u p : List ℕ) → stage_of k count ls ≡ served u p → (l : Connection) × (connection_with k ls ≡ Some l)
-held_of k count ls u p is = go (nat_lt k count) (connection_with k ls) refl is
+-- a connection that is served is open
+pub open_of : (k count : ℕ) (ls : List Connection) (u p : List ℕ) → stage_of k count ls ≡ served u p → (l : Connection) × (connection_with k ls ≡ Some l)
+open_of k count ls u p is = go (nat_lt k count) (connection_with k ls) refl is
   where
-    go : (b : Bool) (o : Option Connection) → connection_with k ls ≡ o → cond b (stage_held o) fresh ≡ served u p
+    go : (b : Bool) (o : Option Connection) → connection_with k ls ≡ o → cond b (stage_if_open o) fresh ≡ served u p
         → (l : Connection) × (connection_with k ls ≡ Some l)
     go true None e now = cc
     go true (Some l) e now = (l, e)
@@ -325,14 +325,14 @@ stage_with : (k count : ℕ) (ls : List Connection) (u p : List ℕ) (l : Connec
     → stage_in l ≡ served u p
 stage_with k count ls u p l is with_it = go (nat_lt k count) is
   where
-    go : (b : Bool) → cond b (stage_held (connection_with k ls)) fresh ≡ served u p → stage_in l ≡ served u p
-    go true e = sym (ap stage_held with_it) ∙ e
+    go : (b : Bool) → cond b (stage_if_open (connection_with k ls)) fresh ≡ served u p → stage_in l ≡ served u p
+    go true e = sym (ap stage_if_open with_it) ∙ e
     go false e = cc
 
 pub counted_of : (k count : ℕ) (ls : List Connection) (u p : List ℕ) → stage_of k count ls ≡ served u p → k < count
 counted_of k count ls u p is = go (nat_lt k count) refl is
   where
-    go : (b : Bool) → nat_lt k count ≡ b → cond b (stage_held (connection_with k ls)) fresh ≡ served u p → k < count
+    go : (b : Bool) → nat_lt k count ≡ b → cond b (stage_if_open (connection_with k ls)) fresh ≡ served u p → k < count
     go true e now = ltb-true k count e
     go false e now = cc
 
@@ -341,8 +341,8 @@ pub none_waits : (count : ℕ) (ls : List Connection) (es : List Event) → ((k 
     → (k : ℕ) → IsWaiting k es → ⊥
 none_waits count ls es leads are k (u, at, busy) =
     let is = leads_once k fresh (stage_of k count ls) (served u []) es (leads k) at in
-    let held = held_of k count ls u [] is in
-    let prompt = prompt_of k ls held.0 are held.1 in
+    let it = open_of k count ls u [] is in
+    let prompt = prompt_of k ls it.0 are it.1 in
     busy
-    (idle_stage held.0.unread.items held.0.pending.text.items held.0.end u (λ live none. (prompt live none).0)
-    (stage_with k count ls u [] held.0 is held.1))
+    (idle_stage it.0.unread.items it.0.pending.text.items it.0.end u (λ live none. (prompt live none).0)
+    (stage_with k count ls u [] it.0 is it.1))

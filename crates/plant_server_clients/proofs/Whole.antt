@@ -1,13 +1,13 @@
 -- A service from its start to its end.
-use Rattle.std.proofs.Common.{◌≡◌, ℕ, List, [], None, refl, subst}
+use Rattle.std.proofs.Common.{◌≡◌, ℕ, List, None, subst}
 use Rattle.std.specs.Prelude.{Err}
 use Rattle.plant_books.specs.declared.books.Books as books
 use Rattle.plant_model.specs.declared.{call.Call.{Call}, reply.Answer.{Answer}}
 use Rattle.plant_server_clients.specs.Accounts.{AreSent, AreServed, AtEachMoment, HasOpened, Outcome}
-use Rattle.plant_server_clients.specs.{Causes.{AreDue, HaveFailed}, Fairness.{IsFair, IsSteady}, Happens.{ServiceState, stages}, Held.{IsUnderWay}}
+use Rattle.plant_server_clients.specs.{Causes.{AreDue, HaveFailed}, Fairness.{IsFair, IsSteady}, Happens.{ServiceState, stages}, Service.{IsUnderWay}}
 use Rattle.plant_server_clients.specs.{Events.{Event, Seen, all_answers, all_calls}, Stages.{Leads, Stage, fresh, stage_of}}
 use Rattle.plant_server_clients.proofs.{Few.{bounded}, Ordered.{in_order, lasting}}
-use Rattle.plant_server_clients.proofs.{Apart.{apart_from}, Ends.{ends_each}, Held.{none_yet}, Leading.{each_all, moment}, Rounds.{way_start}}
+use Rattle.plant_server_clients.proofs.{Apart.{apart_from}, Ends.{ends_each}, Numbers.{none_yet}, Leading.{each_all, moment}}
 use Rattle.plant_server_clients.proofs.Moments.{at_each_moment}
 use Rattle.plant_server_clients.specs.declared.{connections.Connection.{Connection}, serving.Halted.TheVariants.{Ports}}
 
@@ -18,7 +18,7 @@ module _ {ran : List Call → List Answer → Type 0} {n : ℕ} {r : Outcome} wh
   sent_from events count ls made goes fair steady due stops = record {
     events = events;
     count = count;
-    held = ls;
+    connections = ls;
     made = made;
     answered = λ k. at_each_moment k events (stage_of k count ls) (goes k);
     goes = goes;
@@ -33,7 +33,7 @@ module _ {ran : List Call → List Answer → Type 0} {n : ℕ} {r : Outcome} wh
   }
 
 module _ {B : Type 0} {b : books.Ghosts B} {x y : B} {seen : Seen} {now : ServiceState} {n turns : ℕ} {r : Outcome} where
-  pub served_from : (w : IsUnderWay b x y seen now turns) → HasOpened n now.count now.connections r → (r ≡ Err Ports → HaveFailed w.happened.events)
+  unfoldable pub served_from : (w : IsUnderWay b x y seen now turns) → HasOpened n now.count now.connections r → (r ≡ Err Ports → HaveFailed w.happened.events)
       → AreServed b x y seen now.seen n r
   served_from w stops halts =
       let h = w.happened in
@@ -48,8 +48,3 @@ module _ {B : Type 0} {b : books.Ghosts B} {x y : B} {seen : Seen} {now : Servic
         lasting = λ es fs is. lasting b x (moment b x y h.events es fs is h.makes).books es (moment b x y h.events es fs is h.makes).made;
         apart = λ m held w legal holds t. apart_from w h.events (all.ran.run m held w legal holds t).isolated;
       }
-
--- no connection was accepted
-module _ {B : Type 0} {b : books.Ghosts B} {x : B} {seen : Seen} {n : ℕ} {r : Outcome} where
-  pub served_none : HasOpened n 0 [] r → (r ≡ Err Ports → ⊥) → AreServed b x x seen seen n r
-  served_none stops halts = served_from (way_start [] refl) stops (λ is. absurd (halts is))

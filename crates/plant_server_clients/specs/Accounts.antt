@@ -58,13 +58,13 @@ AreEachIsolated w events = (es fs : List Event) (e : Event) → events ≡ es ++
 abbrev pub Outcome : Type 0
 Outcome = Result (Unit {0}) Halted
 
--- How many connections were opened, of at most n, and which are still held. Ok: n were, and each was closed. Out of
+-- How many connections were opened, of at most n, and which are still open. Ok: n were, and each was closed. Out of
 -- memory at the start: none was. The ports failed, or the store shut: n or fewer were.
 abbrev pub HasOpened : ℕ → ℕ → List Connection → Outcome → Type 0
-HasOpened n count held (Ok u) = (count ≡ n) × (held ≡ [])
-HasOpened n count held (Err Memory) = (count ≡ 0) × (held ≡ [])
-HasOpened n count held (Err Ports) = count ≤ n
-HasOpened n count held (Err Shut) = count ≤ n
+HasOpened n count connections (Ok u) = (count ≡ n) × (connections ≡ [])
+HasOpened n count connections (Err Memory) = (count ≡ 0) × (connections ≡ [])
+HasOpened n count connections (Err Ports) = count ≤ n
+HasOpened n count connections (Err Shut) = count ≤ n
 
 -- If n connections are to be served: one list of what happened at all of them, numbered as they came. `ran` is true of
 -- the calls that the office made, one after another, whatever the connection. Each connection was sent the answers to
@@ -72,10 +72,10 @@ HasOpened n count held (Err Shut) = count ≤ n
 pub record AreSent (ran : List Call → List Answer → Type 0) (n : ℕ) (r : Outcome) : Type 0 where
   pub events : List Event
   pub count : ℕ
-  pub held : List Connection
+  pub connections : List Connection
   pub made : ran (all_calls events) (all_answers events)
   pub answered : (k : ℕ) → AtEachMoment (IsAnsweredFor k) events
-  pub goes : (k : ℕ) → Leads k fresh events (stage_of k count held)
+  pub goes : (k : ℕ) → Leads k fresh events (stage_of k count connections)
   pub ends : EndsEach events
   pub fair : AtEachMoment IsFair events
   pub steady : AtEachMoment IsSteady events
@@ -83,7 +83,7 @@ pub record AreSent (ran : List Call → List Answer → Type 0) (n : ℕ) (r : O
   pub in_order : IsInOrder events
   pub caused : AreCaused None events
   pub offered : AreOffered events
-  pub stops : HasOpened n count held r
+  pub stops : HasOpened n count connections r
 
 -- From one state of the books and of what is seen to another: the calls are one run of the books, and the ports and the
 -- log saw what happened.

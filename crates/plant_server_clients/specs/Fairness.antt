@@ -27,24 +27,24 @@ without k [] = []
 without k (j ∷ ks) = if nat_eq j k then without k ks else j ∷ without k ks
 
 -- the connections that are open after an event, if these were before
-abbrev pub held_with : List ℕ → Event → List ℕ
-held_with ks (opened k) = k ∷ ks
-held_with ks (came k bytes) = ks
-held_with ks (ended k) = ks
-held_with ks (answered k mark) = ks
-held_with ks (broke k cause) = ks
-held_with ks (stopped k last) = ks
-held_with ks (left k bytes) = ks
-held_with ks (failed k trial) = ks
-held_with ks (closed k end) = without k ks
-held_with ks (reported ready) = ks
+abbrev pub open_with : List ℕ → Event → List ℕ
+open_with ks (opened k) = k ∷ ks
+open_with ks (came k bytes) = ks
+open_with ks (ended k) = ks
+open_with ks (answered k mark) = ks
+open_with ks (broke k cause) = ks
+open_with ks (stopped k last) = ks
+open_with ks (left k bytes) = ks
+open_with ks (failed k trial) = ks
+open_with ks (closed k end) = without k ks
+open_with ks (reported ready) = ks
 
-abbrev pub held_after : List ℕ → List Event → List ℕ
-held_after ks [] = ks
-held_after ks (e ∷ es) = held_after (held_with ks e) es
+abbrev pub open_after : List ℕ → List Event → List ℕ
+open_after ks [] = ks
+open_after ks (e ∷ es) = open_after (open_with ks e) es
 
 -- Since it began to wait, fewer calls were made, over all connections, than connections were open when it began: with N
 -- open, at most N - 1.
 abbrev pub IsBounded : List Event → Type 0
 IsBounded now = (es since : List Event) (k : ℕ) → now ≡ es ++ since → HasWaited k es since
-    → length (all_calls since) < length (held_after [] es)
+    → length (all_calls since) < length (open_after [] es)

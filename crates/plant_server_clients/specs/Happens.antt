@@ -2,8 +2,9 @@
 use Rattle.std.specs.Prelude.{◌≡◌, ◌≢◌, ◌≤◌, ℕ, Bool, false, true, List, [], ◌∷◌, ◌++◌, length, IfSome, Option, Some}
 use Rattle.plant_wire.specs.{Session.{IsIdle}, declared.reads.End.{End}}
 use Rattle.plant_books.specs.declared.books.Books.{Ghosts}
+use Rattle.plant_office.specs.{Faults.{noted}, declared.office.Faults.{Faults}}
 use Rattle.plant_server_clients.specs.{Books.{AreQuiet, MakesEach}, Causes.{AreDue, IsDueTo, OffersTo, last_of}}
-use Rattle.plant_server_clients.specs.Events.{AreTold, Event, Log, Logs, Seen, Shows, Trial, all_calls, arrivals, at_ports, failed, marks_of, who, writing}
+use Rattle.plant_server_clients.specs.Events.{AreTold, Event, Log, Logs, Seen, Shows, Trial, all_answers, all_calls, arrivals, at_ports, failed, marks_of, who, writing}
 use Rattle.plant_server_clients.specs.Stages.{Leads, Stage, served, stage_in, stage_of}
 use Rattle.plant_server_clients.specs.declared.connections.{Asked.{Asked}, Connection.{Connection}}
 
@@ -30,7 +31,7 @@ abbrev pub AreOf : ℕ → List Event → Type 0
 AreOf k [] = Unit {0}
 AreOf k (e ∷ es) = (who e ≡ k) × AreOf k es
 
--- where a whole request waits on the connection, one is answered, or the connection is no longer served
+-- a connection on which a whole request waits is answered, or it is no longer served
 abbrev pub Answers : Connection → List Event → Type 0
 Answers l events = (unread : List ℕ) → stage_in l ≡ served unread [] → (IsIdle unread → ⊥) → marks_of l.number events ≡ []
     → (v : List ℕ) → Leads l.number (stage_in l) events (served v []) → ⊥
@@ -68,12 +69,14 @@ pub record Moved (s t : Log) (before after : Connection) (reads : Bool) (trial :
   pub offers : trial ≡ writing → before.pending.text.items ≢ [] → OffersTo before.number events
   pub lost : goes_on ≡ false → (last : Option Event) → last_of last events ≡ Some (failed before.number trial)
 
--- The office was asked; nothing was read or sent. Each answer is offered at once, if the text that it leaves to be sent
--- is.
-pub record Made {B : Type 0} (b : Ghosts B) (from to : B) (before after : Connection) (serves : Bool) : Type 0 where
+-- The office was asked, and noted which faults it answered; nothing was read or sent. Each answer is offered at once, if
+-- the text that it leaves to be sent is.
+pub record Made {B : Type 0} (b : Ghosts B) (from to : B) (faults faults_after : Faults) (before after : Connection)
+    (serves : Bool) : Type 0 where
   pub events : List Event
   pub unseen : at_ports events ≡ []
   pub makes : MakesEach b from events to
+  pub notes : faults_after ≡ noted faults (all_answers events)
   pub went : Went events before after
   pub once : length (all_calls events) ≤ 1
   pub answers : serves ≡ true → Answers before events

@@ -9,7 +9,7 @@ pub mod Order
 pub mod Lasting
 pub mod Accounts
 pub mod Paces
-pub mod Held
+pub mod Service
 pub mod PortSteps
 pub mod Prompt
 pub mod Faults

@@ -109,13 +109,13 @@ abbrev pub connection_with : ℕ → List Connection → Option Connection
 connection_with k [] = None
 connection_with k (l ∷ ls) = if nat_eq l.number k then Some l else connection_with k ls
 
-abbrev pub stage_held : Option Connection → Stage
-stage_held None = gone
-stage_held (Some l) = stage_in l
+abbrev pub stage_if_open : Option Connection → Stage
+stage_if_open None = gone
+stage_if_open (Some l) = stage_in l
 
 -- the stage of the connection k, if `count` were accepted and these connections are open
 abbrev pub stage_of : ℕ → ℕ → List Connection → Stage
-stage_of k count ls = if nat_lt k count then stage_held (connection_with k ls) else fresh
+stage_of k count ls = if nat_lt k count then stage_if_open (connection_with k ls) else fresh
 
 -- open connections with different numbers, each of which was accepted, and each with a true `wanted`
 abbrev pub AreOpenConnections : ℕ → List Connection → Type 0

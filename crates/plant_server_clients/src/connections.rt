@@ -1,14 +1,15 @@
 //! One connection of many: its unread bytes and its unsent answer, and the steps that read, answer and write on it.
 
-ghost use Rattle.std.specs.Prelude.{◌≡◌, ◌≤◌, ◌<◌, [], None, Some, length, drop, false, true, IfSome};
-ghost use Rattle.std.specs.Bool.{OnTrue};
+ghost use Rattle.std.specs.Prelude.{◌≡◌, ◌≤◌, ◌<◌, [], None, Some, length, drop, false, take, true, IfSome, ℕ};
+ghost use Rattle.std.specs.{Bool.{OnTrue}, Io.KnownBytes.{Appends}};
 ghost use Rattle.plant_wire_call.specs.{Cut.{WaitsBelow}, Front.{StandsAtFront, waits}};
 ghost use Rattle.plant_wire.specs.{Limits.{least_room}, Session.{IsIdle}};
 ghost use Rattle.plant_wire.specs.declared.reads.End.TheVariants as ends;
-ghost use Rattle.plant_server_log.specs.Log.{TellsFaults};
+ghost use Rattle.plant_server_log.specs.Log.{fault_lines};
 ghost use Rattle.plant_server_clients.specs.Happens.{Made, Moved, Turned, connection_state};
-ghost use Rattle.plant_server_clients.specs.Faults.{TellsIf, added, reporting, without};
-ghost use Rattle.plant_server_clients.specs.{Events.{reading, writing}, Prompt.{AreFew, IsPrompt, IsSettled}};
+ghost use Rattle.plant_office.specs.Faults.{added, no_faults, noted, without};
+ghost use Rattle.plant_server_clients.specs.Faults.{IsClear, reporting};
+ghost use Rattle.plant_server_clients.specs.{Events.{all_answers, reading, writing}, Prompt.{AreFew, IsPrompt, IsSettled}};
 ghost use Rattle.plant_server_clients.specs.Stages.{IsOpen, MayClose, end_for};
 
 use crate::answers::{Answers, Draft};
@@ -43,6 +44,7 @@ impl Connection {
         ensures pending { result.pending.text.items ≡ [] }
         ensures served { result.end ≡ None }
         ensures wanted { result.wanted ≡ 0 }
+        ensures faults { result.faults ≡ no_faults }
     {
         Connection {
             number,
@@ -140,20 +142,24 @@ fn end_of(unread: &[u8]) -> End
 /// One read of a connection, if more may be read of it. Returns false if the read failed.
 pub(crate) fn read_connection<P: Ports>(
     ports: &mut P,
+    client: &mut P::Client,
     chunk: &mut [u8],
     connection: &mut Connection,
 ) -> bool
     requires room { least_room ≤ length chunk.old }
+    requires own { P.number_of client.old ≡ connection.old.number }
     requires waits { WaitsBelow connection.old.unread.items connection.old.wanted }
     ensures moved { Moved (P.seen ports.old) (P.seen ports.new) connection.old connection.new true reading result }
+    ensures same { P.number_of client.new ≡ P.number_of client.old }
     ensures waits { WaitsBelow connection.new.unread.items connection.new.wanted }
+    ensures faults { connection.new.faults ≡ connection.old.faults }
     ensures failed { result ≡ false → MayClose connection.new ends.ReadFailed }
     ensures kept { length chunk.new ≡ length chunk.old }
 {
     if !connection.is_open() {
         return true;
     }
-    match ports.take(connection.number, chunk) {
+    match ports.take(client, chunk) {
         Taken::Failed => return false,
         Taken::Nothing => {}
         Taken::Ended => {
@@ -173,17 +179,21 @@ pub(crate) fn read_connection<P: Ports>(
 pub(crate) fn write_connection<P: Ports>(
     alloc: Global,
     ports: &mut P,
+    client: &mut P::Client,
     connection: &mut Connection,
 ) -> bool
+    requires own { P.number_of client.old ≡ connection.old.number }
     requires waits { WaitsBelow connection.old.unread.items connection.old.wanted }
     ensures moved { Moved (P.seen ports.old) (P.seen ports.new) connection.old connection.new false writing result }
+    ensures same { P.number_of client.new ≡ P.number_of client.old }
     ensures waits { WaitsBelow connection.new.unread.items connection.new.wanted }
+    ensures faults { connection.new.faults ≡ connection.old.faults }
     ensures failed { result ≡ false → MayClose connection.new ends.WriteFailed }
 {
     if connection.pending.text.is_empty() {
         return true;
     }
-    match ports.put(connection.number, &connection.pending.text) {
+    match ports.put(client, &connection.pending.text) {
         Sent::Failed => false,
         Sent::Bytes(n) => {
             drop_front(alloc, &mut connection.pending.text, n);
@@ -218,8 +228,9 @@ pub(crate) fn serve_connection<B: Books>(
     office: &mut Office<B>,
 )
     requires waits { WaitsBelow connection.old.unread.items connection.old.wanted }
-    ensures made { Made B.Books office.old.books office.new.books connection.old connection.new true }
+    ensures made { Made B.Books office.old.books office.new.books office.old.faults office.new.faults connection.old connection.new true }
     ensures waits { WaitsBelow connection.new.unread.items connection.new.wanted }
+    ensures faults { connection.new.faults ≡ connection.old.faults }
     ensures settled { IsSettled connection.new }
 {
     if connection.is_prompt() {
@@ -253,18 +264,22 @@ pub(crate) fn serve_connection<B: Books>(
 fn read_if<P: Ports>(
     reads: bool,
     ports: &mut P,
+    client: &mut P::Client,
     chunk: &mut [u8],
     connection: &mut Connection,
 ) -> bool
     requires room { least_room ≤ length chunk.old }
+    requires own { P.number_of client.old ≡ connection.old.number }
     requires waits { WaitsBelow connection.old.unread.items connection.old.wanted }
     ensures moved { Moved (P.seen ports.old) (P.seen ports.new) connection.old connection.new reads reading result }
+    ensures same { P.number_of client.new ≡ P.number_of client.old }
     ensures waits { WaitsBelow connection.new.unread.items connection.new.wanted }
+    ensures faults { connection.new.faults ≡ connection.old.faults }
     ensures failed { result ≡ false → MayClose connection.new ends.ReadFailed }
     ensures kept { length chunk.new ≡ length chunk.old }
 {
     if reads {
-        return read_connection(ports, chunk, connection);
+        return read_connection(ports, client, chunk, connection);
     }
     true
 }
@@ -279,8 +294,9 @@ fn serve_if<B: Books>(
     office: &mut Office<B>,
 )
     requires waits { WaitsBelow connection.old.unread.items connection.old.wanted }
-    ensures made { Made B.Books office.old.books office.new.books connection.old connection.new serves }
+    ensures made { Made B.Books office.old.books office.new.books office.old.faults office.new.faults connection.old connection.new serves }
     ensures waits { WaitsBelow connection.new.unread.items connection.new.wanted }
+    ensures faults { connection.new.faults ≡ connection.old.faults }
 {
     if serves {
         serve_connection(alloc, routes, room, connection, office);
@@ -301,18 +317,24 @@ pub(crate) struct Asked {
 pub(crate) fn turn_connection<P: Ports, B: Books>(
     desk: &mut Desk,
     ports: &mut P,
+    client: &mut P::Client,
     connection: &mut Connection,
     asked: Asked,
     office: &mut Office<B>,
 ) -> Option<End>
+    requires own { P.number_of client.old ≡ connection.old.number }
     requires waits { WaitsBelow connection.old.unread.items connection.old.wanted }
-    ensures turned { Turned B.Books office.old.books office.new.books (connection_state (P.seen ports.old) connection.old)
-        (connection_state (P.seen ports.new) connection.new) asked result }
+    ensures turned { (turned : Turned B.Books office.old.books office.new.books
+        (connection_state (P.seen ports.old) connection.old) (connection_state (P.seen ports.new) connection.new) asked result)
+        × (office.new.faults ≡ noted office.old.faults (all_answers turned.events)) }
+    ensures same { P.number_of client.new ≡ P.number_of client.old }
     ensures waits { WaitsBelow connection.new.unread.items connection.new.wanted }
+    ensures faults { connection.new.faults ≡ connection.old.faults }
     ensures may { IfSome result (λ end. MayClose connection.new end) }
 {
     let alloc = desk.alloc;
-    if !read_if(asked.reads, ports, desk.chunk.as_mut_slice(), connection) {
+    let chunk = desk.chunk.as_mut_slice();
+    if !read_if(asked.reads, ports, client, chunk, connection) {
         return Some(End::ReadFailed);
     }
     serve_if(
@@ -323,7 +345,7 @@ pub(crate) fn turn_connection<P: Ports, B: Books>(
         connection,
         office,
     );
-    if !write_connection(alloc, ports, connection) {
+    if !write_connection(alloc, ports, client, connection) {
         return Some(End::WriteFailed);
     }
     connection.over()
@@ -356,9 +378,11 @@ fn report_faults<B: Books, E: Write>(
     connection: &mut Connection,
     office: &mut Office<B>,
 )
-    ensures same { connection.new ≡ reporting connection.old connection.new.faults }
+    ensures noted { connection.new ≡ reporting connection.old (added connection.old.faults office.old.faults) }
     ensures books { office.new.books ≡ office.old.books }
-    ensures told { TellsFaults (E.contents errors.old) (E.contents errors.new) }
+    ensures clear { office.new.faults ≡ no_faults }
+    ensures told { (n : ℕ) × Appends (E.contents errors.old) (E.contents errors.new)
+        (take n (fault_lines (without office.old.faults connection.old.faults))) }
 {
     let faults = office.take_faults();
     say_faults(errors, without(faults, connection.faults));
@@ -366,7 +390,6 @@ fn report_faults<B: Books, E: Write>(
 }
 
 /// A report of the faults, if it is asked for.
-#[tactic(auto, using(crate::proofs::Told::if_none))]
 pub(crate) fn report_if<B: Books, E: Write>(
     reports: bool,
     errors: &mut E,
@@ -375,7 +398,11 @@ pub(crate) fn report_if<B: Books, E: Write>(
 )
     ensures same { connection.new ≡ reporting connection.old connection.new.faults }
     ensures books { office.new.books ≡ office.old.books }
-    ensures told { TellsIf reports (E.contents errors.old) (E.contents errors.new) }
+    ensures clear { IsClear reports office.new.faults }
+    ensures noted { reports ≡ true → connection.new.faults ≡ added connection.old.faults office.old.faults }
+    ensures told { reports ≡ true → (n : ℕ) × Appends (E.contents errors.old) (E.contents errors.new)
+        (take n (fault_lines (without office.old.faults connection.old.faults))) }
+    ensures quiet { reports ≡ false → E.contents errors.new ≡ E.contents errors.old }
 {
     if reports {
         report_faults(errors, connection, office);

@@ -6,8 +6,8 @@ ghost use Rattle.std.specs.Bool.{OnTrue};
 ghost use Rattle.plant_books.specs.Books.{WasHonest};
 ghost use Rattle.plant_server_log.specs.Log.{TellsFaults};
 ghost use Rattle.plant_server_clients.specs.declared.connections.Connection.{Connection};
-ghost use Rattle.plant_server_clients.specs.{Accounts.{AreServed}, Causes.{Always, CausedAt, ExpiredAt, HasReported}, Events.{seen_by}, Faults.{TellsIf}};
-ghost use Rattle.plant_server_clients.specs.Held.{IsHeld, IsRound, IsTurn, IsTurnAt, MayWait, service_state};
+ghost use Rattle.plant_server_clients.specs.{Accounts.{AreServed}, Causes.{Always, CausedAt, ExpiredAt, HasReported}, Events.{seen_by}, Faults.{IsClear, StayNoted, TellsIf, reported_faults}};
+ghost use Rattle.plant_server_clients.specs.Service.{IsConsistent, IsRound, IsTurn, IsTurnAt, MayWait, service_state};
 ghost use Rattle.plant_server_clients.specs.{Happens.{Passed}, Prompt.{ArePrompt}, Stages.{AreOpenConnections, MayClose}};
 
 use crate::connections::{Asked, Connection, report_if, turn_connection};
@@ -39,11 +39,14 @@ pub struct Plan {
     pub while_open: bool,
 }
 
-/// What a service holds: what it needs for any connection, the open connections, and how many were accepted so far.
+/// A service: what it needs for any connection, the open connections, and how many were accepted so far.
 #[derive(Drop)]
-pub(crate) struct Held {
+pub(crate) struct Service<C> {
     pub desk: Desk,
+    /// The open connections, in the order of their numbers.
     pub connections: Vec<Connection>,
+    /// What the ports keep of each, in the same order.
+    pub clients: Vec<C>,
     /// How many connections were accepted so far.
     pub count: u64,
     pub plan: Plan,
@@ -59,11 +62,14 @@ pub(crate) struct Turn {
     pub asked: Asked,
 }
 
-/// The index of the connection with this number.
-fn place_of(connections: &[Connection], number: u64) -> Option<usize>
+/// The index of the connection with this number. It is looked for at `first` before it is searched.
+fn place_of(connections: &[Connection], number: u64, first: usize) -> Option<usize>
     ensures within { IfSome result (λ at. at < length connections.now) }
     ensures named { IfSome result (λ at. (connection : Connection) → slice_get connections.now at ≡ Some connection → connection.number ≡ number) }
 {
+    if first < connections.len() && connections[first].number == number {
+        return Some(first);
+    }
     let Ok(at) = connections.binary_search_by_key(&number, |connection| connection.number) else {
         return None;
     };
@@ -78,169 +84,203 @@ fn place_of(connections: &[Connection], number: u64) -> Option<usize>
 
 /// Closes a connection that ended in this way, and writes that to the log.
 fn close_connection<P: Ports, W: Write>(
-    held: &mut Held,
+    service: &mut Service<P::Client>,
     ports: &mut P,
     log: &mut W,
     at: usize,
     end: End,
 )
-    requires within { at < length held.old.connections.items }
-    requires held { IsHeld held.old }
-    requires may { (connection : Connection) → slice_get held.old.connections.items at ≡ Some connection → MayClose connection end }
-    ensures passed { Passed (CausedAt held.old.connections.items at end) false
-        (service_state (P.seen ports.old) (W.contents log.old) held.old)
-        (service_state (P.seen ports.new) (W.contents log.new) held.new) }
-    ensures held { IsHeld held.new }
-    ensures same { held.new.plan ≡ held.old.plan }
-    ensures busy { held.new.busy ≡ held.old.busy }
-    ensures count { held.new.count ≡ held.old.count }
-    ensures others { held.new.connections.items ≡ remove held.old.connections.items at }
+    requires within { at < length service.old.connections.items }
+    requires consistent { IsConsistent P.number_of service.old }
+    requires may { (connection : Connection) → slice_get service.old.connections.items at ≡ Some connection → MayClose connection end }
+    ensures passed { Passed (CausedAt service.old.connections.items at end) false
+        (service_state (P.seen ports.old) (W.contents log.old) service.old)
+        (service_state (P.seen ports.new) (W.contents log.new) service.new) }
+    ensures consistent { IsConsistent P.number_of service.new }
+    ensures same { service.new.plan ≡ service.old.plan }
+    ensures busy { service.new.busy ≡ service.old.busy }
+    ensures count { service.new.count ≡ service.old.count }
+    ensures others { service.new.connections.items ≡ remove service.old.connections.items at }
 {
-    let number = held.connections[at].number;
-    ports.close(number, end);
-    say_end(held.desk.alloc, log, number + 1, end);
-    drop(held.connections.remove(at));
+    let number = service.connections[at].number;
+    let client = service.clients.remove(at);
+    ports.close(client, end);
+    say_end(service.desk.alloc, log, number + 1, end);
+    drop(service.connections.remove(at));
 }
 
 /// One turn of the connection at this index, which is closed if it is over.
 fn turn_at<P: Ports, B: Books, W: Write, E: Write>(
-    held: &mut Held,
+    service: &mut Service<P::Client>,
     ports: &mut P,
     turn: Turn,
     office: &mut Office<B>,
     log: &mut W,
     errors: &mut E,
 )
-    requires within { turn.at < length held.old.connections.items }
-    requires held { IsHeld held.old }
-    ensures turned { IsTurnAt B.Books office.old.books office.new.books
-        (service_state (P.seen ports.old) (W.contents log.old) held.old)
-        (service_state (P.seen ports.new) (W.contents log.new) held.new) turn }
-    ensures held { IsHeld held.new }
-    ensures same { held.new.plan ≡ held.old.plan }
-    ensures prompt { MayWait held.old → MayWait held.new }
-    ensures told { TellsIf held.old.plan.while_open (E.contents errors.old) (E.contents errors.new) }
+    requires within { turn.at < length service.old.connections.items }
+    requires consistent { IsConsistent P.number_of service.old }
+    requires clear { IsClear service.old.plan.while_open office.old.faults }
+    ensures turned { (turned : IsTurnAt B.Books office.old.books office.new.books
+        (service_state (P.seen ports.old) (W.contents log.old) service.old)
+        (service_state (P.seen ports.new) (W.contents log.new) service.new) turn)
+        × TellsIf service.old.plan.while_open (service_state (P.seen ports.old) (W.contents log.old) service.old)
+        (service_state (P.seen ports.new) (W.contents log.new) service.new) turned.turned.happened.events
+        (E.contents errors.old) (E.contents errors.new) }
+    ensures clear { IsClear service.old.plan.while_open office.new.faults }
+    ensures consistent { IsConsistent P.number_of service.new }
+    ensures same { service.new.plan ≡ service.old.plan }
+    ensures prompt { MayWait service.old → MayWait service.new }
 {
-    let reports = held.plan.while_open;
-    let connection = &mut held.connections[turn.at];
-    let over = turn_connection(&mut held.desk, ports, connection, turn.asked, office);
+    let reports = service.plan.while_open;
+    let client = &mut service.clients[turn.at];
+    let connection = &mut service.connections[turn.at];
+    let over = turn_connection(
+        &mut service.desk,
+        ports,
+        client,
+        connection,
+        turn.asked,
+        office,
+    );
     report_if(reports, errors, connection, office);
     if let Some(end) = over {
-        close_connection(held, ports, log, turn.at, end);
+        close_connection(service, ports, log, turn.at, end);
         return;
     }
-    held.busy |= !held.connections[turn.at].is_prompt();
+    service.busy |= !service.connections[turn.at].is_prompt();
 }
 
 /// Gives up the connection at this index, whose time is over, unless it has a request that can be answered.
-fn give_up<P: Ports, W: Write>(held: &mut Held, ports: &mut P, log: &mut W, at: usize)
-    requires within { at < length held.old.connections.items }
-    requires held { IsHeld held.old }
-    ensures passed { Passed (ExpiredAt held.old.connections.items at) false
-        (service_state (P.seen ports.old) (W.contents log.old) held.old)
-        (service_state (P.seen ports.new) (W.contents log.new) held.new) }
-    ensures held { IsHeld held.new }
-    ensures same { held.new.plan ≡ held.old.plan }
-    ensures prompt { MayWait held.old → MayWait held.new }
+fn give_up<P: Ports, W: Write>(
+    service: &mut Service<P::Client>,
+    ports: &mut P,
+    log: &mut W,
+    at: usize,
+)
+    requires within { at < length service.old.connections.items }
+    requires consistent { IsConsistent P.number_of service.old }
+    ensures passed { Passed (ExpiredAt service.old.connections.items at) false
+        (service_state (P.seen ports.old) (W.contents log.old) service.old)
+        (service_state (P.seen ports.new) (W.contents log.new) service.new) }
+    ensures consistent { IsConsistent P.number_of service.new }
+    ensures noted { StayNoted (service_state (P.seen ports.old) (W.contents log.old) service.old)
+        (service_state (P.seen ports.new) (W.contents log.new) service.new) }
+    ensures same { service.new.plan ≡ service.old.plan }
+    ensures prompt { MayWait service.old → MayWait service.new }
 {
-    if let Some(end) = held.connections[at].given_up() {
-        close_connection(held, ports, log, at, end);
+    if let Some(end) = service.connections[at].given_up() {
+        close_connection(service, ports, log, at, end);
     }
 }
 
 /// Accepts a connection, and counts it. If memory runs out, the connection goes on waiting.
-fn accept<P: Ports>(held: &mut Held, ports: &mut P)
-    requires { IsHeld held.old }
-    ensures passed { (log : Option (List ℕ)) → Passed Always true (service_state (P.seen ports.old) log held.old)
-        (service_state (P.seen ports.new) log held.new) }
-    ensures held { IsHeld held.new }
-    ensures same { held.new.plan ≡ held.old.plan }
-    ensures prompt { MayWait held.old → MayWait held.new }
+fn accept<P: Ports>(service: &mut Service<P::Client>, ports: &mut P)
+    requires { IsConsistent P.number_of service.old }
+    ensures passed { (log : Option (List ℕ)) → Passed Always true (service_state (P.seen ports.old) log service.old)
+        (service_state (P.seen ports.new) log service.new) }
+    ensures consistent { IsConsistent P.number_of service.new }
+    ensures noted { (log : Option (List ℕ)) → StayNoted (service_state (P.seen ports.old) log service.old)
+        (service_state (P.seen ports.new) log service.new) }
+    ensures same { service.new.plan ≡ service.old.plan }
+    ensures prompt { MayWait service.old → MayWait service.new }
 {
-    let number = held.count;
-    if number == held.plan.connections {
+    let number = service.count;
+    if number == service.plan.connections {
         return;
     }
-    let places = held.connections.len();
-    if held
+    if service.clients.reserve(1).is_err() {
+        return;
+    }
+    let places = service.connections.len();
+    if service
         .connections
-        .push(Connection::new(held.desk.alloc, number))
+        .push(Connection::new(service.desk.alloc, number))
         .is_err()
     {
         return;
     }
-    if !ports.accept(number) {
-        held.connections.truncate(places);
+    let Some(client) = ports.accept(number) else {
+        service.connections.truncate(places);
         return;
-    }
-    held.count = number + 1;
+    };
+    let _ = service.clients.push(client);
+    service.count = number + 1;
 }
 
 /// One turn of each connection, from the last to the first: a request is answered, if the connection has one, and what
 /// is still to be sent is written.
 fn serve_turn<P: Ports, B: Books, W: Write, E: Write>(
-    held: &mut Held,
+    service: &mut Service<P::Client>,
     ports: &mut P,
     office: &mut Office<B>,
     log: &mut W,
     errors: &mut E,
 )
-    requires { IsHeld held.old }
-    ensures round { IsRound Always held.old.count B.Books office.old.books office.new.books
-        (service_state (P.seen ports.old) (W.contents log.old) held.old)
-        (service_state (P.seen ports.new) (W.contents log.new) held.new) }
-    ensures held { IsHeld held.new }
-    ensures same { held.new.plan ≡ held.old.plan }
-    ensures told { TellsIf held.old.plan.while_open (E.contents errors.old) (E.contents errors.new) }
+    requires consistent { IsConsistent P.number_of service.old }
+    requires clear { IsClear service.old.plan.while_open office.old.faults }
+    ensures round { (round : IsRound Always service.old.count B.Books office.old.books office.new.books
+        (service_state (P.seen ports.old) (W.contents log.old) service.old)
+        (service_state (P.seen ports.new) (W.contents log.new) service.new))
+        × TellsIf service.old.plan.while_open (service_state (P.seen ports.old) (W.contents log.old) service.old)
+        (service_state (P.seen ports.new) (W.contents log.new) service.new) round.happened.events
+        (E.contents errors.old) (E.contents errors.new) }
+    ensures clear { IsClear service.old.plan.while_open office.new.faults }
+    ensures consistent { IsConsistent P.number_of service.new }
+    ensures same { service.new.plan ≡ service.old.plan }
 {
     let answers = Asked {
         reads: false,
         serves: true,
     };
-    let mut at = held.connections.len();
+    let mut at = service.connections.len();
     'turn: while at > 0 {
         at -= 1;
-        if at < held.connections.len() {
+        if at < service.connections.len() {
             let turn = Turn { at, asked: answers };
-            turn_at(held, ports, turn, office, log, errors);
+            turn_at(service, ports, turn, office, log, errors);
         }
     }
 }
 
 /// Handles one event. A request of its connection is answered at once, unless the service is busy: then it waits for its
 /// turn, as those of others do.
-#[tactic(auto, using(crate::proofs::Told::if_none, crate::proofs::Rounds::turn_none))]
+#[tactic(auto, using(crate::proofs::Telling::none_told))]
 fn step<P: Ports, B: Books, W: Write, E: Write>(
-    held: &mut Held,
+    service: &mut Service<P::Client>,
     ports: &mut P,
     ready: Ready,
     office: &mut Office<B>,
     log: &mut W,
     errors: &mut E,
 )
-    requires { IsHeld held.old }
-    ensures turned { IsTurn (HasReported ready) B.Books office.old.books office.new.books
-        (service_state (P.seen ports.old) (W.contents log.old) held.old)
-        (service_state (P.seen ports.new) (W.contents log.new) held.new) (not held.old.busy) }
-    ensures held { IsHeld held.new }
-    ensures same { held.new.plan ≡ held.old.plan }
-    ensures prompt { MayWait held.old → MayWait held.new }
-    ensures told { TellsIf held.old.plan.while_open (E.contents errors.old) (E.contents errors.new) }
+    requires consistent { IsConsistent P.number_of service.old }
+    requires clear { IsClear service.old.plan.while_open office.old.faults }
+    ensures turned { (turned : IsTurn (HasReported ready) B.Books office.old.books office.new.books
+        (service_state (P.seen ports.old) (W.contents log.old) service.old)
+        (service_state (P.seen ports.new) (W.contents log.new) service.new) (not service.old.busy))
+        × TellsIf service.old.plan.while_open (service_state (P.seen ports.old) (W.contents log.old) service.old)
+        (service_state (P.seen ports.new) (W.contents log.new) service.new) turned.happened.events
+        (E.contents errors.old) (E.contents errors.new) }
+    ensures clear { IsClear service.old.plan.while_open office.new.faults }
+    ensures consistent { IsConsistent P.number_of service.new }
+    ensures same { service.new.plan ≡ service.old.plan }
+    ensures prompt { MayWait service.old → MayWait service.new }
 {
     match ready {
-        Ready::Came => accept(held, ports),
+        Ready::Came => accept(service, ports),
         Ready::Readable(number) | Ready::Writable(number) => {
-            if let Some(at) = place_of(&held.connections, number) {
+            if let Some(at) = place_of(&service.connections, number, ports.place()) {
                 let asked = Asked {
                     reads: matches!(ready, Ready::Readable(_)),
-                    serves: !held.busy,
+                    serves: !service.busy,
                 };
-                turn_at(held, ports, Turn { at, asked }, office, log, errors);
+                turn_at(service, ports, Turn { at, asked }, office, log, errors);
             }
         }
         Ready::Expired(number) => {
-            if let Some(at) = place_of(&held.connections, number) {
-                give_up(held, ports, log, at);
+            if let Some(at) = place_of(&service.connections, number, ports.place()) {
+                give_up(service, ports, log, at);
             }
         }
         Ready::Nothing | Ready::Failed => {}
@@ -263,28 +303,41 @@ fn all_prompt(connections: &[Connection], count: u64) -> bool
 /// One turn of the service: handles one event and, if the service was busy, answers a request of each connection that
 /// has any.
 fn serve_ready<P: Ports, B: Books, W: Write, E: Write>(
-    held: &mut Held,
+    service: &mut Service<P::Client>,
     ports: &mut P,
     ready: Ready,
     office: &mut Office<B>,
     log: &mut W,
     errors: &mut E,
 )
-    requires held { IsHeld held.old }
-    requires prompt { MayWait held.old }
-    ensures round { IsRound (HasReported ready) 0 B.Books office.old.books office.new.books
-        (service_state (P.seen ports.old) (W.contents log.old) held.old)
-        (service_state (P.seen ports.new) (W.contents log.new) held.new) }
-    ensures held { IsHeld held.new }
-    ensures same { held.new.plan ≡ held.old.plan }
-    ensures prompt { MayWait held.new }
-    ensures told { TellsIf held.old.plan.while_open (E.contents errors.old) (E.contents errors.new) }
+    requires consistent { IsConsistent P.number_of service.old }
+    requires clear { IsClear service.old.plan.while_open office.old.faults }
+    requires prompt { MayWait service.old }
+    ensures round { (round : IsRound (HasReported ready) 0 B.Books office.old.books office.new.books
+        (service_state (P.seen ports.old) (W.contents log.old) service.old)
+        (service_state (P.seen ports.new) (W.contents log.new) service.new))
+        × TellsIf service.old.plan.while_open (service_state (P.seen ports.old) (W.contents log.old) service.old)
+        (service_state (P.seen ports.new) (W.contents log.new) service.new) round.happened.events
+        (E.contents errors.old) (E.contents errors.new) }
+    ensures clear { IsClear service.old.plan.while_open office.new.faults }
+    ensures consistent { IsConsistent P.number_of service.new }
+    ensures same { service.new.plan ≡ service.old.plan }
+    ensures prompt { MayWait service.new }
 {
-    let was_busy = held.busy;
-    step(held, ports, ready, office, log, errors);
+    let was_busy = service.busy;
+    step(service, ports, ready, office, log, errors);
     if was_busy {
-        serve_turn(held, ports, office, log, errors);
-        held.busy = !all_prompt(&held.connections, held.count);
+        serve_turn(service, ports, office, log, errors);
+        service.busy = !all_prompt(&service.connections, service.count);
+    }
+}
+
+/// Ends the service: gives the clients of the connections that are still open back to the ports.
+fn give_back<P: Ports>(ports: &mut P, service: Service<P::Client>)
+    ensures { P.seen ports.new ≡ P.seen ports.old }
+{
+    'clients: for client in service.clients {
+        ports.take_back(client);
     }
 }
 
@@ -304,8 +357,8 @@ fn is_over<B: Books>(while_open: bool, office: &Office<B>) -> bool
 ///
 /// If it is to go on only while its store is open, it halts once a failure has shut the store: after the turn in which
 /// that was answered, and in which the ports took what they could of the answer. In this mode it also writes to the
-/// errors which kinds of fault each connection was answered; otherwise it writes nothing there. A failed write to the
-/// log or the errors is ignored.
+/// errors which kinds of fault each connection was answered, each kind once; otherwise it writes nothing there. A failed
+/// write to the log or the errors is ignored.
 pub fn serve_clients<P: Ports, B: Books, W: Write, E: Write>(
     alloc: Global,
     ports: &mut P,
@@ -314,37 +367,43 @@ pub fn serve_clients<P: Ports, B: Books, W: Write, E: Write>(
     log: &mut W,
     errors: &mut E,
 ) -> Result<(), Halted>
-    ensures served { AreServed B.Books office.old.books office.new.books
+    ensures served { (served : AreServed B.Books office.old.books office.new.books
         (seen_by (P.seen ports.old) (W.contents log.old)) (seen_by (P.seen ports.new) (W.contents log.new))
-        plan.connections result }
+        plan.connections result)
+        × TellsFaults (E.contents errors.old) (reported_faults plan.while_open served.sent.events) (E.contents errors.new) }
     ensures honest { WasHonest B.is_honest office.old.books office.new.books }
     ensures shut { result ≡ Err Halted.Shut → IsTrue plan.while_open × (¬ B.is_honest office.new.books) }
-    ensures said { TellsFaults (E.contents errors.old) (E.contents errors.new) }
     ensures quiet { plan.while_open ≡ false → E.contents errors.new ≡ E.contents errors.old }
 {
     let Ok(desk) = Desk::new(alloc) else {
         return Err(Halted::Memory);
     };
-    let connections = Vec::new(alloc);
-    let mut held = Held {
+    drop(office.take_faults());
+    let mut service = Service {
         desk,
-        connections,
+        connections: Vec::new(alloc),
+        clients: Vec::new(alloc),
         count: 0,
         plan,
         busy: false,
     };
     'turns: for count in 0..u64::MAX {
-        if held.count == plan.connections && held.connections.is_empty() {
+        if service.count == plan.connections && service.connections.is_empty() {
             return Ok(());
         }
         if is_over(plan.while_open, office) {
+            give_back(ports, service);
             return Err(Halted::Shut);
         }
-        let ready = ports.next(&held.connections, held.count < plan.connections, !held.busy);
+        let accepts = service.count < plan.connections;
+        let clients = service.clients.as_mut_slice();
+        let ready = ports.next(&service.connections, clients, accepts, !service.busy);
         if let Ready::Failed = ready {
+            give_back(ports, service);
             return Err(Halted::Ports);
         }
-        serve_ready(&mut held, ports, ready, office, log, errors);
+        serve_ready(&mut service, ports, ready, office, log, errors);
     }
+    give_back(ports, service);
     Err(Halted::Ports)
 }

@@ -4,8 +4,8 @@ use Rattle.std.proofs.Common.{◌≡◌, ◌<◌, ℕ, suc, true≢false, ◌+�
 use Rattle.std.proofs.{Common.{arith, ◌∙◌}, KnownBytes.{Appends-nil}}
 use Rattle.plant_model.specs.declared.{call.Call.{Call}, reply.Answer.{Answer}}
 use Rattle.plant_books.specs.declared.books.Books as books
-use Rattle.plant_office.specs.Enduring.{books_state}
-use Rattle.plant_wire.specs.{Causes.{cause_text}, Marks.{answers_of, calls_of, last_marks, last_text, out_of}, Over.{RanOn}}
+use Rattle.plant_office.specs.{Enduring.{books_state}, declared.office.Office.{Office}}
+use Rattle.plant_wire.specs.{Causes.{cause_text}, Marks.{answers_of, calls_of, last_marks, last_text, out_of}, Over.{RanOn, RanWith}}
 use Rattle.plant_wire.specs.{Session.{IsCutShort, IsSession, StopsAs}, Step.{AnswersFront, ServesBroken, ServesPart}, declared.reads.End.{End}}
 use Rattle.plant_wire.specs.declared.reads.End.TheVariants.{BrokenInput, Closed, Fault, ReadFailed, WriteFailed}
 use Rattle.plant_wire.proofs.public.Running.{ran_joins, ran_none}
@@ -177,14 +177,14 @@ next_exchange seen traffic k r r' ended ended' o o' failed failed' reads reads' 
     }
 
 -- the log with one line more
-tells_more : (o o' o'' : Option (List ℕ)) (ends : List End) (count : ℕ) → length ends ≡ count → (end : End) → Tells o ends o'
+pub tells_more : (o o' o'' : Option (List ℕ)) (ends : List End) (count : ℕ) → length ends ≡ count → (end : End) → Tells o ends o'
     → (part : ℕ) × Appends o' o'' (take part (line_of (count + 1) end)) → Tells o (end ∷ ends) o''
 tells_more o o' o'' ends count is end (text, lines, h) (part, k) =
     let line = take part (line_of (length ends + 1) end) in
     let k' = subst (λ (i : ℕ). Appends o' o'' (take part (line_of (i + 1) end))) (sym is) k in
     (text ++ line, (text, part, lines, refl), Appends-trans o o' o'' text line h k')
 
-length_ends : (xs : List Exchange) → length (map (λ (x : Exchange). x.end) xs) ≡ length xs
+pub length_ends : (xs : List Exchange) → length (map (λ (x : Exchange). x.end) xs) ≡ length xs
 length_ends [] = refl
 length_ends (x ∷ xs) = ap suc (length_ends xs)
 
@@ -195,7 +195,7 @@ seen_as old new k x is it =
     (subst (λ bytes. IsOver (old.incoming k) bytes (new.failed k) x) (sym is.1)
     (subst (λ b. IsOver (old.incoming k) (old.outgoing k) b x) (sym is.2) it))
 
-seen_still : (old new : Traffic) (first : ℕ) (xs : List Exchange) → ((k : ℕ) → k < first + length xs → IsShownAs old new k) → AreSeen old first xs
+pub seen_still : (old new : Traffic) (first : ℕ) (xs : List Exchange) → ((k : ℕ) → k < first + length xs → IsShownAs old new k) → AreSeen old first xs
     → AreSeen new first xs
 seen_still old new first [] same it = tt
 seen_still old new first (x ∷ xs) same it = (
@@ -233,8 +233,14 @@ pub record ServedSoFar {B : Type 0} (b : books.Ghosts B) (x y : B) (log log' : O
   pub failed : to.failed ≡ from.failed
   pub seen : to.seen ≡ from.seen
 
+-- the calls of the next one were one run of the books
+unfoldable pub next_ran : {B : Type 0} (b : books.Ghosts B) (x y : Office B) {seen : Bool} {traffic : Traffic} {k : ℕ} {end : End}
+    → IsNext (RanWith b x y) seen traffic k end → IsNext (RanOn b x.books y.books) seen traffic k end
+next_ran b x y next =
+    record { exchange = next.exchange; is = next.is; ended = next.ended; made = next.made.0; shown = next.shown }
+
 module _ {B : Type 0} (b : books.Ghosts B) (x : B) (log : Option (List ℕ)) (from : ListenerState) where
-  pub served_none : ServedSoFar b x x log log from from 0
+  unfoldable pub served_none : ServedSoFar b x x log log from from 0
   served_none = record {
     exchanges = [];
     turn = record { each = tt; made = ran_none (books_state b x) (b.stores x); told = ([], refl, Appends-nil log) };
@@ -247,7 +253,7 @@ module _ {B : Type 0} (b : books.Ghosts B) (x : B) (log : Option (List ℕ)) (fr
   }
 
   -- and one more, which ended so
-  pub served_more : (y z : B) (log' log'' : Option (List ℕ)) (mid to : ListenerState) (count : ℕ) (end : End)
+  unfoldable pub served_more : (y z : B) (log' log'' : Option (List ℕ)) (mid to : ListenerState) (count : ℕ) (end : End)
       → ServedSoFar b x y log log' from mid count → IsNext (RanOn b y z) mid.seen to.traffic mid.accepted end
       → (b.is_honest z → b.is_honest y) → to.accepted ≡ mid.accepted + 1 → to.failed ≡ mid.failed → to.seen ≡ mid.seen
       → ((k : ℕ) → k < mid.accepted → IsShownAs mid.traffic to.traffic k)

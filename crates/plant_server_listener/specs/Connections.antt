@@ -3,6 +3,7 @@ use Rattle.std.specs.Prelude.{None, Option, Result, Ok, Err, Some, Bool, IsTrue,
 use Rattle.plant_model.specs.declared.{call.Call.{Call}, reply.Answer.{Answer}}
 use Rattle.plant_types.specs.Limits.{max_reads}
 use Rattle.plant_books.specs.declared.books.Books.{Ghosts}
+use Rattle.plant_office.specs.{Faults.{faults_in}, declared.office.Faults.{Faults}}
 use Rattle.plant_wire.specs.{Over.{RanOn}, Session.{EndsAs, IsSession}, declared.reads.End.{End, TheVariants.{BrokenInput, Closed, Fault, ReadFailed, WriteFailed}}}
 use Rattle.plant_wire.specs.declared.streams.Failed.{Failed}
 use Rattle.plant_server_log.specs.Log.{Tells}
@@ -38,6 +39,10 @@ calls_over (x ∷ earlier) = calls_over earlier ++ x.calls
 abbrev pub answers_over : List Exchange → List Answer
 answers_over [] = []
 answers_over (x ∷ earlier) = answers_over earlier ++ x.answers
+
+-- the kinds of fault that its calls were answered
+abbrev pub faults_of : Exchange → Faults
+faults_of x = faults_in x.answers
 
 -- the session was given up because of a read or a write
 abbrev pub is_given_up : End → Bool

@@ -3,7 +3,7 @@
 
 ghost use Rattle.std.specs.Prelude.{◌≡◌, ◌⊎◌, ◌+◌, ◌<◌, ℕ, suc, Bool, IsTrue, List, [], Some, length, IfOk, OnOk, OnErr};
 ghost use Rattle.plant_books.specs.Books.{WasHonest};
-ghost use Rattle.plant_wire.specs.{Over.{RanOn}, declared.reads.End.{End}};
+ghost use Rattle.plant_wire.specs.{Over.{RanWith}, declared.reads.End.{End}};
 ghost use Rattle.plant_server_listener.specs.Connections.{AreServedInTurn, AreSeen, Exchange, IsNext, IsShownAs, IsWhole, StopsAfter, Traffic};
 
 use plant_office::{Books, Office};
@@ -68,7 +68,7 @@ pub(crate) fn serve_next<L: Listener, B: Books>(
     listener: &mut L,
     office: &mut Office<B>,
 ) -> Result<End, Failed>
-    ensures does { IfOk result (IsNext (RanOn B.Books office.old.books office.new.books) (L.is_seen listener.old)
+    ensures does { IfOk result (IsNext (RanWith B.Books office.old office.new) (L.is_seen listener.old)
         (L.traffic listener.new) (L.accepted listener.old)) }
     ensures seen { L.is_seen listener.new ≡ L.is_seen listener.old }
     ensures others { (k : ℕ) → k < L.accepted listener.old

@@ -1,9 +1,9 @@
 //! Serves connections one after the other, as `connections` does, but stops once a failure has shut the store, which
 //! stays shut until the program is started again.
 
-ghost use Rattle.std.specs.Prelude.{◌≡◌, ◌+◌, Err, IsTrue, List, length};
+ghost use Rattle.std.specs.Prelude.{◌≡◌, ◌+◌, Err, IsTrue, List, length, map};
 ghost use Rattle.plant_books.specs.Books.{WasHonest};
-ghost use Rattle.plant_server_listener.specs.Connections.{AreServedInTurn, AreSeen, Exchange, HaltsAfter};
+ghost use Rattle.plant_server_listener.specs.Connections.{AreServedInTurn, AreSeen, Exchange, HaltsAfter, faults_of};
 ghost use Rattle.plant_server_log.specs.Log.{TellsFaults};
 
 use crate::connections::{Listener, serve_next};
@@ -23,7 +23,7 @@ pub enum Stopped {
 
 /// Serves `n` connections as `serve_connections` does, but only while the store is open: if a failure shuts it, the
 /// current connection is served to its end, and none after it. After each connection it also writes to the errors which
-/// kinds of faults the connection was answered, and nothing else.
+/// kinds of fault the connection was answered, and nothing else; faults that the office answered earlier are not told.
 pub fn serve_while_open<L: Listener, B: Books, W: Write, E: Write>(
     alloc: Global,
     listener: &mut L,
@@ -36,11 +36,12 @@ pub fn serve_while_open<L: Listener, B: Books, W: Write, E: Write>(
         × AreServedInTurn B.Books office.old.books office.new.books (W.contents log.old) (W.contents log.new) exchanges
         × (IsTrue (L.is_seen listener.old) → AreSeen (L.traffic listener.new) (L.accepted listener.old) exchanges)
         × (L.accepted listener.new ≡ L.accepted listener.old + length exchanges)
-        × HaltsAfter n (L.failures listener.old) (L.failures listener.new) (length exchanges) result }
+        × HaltsAfter n (L.failures listener.old) (L.failures listener.new) (length exchanges) result
+        × TellsFaults (E.contents errors.old) (map faults_of exchanges) (E.contents errors.new) }
     ensures honest { WasHonest B.is_honest office.old.books office.new.books }
     ensures shut { result ≡ Err Stopped.Shut → ¬ B.is_honest office.new.books }
-    ensures told { TellsFaults (E.contents errors.old) (E.contents errors.new) }
 {
+    drop(office.take_faults());
     'connections: for count in 0..n {
         if office.is_shut() {
             return Err(Stopped::Shut);

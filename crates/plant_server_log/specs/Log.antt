@@ -1,6 +1,7 @@
 -- What the log and the program write: how connections ended, and faults. Lists of ends have the latest first.
 use Rattle.std.specs.Io.KnownBytes.{Appends}
 use Rattle.std.specs.Prelude.{Option, Bool, false, true, ℕ, ◌≡◌, ◌+◌, List, [], ◌∷◌, ◌++◌, codes, decimal, length, take}
+use Rattle.plant_office.specs.declared.office.Faults.{Faults}
 use Rattle.plant_wire.specs.declared.reads.End.{End, TheVariants.{BrokenInput, Closed, Fault, ReadFailed, WriteFailed}}
 
 abbrev pub end_name : End → List ℕ
@@ -10,12 +11,15 @@ end_name ReadFailed = codes "ReadFailed"
 end_name WriteFailed = codes "WriteFailed"
 end_name Fault = codes "Fault"
 
--- a line for each kind of fault that was answered: of memory, of the store
-abbrev pub fault_lines : Bool → Bool → List ℕ
-fault_lines false false = []
-fault_lines true false = codes "fault: Memory\n"
-fault_lines false true = codes "fault: Store\n"
-fault_lines true true = codes "fault: Memory\nfault: Store\n"
+-- a line for each of these kinds of fault
+abbrev pub lines_of_kinds : Bool → Bool → List ℕ
+lines_of_kinds false false = []
+lines_of_kinds true false = codes "fault: Memory\n"
+lines_of_kinds false true = codes "fault: Store\n"
+lines_of_kinds true true = codes "fault: Memory\nfault: Store\n"
+
+abbrev pub fault_lines : Faults → List ℕ
+fault_lines faults = lines_of_kinds faults.memory faults.store
 
 -- the line that says how a connection ended
 unfoldable pub line_of : ℕ → End → List ℕ
@@ -31,14 +35,13 @@ AreLines (end ∷ earlier) text = (before : List ℕ) × (part : ℕ) × AreLine
 abbrev pub Tells : Option (List ℕ) → List End → Option (List ℕ) → Type 0
 Tells written ends written_after = (text : List ℕ) × AreLines ends text × Appends written written_after text
 
--- Each time, lines for the kinds of fault that were answered (of memory, of the store), whole or, if the write failed, a
--- part from the front. The latest come first.
-abbrev pub AreFaultLines : List (Bool × Bool) → List ℕ → Type 0
+-- Each time, a line for each of these kinds of fault, whole or, if the write failed, a part from the front. The latest
+-- come first.
+abbrev pub AreFaultLines : List Faults → List ℕ → Type 0
 AreFaultLines [] text = text ≡ []
-AreFaultLines (kinds ∷ earlier) text = (before : List ℕ) × (part : ℕ) × AreFaultLines earlier before
-    × (text ≡ before ++ take part (fault_lines kinds.0 kinds.1))
+AreFaultLines (faults ∷ earlier) text = (before : List ℕ) × (part : ℕ) × AreFaultLines earlier before
+    × (text ≡ before ++ take part (fault_lines faults))
 
--- nothing but such lines was written
-abbrev pub TellsFaults : Option (List ℕ) → Option (List ℕ) → Type 0
-TellsFaults written written_after = (kinds : List (Bool × Bool)) × (text : List ℕ) × AreFaultLines kinds text
-    × Appends written written_after text
+-- these lines were written, and nothing else
+abbrev pub TellsFaults : Option (List ℕ) → List Faults → Option (List ℕ) → Type 0
+TellsFaults written faults written_after = (text : List ℕ) × AreFaultLines faults text × Appends written written_after text

@@ -38,7 +38,7 @@ pub fn say<W: Write>(writer: &mut W, text: &[u8])
 
 /// A line for each kind of these faults.
 fn fault_lines(faults: Faults) -> &'static [u8]
-    ensures { result.now ≡ spec.fault_lines faults.memory faults.store }
+    ensures { result.now ≡ spec.fault_lines faults }
 {
     match (faults.memory, faults.store) {
         (false, false) => b"",
@@ -51,7 +51,7 @@ fn fault_lines(faults: Faults) -> &'static [u8]
 /// Writes a line for each kind of these faults. A failed write is ignored.
 pub fn say_faults<W: Write>(errors: &mut W, faults: Faults)
     ensures { (n : ℕ) × Appends (W.contents errors.old) (W.contents errors.new)
-        (take n (spec.fault_lines faults.memory faults.store)) }
+        (take n (spec.fault_lines faults)) }
 {
     say(errors, fault_lines(faults));
 }

@@ -1,14 +1,16 @@
 //! The sockets of a port with epoll: which client goes on next, which deadlines have passed, who is given up while
 //! others wait for a place, and how much memory unread requests may take.
 
-ghost use Rattle.std.specs.Prelude.{None};
+ghost use Rattle.std.specs.Prelude.{◌≡◌, None, length};
+ghost use Rattle.std.specs.List.Sorted.{IsSearchInRange};
+ghost use Rattle.plant_server_sockets.specs.Clients.{numbers};
 
 use crate::clients::{Client, may_finish};
 use mio::net::{TcpListener, TcpStream};
 use mio::{Events, Interest, Poll, Token};
 use plant_server_clients::{Connection, Ports, Ready, Sent, Taken};
 use plant_wire::End;
-use std::collections::{BTreeMap, VecDeque};
+use std::collections::VecDeque;
 use std::io;
 use std::io::ErrorKind;
 use std::net::{Ipv4Addr, SocketAddr};
@@ -55,8 +57,8 @@ const KEPT_MS: u64 = 2000;
 /// A request may take at most this many times the allowed silence, from its first byte to its last.
 const REQUEST_SILENCES: u64 = 4;
 
-/// How many bytes of requests all connections together may hold before only some are read: 64 MiB.
-const HELD_BYTES: usize = 67_108_864;
+/// How many bytes of requests all connections together may have unread before only some are read: 64 MiB.
+const UNREAD_BYTES: usize = 67_108_864;
 
 /// How many bytes of a request are read of each connection, even then.
 const FREE_BYTES: usize = 65_536;
@@ -93,7 +95,11 @@ pub struct Sockets<'a> {
     events: Events,
     listener: TcpListener,
     limits: Limits,
-    clients: BTreeMap<u64, Client>,
+    /// How many connections were open when it was last asked what can be done.
+    open: usize,
+    /// Clients whose connections were closed, and who may still be sending, in the order of their numbers. It has room
+    /// for the clients of all open connections too, so that closing one needs no memory.
+    lingering: Vec<Client>,
     /// Clients that may go on, in the order of their turns.
     ready: VecDeque<u64>,
     /// Clients that may be read, but still have requests to be answered.
@@ -118,16 +124,18 @@ pub struct Sockets<'a> {
     accepts_first: bool,
     /// Whether the connection that waits for a place was offered to the service.
     offered: bool,
-    /// Whether a client was not read because too many bytes of requests are held.
+    /// Whether a client was not read because too many bytes of requests are unread.
     crowded: bool,
     /// How long a client may be quiet after its last answer.
     quiet: u64,
     /// How many turns were made since the last wait.
     turns: u32,
-    /// How many bytes of requests are held, estimated from what was read; counted anew when it is above the limit.
-    held: usize,
+    /// How many bytes of requests are unread, estimated from what was read; counted anew when it is above the limit.
+    unread_bytes: usize,
     /// How many bytes the next read may take at most.
     most: usize,
+    /// The index of the client that was looked at last.
+    place: usize,
     scratch: Vec<u8>,
 }
 
@@ -138,24 +146,30 @@ fn millis(time: Duration) -> u64 {
         .saturating_add(time.subsec_millis() as u64)
 }
 
-/// The connection with this number.
-fn connection_at(connections: &[Connection], number: u64) -> Option<&Connection> {
-    match connections.binary_search_by_key(&number, |connection| connection.number) {
-        Ok(at) => connections.get(at),
-        Err(_) => None,
-    }
+/// The index of the connection with this number.
+fn index_of(connections: &[Connection], number: u64) -> Option<usize> {
+    connections
+        .binary_search_by_key(&number, |connection| connection.number)
+        .ok()
+}
+
+/// The index of the client with this number, or the place where it belongs.
+fn search(clients: &[Client], number: u64) -> Result<usize, usize>
+    ensures { IsSearchInRange result (length clients.now) }
+{
+    clients.binary_search_by_key(&number, |client| client.number)
 }
 
 /// How many bytes are allocated for requests.
-fn held_of(connections: &[Connection]) -> usize {
-    let mut held = 0usize;
+fn bytes_of(connections: &[Connection]) -> usize {
+    let mut bytes = 0usize;
     for connection in connections {
-        held = held.saturating_add(connection.unread.capacity());
+        bytes = bytes.saturating_add(connection.unread.capacity());
     }
-    held
+    bytes
 }
 
-/// The connection that holds most. It is always read, so that at least one can finish.
+/// The connection that has most bytes unread. It is always read, so that at least one can finish.
 fn fullest(connections: &[Connection]) -> Option<u64> {
     let mut most = 0;
     let mut number = None;
@@ -168,7 +182,7 @@ fn fullest(connections: &[Connection]) -> Option<u64> {
     number
 }
 
-/// How many bytes may be read of this connection's request, freely or while too many are held.
+/// How many bytes may be read of this connection's request, freely or while too many are unread.
 fn room_of(connection: &Connection, freely: bool) -> usize {
     if freely {
         return usize::MAX;
@@ -197,7 +211,8 @@ impl<'a> Sockets<'a> {
             events: Events::with_capacity(rt.alloc(), EVENTS_A_WAIT)?,
             listener,
             limits,
-            clients: BTreeMap::new(rt.alloc()),
+            open: 0,
+            lingering: Vec::new(rt.alloc()),
             ready: VecDeque::new(rt.alloc()),
             aside: VecDeque::new(rt.alloc()),
             ahead: 0,
@@ -214,8 +229,9 @@ impl<'a> Sockets<'a> {
             crowded: false,
             quiet: QUIET_MS,
             turns: 0,
-            held: 0,
+            unread_bytes: 0,
             most: usize::MAX,
+            place: 0,
             scratch: vec![in rt.alloc(); 0u8; SCRATCH_BYTES]?,
         })
     }
@@ -225,15 +241,20 @@ impl<'a> Sockets<'a> {
         self.listener.local_addr()
     }
 
-    /// Shuts down the sending side to all clients that are still served. What the system took of their answers must
-    /// still reach them.
-    fn end_all(&mut self) {
+    /// How many places are taken.
+    fn places(&self) -> usize {
+        self.open.saturating_add(self.lingering.len())
+    }
+
+    /// Closes the connection of a client that ended in this way. One that may still be sending stays until it is quiet.
+    fn let_go(&mut self, mut client: Client, end: End) {
         let quiet = self.now.saturating_add(self.quiet);
-        for (number, client) in self.clients.iter_mut() {
-            client.until = client.until.min(quiet);
-            if client.lingers.is_none() && client.linger(End::Fault, quiet) && !client.queued {
-                client.queued = self.ready.push_back(*number).is_ok();
-            }
+        if !client.linger(end, quiet) {
+            return;
+        }
+        client.queue(&mut self.ready);
+        if let Err(at) = search(&self.lingering, client.number) {
+            let _ = self.lingering.insert(at, client);
         }
     }
 
@@ -241,14 +262,17 @@ impl<'a> Sockets<'a> {
     /// until each has been quiet for a moment.
     pub fn finish(&mut self) {
         self.quiet = LAST_QUIET_MS;
-        self.end_all();
+        let quiet = self.now.saturating_add(self.quiet);
+        for client in self.lingering.iter_mut() {
+            client.until = client.until.min(quiet);
+        }
         for _ in 0..LAST_WAITS {
             let now = self.now;
-            self.clients.retain(|_, client| client.is_read_out(now));
-            if self.clients.is_empty() || self.wait(LOOK_EVERY_MS).is_err() {
+            self.lingering.retain(|client| client.is_read_out(now));
+            if self.lingering.is_empty() || self.wait(LOOK_EVERY_MS, &[], &mut []).is_err() {
                 return;
             }
-            let _ = self.next_ready(&[]);
+            let _ = self.next_ready(&[], &mut []);
         }
     }
 
@@ -271,41 +295,39 @@ impl<'a> Sockets<'a> {
         }
     }
 
-    /// Puts a client behind the others that wait for their turns.
-    fn queue(&mut self, number: u64) {
-        if let Some(client) = self.clients.get_mut(&number) {
-            if !client.queued {
-                client.queued = self.ready.push_back(number).is_ok();
-            }
-        }
-    }
-
     /// Marks the clients that the last wait reported, and queues them. One that can't be queued, because memory ran
     /// out, is queued when deadlines are looked at next.
-    fn note_events(&mut self) {
-        for event in &self.events {
+    fn note_events(&mut self, connections: &[Connection], clients: &mut [Client])
+        ensures { numbers clients.new ≡ numbers clients.old }
+    {
+        'events: for event in &self.events {
             if event.token() == LISTENER {
                 self.may_accept = true;
                 continue;
             }
             let number = event.token().0 as u64;
-            let Some(client) = self.clients.get_mut(&number) else {
-                continue;
-            };
-            client.note(event);
-            if !client.queued {
-                client.queued = self.ready.push_back(number).is_ok();
+            if let Some(at) = index_of(connections, number) {
+                if at < clients.len() {
+                    clients[at].note(event, &mut self.ready);
+                }
+            } else if let Ok(at) = search(&self.lingering, number) {
+                self.lingering[at].note(event, &mut self.ready);
             }
         }
     }
 
     /// Looks at the clock. If the program was suspended, all deadlines move on.
-    fn tick(&mut self) -> io::Result<()> {
+    fn tick(&mut self, clients: &mut [Client]) -> io::Result<()>
+        ensures { numbers clients.new ≡ numbers clients.old }
+    {
         let now = millis(self.start.elapsed(self.rt)?);
         let passed = now.saturating_sub(self.now);
         self.now = now;
         if passed > STOPPED_MS {
-            for client in self.clients.values_mut() {
+            'clients: for client in clients.iter_mut() {
+                client.move_on(passed);
+            }
+            for client in self.lingering.iter_mut() {
                 client.move_on(passed);
             }
         }
@@ -313,12 +335,19 @@ impl<'a> Sockets<'a> {
     }
 
     /// Waits until something is ready, at most `longest` milliseconds, and marks it.
-    fn wait(&mut self, longest: u64) -> io::Result<()> {
+    fn wait(
+        &mut self,
+        longest: u64,
+        connections: &[Connection],
+        clients: &mut [Client],
+    ) -> io::Result<()>
+        ensures { numbers clients.new ≡ numbers clients.old }
+    {
         self.turns = 0;
         self.poll
             .poll(&mut self.events, Some(Duration::from_millis(longest)))?;
-        self.tick()?;
-        self.note_events();
+        self.tick(clients)?;
+        self.note_events(connections, clients);
         Ok(())
     }
 
@@ -346,60 +375,62 @@ impl<'a> Sockets<'a> {
             }
         }
         let has_one = accepts && self.accepted.is_some() && self.paused <= self.now;
-        has_one && self.clients.len() < self.limits.clients
+        has_one && self.places() < self.limits.clients
     }
 
-    /// Looks for connections whose time is over: those that are silent, that take nothing of an answer, or that have
-    /// not sent their request whole.
-    fn look_at_deadlines(&mut self, connections: &[Connection]) {
+    /// Looks at the deadlines of a client: whether it is silent, takes nothing of an answer, or has not sent its request
+    /// whole.
+    fn look_at_times(&mut self, connection: &Connection, client: &mut Client)
+        ensures { client.new.number ≡ client.old.number }
+    {
+        if connection.unread.is_empty() {
+            client.whole = None;
+        } else if client.whole.is_none() {
+            client.whole = self.whole();
+        }
+        if client.crowded {
+            client.until = self.until();
+            client.whole = self.whole();
+        }
+        let late = match client.whole {
+            Some(whole) => whole <= self.now,
+            None => false,
+        };
+        if client.until <= self.now || late {
+            let _ = self.expired.push_back(connection.number);
+        }
+        client.queue(&mut self.ready);
+    }
+
+    /// Looks for connections whose time is over, and for clients that lingered long enough.
+    fn look_at_deadlines(&mut self, connections: &[Connection], clients: &mut [Client])
+        ensures { numbers clients.new ≡ numbers clients.old }
+    {
         if self.now < self.check {
             return;
         }
         self.check = self.now.saturating_add(DEADLINES_EVERY_MS);
-        let now = self.now;
-        let until = self.until();
-        let whole = self.whole();
-        for connection in connections {
-            let Some(client) = self.clients.get_mut(&connection.number) else {
-                continue;
+        'clients: for (at, client) in clients.iter_mut().enumerate() {
+            let Some(connection) = connections.get(at) else {
+                break;
             };
-            if connection.unread.is_empty() {
-                client.whole = None;
-            } else if client.whole.is_none() {
-                client.whole = whole;
-            }
-            if client.crowded {
-                client.until = until;
-                client.whole = whole;
-            }
-            let late = match client.whole {
-                Some(whole) => whole <= now,
-                None => false,
-            };
-            if client.until <= now || late {
-                let _ = self.expired.push_back(connection.number);
-            }
-            if !client.queued {
-                client.queued = self.ready.push_back(connection.number).is_ok();
-            }
+            self.look_at_times(connection, client);
         }
-        self.clients.retain(|_, client| client.lingers.is_none() || client.is_read_out(now));
+        let now = self.now;
+        self.lingering.retain(|client| client.is_read_out(now));
     }
 
-    /// Whether all places are held and a client waits for one.
+    /// Whether all places are taken and a client waits for one.
     fn wants_place(&self) -> bool {
-        self.accepted.is_some() && self.clients.len() >= self.limits.clients
+        self.accepted.is_some() && self.places() >= self.limits.clients
     }
 
     /// The connection that gives its place up: of those that have neither a whole request nor an answer to be sent, the
     /// one whose last answer was sent, or that was accepted, longest ago, if that is at least two seconds.
-    fn gives_place(&self, connections: &[Connection]) -> Option<u64> {
+    fn gives_place(&self, connections: &[Connection], clients: &[Client]) -> Option<u64> {
         let mut first = u64::MAX;
         let mut number = None;
-        for connection in connections {
-            let Some(client) = self.clients.get(&connection.number) else {
-                continue;
-            };
+        for (connection, client) in connections.iter().zip(clients.iter()) {
             let kept = client.since.saturating_add(KEPT_MS) > self.now;
             if connection.is_open() && !client.readable && !kept && client.since < first {
                 first = client.since;
@@ -411,17 +442,14 @@ impl<'a> Sockets<'a> {
 
     /// The connection that gives its memory up: of those that hold more than each may, the one that was silent longest,
     /// if that is at least two seconds and none of its bytes wait unread.
-    fn gives_room(&self, connections: &[Connection]) -> Option<u64> {
+    fn gives_room(&self, connections: &[Connection], clients: &[Client]) -> Option<u64> {
         let mut first = u64::MAX;
         let mut number = None;
-        for connection in connections {
-            let Some(client) = self.clients.get(&connection.number) else {
-                continue;
-            };
-            let kept = client.heard.saturating_add(KEPT_MS) > self.now;
+        for (connection, client) in connections.iter().zip(clients.iter()) {
+            let kept = client.last_bytes_ms.saturating_add(KEPT_MS) > self.now;
             let holds = connection.is_open() && connection.unread.len() > FREE_BYTES;
-            if holds && !client.readable && !kept && client.heard < first {
-                first = client.heard;
+            if holds && !client.readable && !kept && client.last_bytes_ms < first {
+                first = client.last_bytes_ms;
                 number = Some(connection.number);
             }
         }
@@ -430,92 +458,124 @@ impl<'a> Sockets<'a> {
 
     /// The connection that is closed for others that wait for a place or for memory, if any. Connections that only
     /// linger are closed first.
-    fn gives_way(&mut self, connections: &[Connection]) -> Option<u64> {
+    fn gives_way(&mut self, connections: &[Connection], clients: &[Client]) -> Option<u64> {
         let wants_place = self.wants_place();
         if !(wants_place || self.crowded) || self.now < self.look {
             return None;
         }
         self.look = self.now.saturating_add(LOOK_EVERY_MS);
         if wants_place {
-            let before = self.clients.len();
-            self.clients.retain(|_, client| client.lingers.is_none());
-            if self.clients.len() < before {
+            if !self.lingering.is_empty() {
+                self.lingering.clear();
                 return None;
             }
-            if let Some(number) = self.gives_place(connections) {
+            if let Some(number) = self.gives_place(connections, clients) {
                 return Some(number);
             }
         }
         if !self.crowded {
             return None;
         }
-        self.gives_room(connections)
+        self.gives_room(connections, clients)
     }
 
-    /// Whether more bytes of requests are held than the limit.
+    /// Whether more bytes of requests are unread than the limit.
     fn is_full(&mut self, connections: &[Connection]) -> bool {
-        if self.held <= HELD_BYTES {
+        if self.unread_bytes <= UNREAD_BYTES {
             self.crowded = false;
             return false;
         }
-        self.held = held_of(connections);
-        self.crowded = self.crowded && self.held > HELD_BYTES;
-        self.held > HELD_BYTES
+        self.unread_bytes = bytes_of(connections);
+        self.crowded = self.crowded && self.unread_bytes > UNREAD_BYTES;
+        self.unread_bytes > UNREAD_BYTES
     }
 
-    /// Looks at a client whose turn it is: what can be done for it, if anything. It is queued again if more may be done
-    /// later: behind the others if it can go on, and aside while it has requests to be answered.
-    fn look_at(
-        &mut self,
-        number: u64,
-        connections: &[Connection],
-        full: bool,
-        first: Option<u64>,
-    ) -> Option<Ready> {
+    /// Reads out a client whose turn it is, and who only lingers.
+    fn read_out(&mut self, number: u64) {
         let quiet = self.now.saturating_add(self.quiet);
-        let client = self.clients.get_mut(&number)?;
+        let Ok(at) = search(&self.lingering, number) else {
+            return;
+        };
+        let client = &mut self.lingering[at];
         client.queued = false;
-        if client.lingers.is_some() {
-            if client.read_out(&mut self.scratch, quiet) {
-                client.queued = self.ready.push_back(number).is_ok();
-            } else if client.lingers == Some(0) {
-                drop(self.clients.remove(&number));
-            }
-            return None;
+        if client.read_out(&mut self.scratch, quiet) {
+            client.queue(&mut self.ready);
+        } else if client.last_reads == 0 {
+            drop(self.lingering.remove(at));
         }
-        let connection = connection_at(connections, number)?;
+    }
+
+    /// What can be done for a client whose turn it is, if anything. It is queued again if more may be done later: behind
+    /// the others if it can go on, and aside while it has requests to be answered. Its request is read freely, or as far
+    /// as its room goes.
+    fn turn_of(
+        &mut self,
+        connection: &Connection,
+        client: &mut Client,
+        freely: bool,
+    ) -> Option<Ready>
+        ensures { client.new.number ≡ client.old.number }
+    {
+        client.queued = false;
         if client.may_write(connection) {
-            client.queued = self.ready.push_back(number).is_ok();
-            return Some(Ready::Writable(number));
+            client.queue(&mut self.ready);
+            return Some(Ready::Writable(connection.number));
         }
         if !client.readable || connection.end.is_some() || !connection.pending.text.is_empty() {
             return None;
         }
         if !connection.is_open() {
-            client.queued = self.aside.push_back(number).is_ok();
+            client.queue(&mut self.aside);
             return None;
         }
-        client.queued = self.ready.push_back(number).is_ok();
-        let most = room_of(connection, !full || first == Some(number));
+        client.queue(&mut self.ready);
+        let most = room_of(connection, freely);
         client.crowded = most == 0;
         if most == 0 {
             self.crowded = true;
             return None;
         }
         self.most = most;
-        Some(Ready::Readable(number))
+        Some(Ready::Readable(connection.number))
+    }
+
+    /// Looks at the client whose turn it is: one whose connection is open, or one that only lingers.
+    fn look_at(
+        &mut self,
+        number: u64,
+        connections: &[Connection],
+        clients: &mut [Client],
+        full: bool,
+        first: Option<u64>,
+    ) -> Option<Ready>
+        ensures { numbers clients.new ≡ numbers clients.old }
+    {
+        let Some(at) = index_of(connections, number) else {
+            self.read_out(number);
+            return None;
+        };
+        let connection = connections.get(at)?;
+        if at >= clients.len() {
+            return None;
+        }
+        self.place = at;
+        let freely = !full || first == Some(number);
+        self.turn_of(connection, &mut clients[at], freely)
     }
 
     /// The next client that can go on, of those that wait for their turns.
     fn next_in_turn(
         &mut self,
         connections: &[Connection],
+        clients: &mut [Client],
         full: bool,
         first: Option<u64>,
-    ) -> Option<Ready> {
-        for _ in 0..self.ready.len() {
+    ) -> Option<Ready>
+        ensures { numbers clients.new ≡ numbers clients.old }
+    {
+        'turns: for _ in 0..self.ready.len() {
             let number = self.ready.pop_front()?;
-            if let Some(ready) = self.look_at(number, connections, full, first) {
+            if let Some(ready) = self.look_at(number, connections, clients, full, first) {
                 return Some(ready);
             }
         }
@@ -526,12 +586,15 @@ impl<'a> Sockets<'a> {
     fn next_aside(
         &mut self,
         connections: &[Connection],
+        clients: &mut [Client],
         full: bool,
         first: Option<u64>,
-    ) -> Option<Ready> {
-        for _ in 0..self.aside.len() {
+    ) -> Option<Ready>
+        ensures { numbers clients.new ≡ numbers clients.old }
+    {
+        'turns: for _ in 0..self.aside.len() {
             let number = self.aside.pop_front()?;
-            if let Some(ready) = self.look_at(number, connections, full, first) {
+            if let Some(ready) = self.look_at(number, connections, clients, full, first) {
                 return Some(ready);
             }
         }
@@ -540,20 +603,22 @@ impl<'a> Sockets<'a> {
 
     /// What can be done next for a client. One that still has requests to be answered is read only if no other can go
     /// on, or after some others.
-    fn next_ready(&mut self, connections: &[Connection]) -> Option<Ready> {
+    fn next_ready(&mut self, connections: &[Connection], clients: &mut [Client]) -> Option<Ready>
+        ensures { numbers clients.new ≡ numbers clients.old }
+    {
         let full = self.is_full(connections);
         let first = if full { fullest(connections) } else { None };
         if self.ahead < MOST_AHEAD {
-            if let Some(ready) = self.next_in_turn(connections, full, first) {
+            if let Some(ready) = self.next_in_turn(connections, clients, full, first) {
                 self.ahead = self.ahead.saturating_add(1);
                 return Some(ready);
             }
         }
         self.ahead = 0;
-        if let Some(ready) = self.next_aside(connections, full, first) {
+        if let Some(ready) = self.next_aside(connections, clients, full, first) {
             return Some(ready);
         }
-        self.next_in_turn(connections, full, first)
+        self.next_in_turn(connections, clients, full, first)
     }
 }
 
@@ -571,7 +636,7 @@ impl Sockets<'_> {
     fn is_to_ask(&self, may_wait: bool) -> bool {
         let most = if may_wait {
             TURNS
-        } else if self.clients.len() > 1 {
+        } else if self.places() > 1 {
             1
         } else {
             TURNS_OF_ONE
@@ -580,22 +645,31 @@ impl Sockets<'_> {
     }
 
     /// Looks for connections whose time is over, and for one that gives way to others. Returns the first of these.
-    fn given_up(&mut self, connections: &[Connection]) -> Option<u64> {
-        self.look_at_deadlines(connections);
+    fn given_up(&mut self, connections: &[Connection], clients: &mut [Client]) -> Option<u64>
+        ensures { numbers clients.new ≡ numbers clients.old }
+    {
+        self.look_at_deadlines(connections, clients);
         if let Some(number) = self.expired.pop_front() {
             return Some(number);
         }
-        self.gives_way(connections)
+        self.gives_way(connections, clients)
     }
 
     /// What can be done next. Turns alternate: one accepts first, the next reads or writes first.
-    fn next_of_all(&mut self, connections: &[Connection], accepts: bool) -> Option<Ready> {
+    fn next_of_all(
+        &mut self,
+        connections: &[Connection],
+        clients: &mut [Client],
+        accepts: bool,
+    ) -> Option<Ready>
+        ensures { numbers clients.new ≡ numbers clients.old }
+    {
         self.accepts_first = !self.accepts_first;
         if self.accepts_first && self.has_next(accepts) {
             self.offered = true;
             return Some(Ready::Came);
         }
-        if let Some(ready) = self.next_ready(connections) {
+        if let Some(ready) = self.next_ready(connections, clients) {
             return Some(ready);
         }
         if self.has_next(accepts) {
@@ -607,43 +681,57 @@ impl Sockets<'_> {
 }
 
 impl Ports for Sockets<'_> {
+    type Client = Client;
+
     ghost seen = { λ s. None };
 
-    fn next(&mut self, connections: &[Connection], accepts: bool, may_wait: bool) -> Ready {
+    ghost number_of = { λ client. client.number };
+
+    fn next(
+        &mut self,
+        connections: &[Connection],
+        clients: &mut [Client],
+        accepts: bool,
+        may_wait: bool,
+    ) -> Ready {
         if let Some(number) = self.expired.pop_front() {
             return Ready::Expired(number);
         }
         self.note_refusal();
+        self.open = connections.len();
         let asks = self.is_to_ask(may_wait);
         if asks {
-            if self.wait(0).is_err() {
+            if self.wait(0, connections, clients).is_err() {
                 return Ready::Failed;
             }
-            if let Some(number) = self.given_up(connections) {
+            if let Some(number) = self.given_up(connections, clients) {
                 return Ready::Expired(number);
             }
         }
         self.turns = self.turns.saturating_add(1);
-        if let Some(ready) = self.next_of_all(connections, accepts) {
+        if let Some(ready) = self.next_of_all(connections, clients, accepts) {
             return ready;
         }
         if asks && !may_wait {
             return Ready::Nothing;
         }
-        if self.wait(self.longest(may_wait)).is_err() {
+        let longest = self.longest(may_wait);
+        if self.wait(longest, connections, clients).is_err() {
             return Ready::Failed;
         }
-        match self.given_up(connections) {
+        match self.given_up(connections, clients) {
             Some(number) => Ready::Expired(number),
             None => Ready::Nothing,
         }
     }
 
-    fn accept(&mut self, number: u64) -> bool {
+    fn place(&self) -> usize {
+        self.place
+    }
+
+    fn accept(&mut self, number: u64) -> Option<Client> {
         self.offered = false;
-        let Some(mut stream) = self.accepted.take() else {
-            return false;
-        };
+        let mut stream = self.accepted.take()?;
         let token = Token(number as usize);
         let both = Interest::READABLE | Interest::WRITABLE;
         if stream.set_nodelay(true).is_err()
@@ -652,61 +740,46 @@ impl Ports for Sockets<'_> {
                 .registry()
                 .register(&mut stream, token, both)
                 .is_err()
+            || self.lingering.reserve(self.open.saturating_add(1)).is_err()
         {
-            return false;
+            return None;
         }
-        let until = self.until();
-        self.clients
-            .insert(number, Client::new(stream, self.now, until))
-            .is_ok()
+        Some(Client::new(stream, number, self.now, self.until()))
     }
 
-    fn take(&mut self, number: u64, buf: &mut [u8]) -> Taken {
-        let until = self.until();
-        let whole = self.whole();
-        let Some(client) = self.clients.get_mut(&number) else {
-            return Taken::Failed;
-        };
+    fn take(&mut self, client: &mut Client, buf: &mut [u8]) -> Taken {
         let taken = client.take(buf, self.most);
         if let Taken::Bytes(n) = taken {
-            client.until = until;
-            client.heard = self.now;
+            client.until = self.until();
+            client.last_bytes_ms = self.now;
             client.crowded = false;
             if client.whole.is_none() {
-                client.whole = whole;
+                client.whole = self.whole();
             }
-            self.held = self.held.saturating_add(n);
+            self.unread_bytes = self.unread_bytes.saturating_add(n);
         }
         taken
     }
 
-    fn put(&mut self, number: u64, bytes: &[u8]) -> Sent {
-        let until = self.until();
-        let Some(client) = self.clients.get_mut(&number) else {
-            return Sent::Failed;
-        };
+    fn put(&mut self, client: &mut Client, bytes: &[u8]) -> Sent {
         let sent = client.put(bytes);
         if let Sent::Bytes(n) = sent {
             if n > 0 {
-                client.until = until;
-                client.heard = self.now;
+                client.until = self.until();
+                client.last_bytes_ms = self.now;
                 client.since = self.now;
                 client.whole = None;
             }
-            self.queue(number);
+            client.queue(&mut self.ready);
         }
         sent
     }
 
-    fn close(&mut self, number: u64, end: End) {
-        let quiet = self.now.saturating_add(self.quiet);
-        let Some(client) = self.clients.get_mut(&number) else {
-            return;
-        };
-        if client.linger(end, quiet) {
-            self.queue(number);
-        } else {
-            drop(self.clients.remove(&number));
-        }
+    fn close(&mut self, client: Client, end: End) {
+        self.let_go(client, end);
+    }
+
+    fn take_back(&mut self, client: Client) {
+        self.let_go(client, End::Fault);
     }
 }

@@ -63,11 +63,11 @@ fn note_shut<S: Alter>(conn: &mut Connection<S>, shut: &mut bool)
 
 /// A statement's result, with its error as a fault. A fault of the store is counted, and it is noted if the store is
 /// shut now.
-fn heard<T: Drop, S: Alter>(
+fn conclude<T: Drop, S: Alter>(
     conn: &mut Connection<S>,
     stores: &mut u64,
     shut: &mut bool,
-    said: Result<T, SqlError>,
+    outcome: Result<T, SqlError>,
 ) -> Result<T, Fault>
     requires mode { HasNoTransaction conn.old }
     requires known { IsTrue shut.old → ¬ IsHonest (state S.Store conn.old) }
@@ -75,10 +75,10 @@ fn heard<T: Drop, S: Alter>(
     ensures known { IsTrue shut.new → ¬ IsHonest (state S.Store conn.new) }
     ensures reads { IsOnlyRead S.Store conn.old conn.new }
     ensures same { OnOk result (conn.new ≡ conn.old) }
-    ensures said { SaysAgain said result }
+    ensures outcome { SaysAgain outcome result }
     ensures count { Counts stores.old stores.new result }
 {
-    match said {
+    match outcome {
         Ok(found) => Ok(found),
         Err(error) => {
             note_shut(conn, shut);
@@ -244,7 +244,6 @@ impl<S: Alter> Tables<S> {
     }
 }
 
-#[tactic(auto, using(plant_store_statements::proofs::public::ReadsOnly::keeps_read))]
 impl<S: Alter> Books for Tables<S> {
     ghost is_honest = { λ t. IsHonest (state S.Store t.0.0) };
 
@@ -272,43 +271,43 @@ impl<S: Alter> Books for Tables<S> {
     }
 
     fn taken(&mut self, unit: &UnitCode) -> Result<bool, Fault> {
-        let said = unit::taken(self.alloc, &mut self.conn, unit);
-        heard(&mut self.conn, &mut self.stores, &mut self.shut, said)
+        let outcome = unit::taken(self.alloc, &mut self.conn, unit);
+        conclude(&mut self.conn, &mut self.stores, &mut self.shut, outcome)
     }
 
     fn rows(&mut self, unit: &UnitCode) -> Result<Option<UnitRows>, Fault> {
-        let said = unit::rows_of(self.alloc, &mut self.conn, unit);
-        heard(&mut self.conn, &mut self.stores, &mut self.shut, said)
+        let outcome = unit::rows_of(self.alloc, &mut self.conn, unit);
+        conclude(&mut self.conn, &mut self.stores, &mut self.shut, outcome)
     }
 
     fn rows_but_history(&mut self, unit: &UnitCode) -> Result<Option<UnitRows>, Fault> {
-        let said = unit::rows_but_history(self.alloc, &mut self.conn, unit);
-        heard(&mut self.conn, &mut self.stores, &mut self.shut, said)
+        let outcome = unit::rows_but_history(self.alloc, &mut self.conn, unit);
+        conclude(&mut self.conn, &mut self.stores, &mut self.shut, outcome)
     }
 
     fn events(&mut self, unit: &UnitCode) -> Result<Sorted<Event>, Fault> {
-        let said = unit::events(self.alloc, &mut self.conn, unit);
-        heard(&mut self.conn, &mut self.stores, &mut self.shut, said)
+        let outcome = unit::events(self.alloc, &mut self.conn, unit);
+        conclude(&mut self.conn, &mut self.stores, &mut self.shut, outcome)
     }
 
     fn part(&mut self, call: &Call) -> Result<Option<UnitPart>, Fault> {
-        let said = part::part_of(self.alloc, &mut self.conn, call);
-        heard(&mut self.conn, &mut self.stores, &mut self.shut, said)
+        let outcome = part::part_of(self.alloc, &mut self.conn, call);
+        conclude(&mut self.conn, &mut self.stores, &mut self.shut, outcome)
     }
 
     fn held(&mut self, person: &Person, now: Moment) -> Result<List<UnitCode>, Fault> {
-        let said = mine::held(self.alloc, &mut self.conn, person, now);
-        heard(&mut self.conn, &mut self.stores, &mut self.shut, said)
+        let outcome = mine::held(self.alloc, &mut self.conn, person, now);
+        conclude(&mut self.conn, &mut self.stores, &mut self.shut, outcome)
     }
 
     fn mine_units(&mut self, person: &Person, now: Moment) -> Result<List<MineUnit>, Fault> {
-        let said = mine::mine_units(self.alloc, &mut self.conn, person, now);
-        heard(&mut self.conn, &mut self.stores, &mut self.shut, said)
+        let outcome = mine::mine_units(self.alloc, &mut self.conn, person, now);
+        conclude(&mut self.conn, &mut self.stores, &mut self.shut, outcome)
     }
 
     fn mine_shelves(&mut self, person: &Person, now: Moment) -> Result<List<MineRow>, Fault> {
-        let said = shelves::mine_shelves(self.alloc, &mut self.conn, person, now);
-        heard(&mut self.conn, &mut self.stores, &mut self.shut, said)
+        let outcome = shelves::mine_shelves(self.alloc, &mut self.conn, person, now);
+        conclude(&mut self.conn, &mut self.stores, &mut self.shut, outcome)
     }
 
     fn apply(
@@ -317,7 +316,7 @@ impl<S: Alter> Books for Tables<S> {
         changes: &Changes,
         seen: Option<&UnitRows>,
     ) -> Result<(), Fault> {
-        let said = write::apply(&mut self.conn, unit, changes.as_slice(), seen);
-        heard(&mut self.conn, &mut self.stores, &mut self.shut, said)
+        let outcome = write::apply(&mut self.conn, unit, changes.as_slice(), seen);
+        conclude(&mut self.conn, &mut self.stores, &mut self.shut, outcome)
     }
 }

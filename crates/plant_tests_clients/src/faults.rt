@@ -55,7 +55,7 @@ fn script_of(rt: &impl Abort, alloc: Global, requests: &[&str], clients: u64) ->
         seed: 1,
         most: u64::MAX,
         turns: 0,
-        held: 0,
+        most_open: 0,
     }
 }
 

@@ -165,7 +165,7 @@ fn recorded_of(
         seed,
         most,
         turns: 0,
-        held: 0,
+        most_open: 0,
     };
     Recorded {
         script,

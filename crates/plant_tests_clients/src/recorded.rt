@@ -43,30 +43,48 @@ impl Recorded {
 }
 
 impl Ports for Recorded {
+    type Client = u64;
+
     ghost seen = { λ _. None };
 
-    fn next(&mut self, connections: &[Connection], accepts: bool, may_wait: bool) -> Ready {
-        self.script.next(connections, accepts, may_wait)
+    ghost number_of = { λ number. number };
+
+    fn next(
+        &mut self,
+        connections: &[Connection],
+        clients: &mut [u64],
+        accepts: bool,
+        may_wait: bool,
+    ) -> Ready {
+        self.script.next(connections, clients, accepts, may_wait)
     }
 
-    fn accept(&mut self, number: u64) -> bool {
+    fn place(&self) -> usize {
+        self.script.place()
+    }
+
+    fn accept(&mut self, number: u64) -> Option<u64> {
         self.script.accept(number)
     }
 
-    fn take(&mut self, number: u64, buf: &mut [u8]) -> Taken {
+    fn take(&mut self, number: &mut u64, buf: &mut [u8]) -> Taken {
         self.script.take(number, buf)
     }
 
-    fn put(&mut self, number: u64, bytes: &[u8]) -> Sent {
-        self.note(number, bytes.len());
+    fn put(&mut self, number: &mut u64, bytes: &[u8]) -> Sent {
+        self.note(*number, bytes.len());
         let sent = self.script.put(number, bytes);
         if let Sent::Bytes(n) = sent {
-            self.note_left(number, n);
+            self.note_left(*number, n);
         }
         sent
     }
 
     fn close(&mut self, number: u64, end: End) {
         self.script.close(number, end);
+    }
+
+    fn take_back(&mut self, number: u64) {
+        self.script.take_back(number);
     }
 }

@@ -45,7 +45,7 @@ pub(crate) struct Script {
     pub(crate) most: u64,
     pub(crate) turns: u64,
     /// How many were open at once at most.
-    pub(crate) held: usize,
+    pub(crate) most_open: usize,
 }
 
 impl Script {
@@ -57,10 +57,20 @@ impl Script {
 }
 
 impl Ports for Script {
+    type Client = u64;
+
     ghost seen = { λ _. None };
 
-    fn next(&mut self, connections: &[Connection], accepts: bool, _may_wait: bool) -> Ready {
-        self.held = self.held.max(connections.len());
+    ghost number_of = { λ number. number };
+
+    fn next(
+        &mut self,
+        connections: &[Connection],
+        _clients: &mut [u64],
+        accepts: bool,
+        _may_wait: bool,
+    ) -> Ready {
+        self.most_open = self.most_open.max(connections.len());
         self.turns = self.turns.saturating_add(1);
         if self.turns > TURNS {
             return Ready::Failed;
@@ -82,14 +92,18 @@ impl Ports for Script {
         }
     }
 
-    fn accept(&mut self, number: u64) -> bool {
-        self.opened = number.saturating_add(1);
-        true
+    fn place(&self) -> usize {
+        0
     }
 
-    fn take(&mut self, number: u64, buf: &mut [u8]) -> Taken {
+    fn accept(&mut self, number: u64) -> Option<u64> {
+        self.opened = number.saturating_add(1);
+        Some(number)
+    }
+
+    fn take(&mut self, number: &mut u64, buf: &mut [u8]) -> Taken {
         let most = self.count();
-        let Some(one) = self.served.get_mut(number as usize) else {
+        let Some(one) = self.served.get_mut(*number as usize) else {
             return Taken::Failed;
         };
         let n = portion(&one.client.bytes, one.at, most, buf);
@@ -104,9 +118,9 @@ impl Ports for Script {
         }
     }
 
-    fn put(&mut self, number: u64, bytes: &[u8]) -> Sent {
+    fn put(&mut self, number: &mut u64, bytes: &[u8]) -> Sent {
         let most = self.count();
-        let Some(one) = self.served.get_mut(number as usize) else {
+        let Some(one) = self.served.get_mut(*number as usize) else {
             return Sent::Failed;
         };
         let left = one.client.takes.saturating_sub(one.sent.len());
@@ -125,4 +139,6 @@ impl Ports for Script {
             one.end = Some(end);
         }
     }
+
+    fn take_back(&mut self, _number: u64) {}
 }

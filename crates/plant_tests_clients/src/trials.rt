@@ -26,7 +26,7 @@ fn script_of(rt: &impl Abort, alloc: Global, mut seed: u64, clients: u64, most: 
         seed: next_number(&mut seed),
         most,
         turns: 0,
-        held: 0,
+        most_open: 0,
     }
 }
 

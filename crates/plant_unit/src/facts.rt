@@ -43,7 +43,7 @@ pub fn shelf_of<'a>(part: &'a UnitPart, tag: &Tag) -> Option<&'a ShelfRow>
     part.rows.shelves.get(tag)
 }
 
-/// The shelf that a row describes; clear if there is no row.
+/// The shelf that a row describes, or clear where the alarm has none.
 pub fn shelf_left(row: Option<&ShelfRow>) -> Shelf
     ensures { result ≡ shelves.shelf_left (option_copied row.entry) }
 {

@@ -1,10 +1,10 @@
 //! Judges a call on a unit from the part of the unit's rows that the call looks at: a refusal, or the reply and the
 //! changes to make. Each kind of call has its rules in another file; here a call is passed to them.
 
-ghost use Rattle.std.specs.Prelude.{◌≡◌, List, IfOk, option_copied, true, false};
+ghost use Rattle.std.specs.Prelude.{◌≡◌, List, IfOk, true, false};
 ghost use Rattle.plant_types.specs.Results.{OnlyMemory};
 ghost use Rattle.plant_alarm.specs.declared.event.Event.{Event as TheEvent};
-ghost use Rattle.plant_model.specs.{Verdicts.{is_opening, is_read}, declared.call.{Call.{Call}, Request.TheVariants.{Shelves as ShelvesCall}}};
+ghost use Rattle.plant_model.specs.{Verdicts.{is_opening, is_read}, declared.call.Call.{Call}};
 ghost use Rattle.plant_model.specs.steps.RowFacts.{facts_among, facts_in, unit_read};
 ghost use Rattle.plant_unit.specs.{Additions.{AreKept}, FromFacts.{Answers}};
 ghost use Rattle.plant_unit.specs.Judged.{AreEventsSeen, IsJudged, IsJudgedOwn, IsOpeningFor, IsPartOf, IsVerdictOn, SaysHeld, is_import};
@@ -14,14 +14,13 @@ use crate::decisions::{approve, propose, reject, withdraw_change};
 use crate::grants::{grant, withdraw};
 use crate::imports::judge_import;
 use crate::refusals::holder_refusal;
-use crate::replies::{alarms, change, floods, record, shelves, shelves_among, standing, status};
+use crate::replies::{alarms, change, floods, record, shelves, standing, status};
 use crate::service::{place_in_service, register, remove_from_service};
 use crate::shelving::{end_shelf, shelve_for, shelve_once};
 use crate::verdicts::{answer, done};
 use plant_model::{Call, Refused, Reply, Request, UnitPart, UnitRow, Verdict};
-use plant_types::{Fault, Person, Sorted, UnitCode};
+use plant_types::{Fault, Person};
 use std::alloc::Global;
-use std::mem;
 
 /// Judges a call that changes something and is not an import. The caller is allowed to make it.
 fn judge_change(
@@ -106,9 +105,13 @@ fn judge_change(
 }
 
 /// The answer to a read. The caller is allowed to make it.
-fn answer_to(alloc: Global, part: &UnitPart, call: &Call) -> Result<Result<Reply, Refused>, Fault>
+fn answer_to(
+    alloc: Global,
+    part: &mut UnitPart,
+    call: &Call,
+) -> Result<Result<Reply, Refused>, Fault>
     requires reads { is_read call.now.request ≡ true }
-    ensures value { AreKept part.now → Answers part.now call.now.person call.now.moment call.now.request result }
+    ensures value { AreKept part.old → Answers part.old call.now.person call.now.moment call.now.request result }
     ensures err { OnlyMemory result }
 {
     let now = call.moment;
@@ -141,11 +144,17 @@ fn answer_to(alloc: Global, part: &UnitPart, call: &Call) -> Result<Result<Reply
 }
 
 /// Judges a call that is not an import. The caller is allowed to make it.
-fn judge_own(alloc: Global, unit: &UnitRow, part: &UnitPart, call: &Call) -> Result<Verdict, Fault>
-    requires row { unit_read part.now.rows ≡ unit.now }
+fn judge_own(
+    alloc: Global,
+    unit: &UnitRow,
+    part: &mut UnitPart,
+    call: &Call,
+) -> Result<Verdict, Fault>
+    requires row { unit_read part.old.rows ≡ unit.now }
     requires plain { is_opening call.now.request ≡ false }
     requires no_import { is_import call.now.request ≡ false }
-    ensures value { AreKept part.now → IfOk result (IsJudgedOwn (facts_in part.now) call.now) }
+    ensures value { AreKept part.old → IfOk result (IsJudgedOwn (facts_in part.old) call.now) }
+    ensures part { is_read call.now.request ≡ false → part.new ≡ part.old }
     ensures err { OnlyMemory result }
 {
     if is_read(&call.request) {
@@ -155,11 +164,17 @@ fn judge_own(alloc: Global, unit: &UnitRow, part: &UnitPart, call: &Call) -> Res
     }
 }
 
-fn judge_part(alloc: Global, unit: &UnitRow, part: &UnitPart, call: &Call) -> Result<Verdict, Fault>
-    requires row { unit_read part.now.rows ≡ unit.now }
+fn judge_part(
+    alloc: Global,
+    unit: &UnitRow,
+    part: &mut UnitPart,
+    call: &Call,
+) -> Result<Verdict, Fault>
+    requires row { unit_read part.old.rows ≡ unit.now }
     requires plain { is_opening call.now.request ≡ false }
-    ensures value { SaysHeld part.now call.now → AreKept part.now → (es : List TheEvent)
-        → AreEventsSeen part.now call.now es → IfOk result (IsJudged (facts_among part.now es) call.now) }
+    ensures value { SaysHeld part.old call.now → AreKept part.old → (es : List TheEvent)
+        → AreEventsSeen part.old call.now es → IfOk result (IsJudged (facts_among part.old es) call.now) }
+    ensures part { is_read call.now.request ≡ false → part.new ≡ part.old }
     ensures err { OnlyMemory result }
 {
     if let Some(refused) = holder_refusal(unit, part, call) {
@@ -176,46 +191,24 @@ fn judge_part(alloc: Global, unit: &UnitRow, part: &UnitPart, call: &Call) -> Re
 ///
 /// For every legal history to whose rows the part belongs: the verdict is that of the history, and its changes turn the
 /// rows of the history into those of the history followed by the call (no changes for a refusal or a read).
-pub fn judge(alloc: Global, part: Option<&UnitPart>, call: &Call) -> Result<Verdict, Fault>
+///
+/// A call for the unit's shelves takes them out of the part, so that their words need not be copied again. A call that
+/// changes something leaves the part as it is.
+pub fn judge(alloc: Global, given: &mut Option<UnitPart>, call: &Call) -> Result<Verdict, Fault>
     requires { is_opening call.now.request ≡ false }
-    ensures value { (h : List Call) → IsPartOf (option_copied part.entry) h call.now
-        → IfOk result (IsVerdictOn h call.now) }
-    ensures err { OnlyMemory result }
-{
-    let Some(part) = part else {
-        return Ok(Verdict::Refused(Refused::NotGranted));
-    };
-    let Some(unit) = part.rows.units.as_slice().first() else {
-        return Ok(Verdict::Refused(Refused::NotGranted));
-    };
-    judge_part(alloc, unit, part, call)
-}
-
-/// As `judge`, for a call for the shelves of a unit. It takes the shelves out of the part, so that their words need not
-/// be copied again.
-pub fn judge_shelves(
-    alloc: Global,
-    given: &mut Option<UnitPart>,
-    unit: &UnitCode,
-    call: &Call,
-) -> Result<Verdict, Fault>
-    requires { call.now.request ≡ ShelvesCall unit.now }
     ensures value { (h : List Call) → IsPartOf given.old h call.now
         → IfOk result (IsVerdictOn h call.now) }
+    ensures part { is_read call.now.request ≡ false → given.new ≡ given.old }
     ensures err { OnlyMemory result }
 {
     let Some(part) = given else {
         return Ok(Verdict::Refused(Refused::NotGranted));
     };
-    let Some(row) = part.rows.units.as_slice().first() else {
+    let Some(unit) = part.rows.units.as_slice().first() else {
         return Ok(Verdict::Refused(Refused::NotGranted));
     };
-    if let Some(refused) = holder_refusal(row, part, call) {
-        return Ok(Verdict::Refused(refused));
-    }
-    let shelves = mem::replace(&mut part.rows.shelves, Sorted::new(alloc));
-    let said = shelves_among(alloc, &part.rows.alarms, shelves, call.moment, unit);
-    answer(alloc, said)
+    let unit = *unit;
+    judge_part(alloc, &unit, part, call)
 }
 
 /// The verdict on an opening. `taken` is whether a unit with this code exists already.

@@ -20,7 +20,7 @@ mod shelving;
 mod verdicts;
 
 pub use changes::is_read;
-pub use judgement::{judge, judge_open, judge_shelves};
+pub use judgement::{judge, judge_open};
 pub use plant_alarm::{AlarmState, Event, EventKind, Shelf, ShelfState};
 pub use plant_floods::{Run, floods};
 pub use plant_import::{BadFile, FileRead};

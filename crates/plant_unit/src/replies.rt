@@ -5,7 +5,6 @@ ghost use Rattle.plant_types.specs.{Names.{Name}, Results.{Gives, OnlyMemory}};
 ghost use Rattle.plant_model.specs.steps.RowFacts.{facts_in};
 ghost use Rattle.plant_model.specs.declared.call.Request.TheVariants.{Alarms as AlarmsCall, ChangeOf as ChangeCall, Floods as FloodsCall, RecordOf as RecordCall, Shelves as ShelvesCall, Standing as StandingCall, Status as StatusCall};
 ghost use Rattle.plant_unit.specs.{Additions.{AreCountable, AreKept}, FromFacts.{Answers, AnswersAlways, AnswersAnyone, GivesFrom}};
-ghost use Rattle.plant_model.specs.declared.reply.Reply.TheVariants.{Shelves as ShelvesReply};
 ghost use Rattle.plant_unit.specs.Shelving.{is_shelved, line_at, lines_among};
 ghost use Rattle.plant_model.specs.Replies as replies;
 
@@ -18,6 +17,7 @@ use plant_model::{
 };
 use plant_types::{Fault, List, Moment, Sorted, Tag, TryCopy, UnitCode};
 use std::alloc::Global;
+use std::mem;
 
 /// The status of an alarm.
 pub fn status(
@@ -95,37 +95,23 @@ fn lines(
     Ok(lines)
 }
 
-/// The reply with those of these shelves that hold at the moment. It takes over their words without a copy.
-pub fn shelves_among(
-    alloc: Global,
-    alarms: &Sorted<AlarmRow>,
-    shelves: Sorted<ShelfRow>,
-    now: Moment,
-    unit: &UnitCode,
-) -> Result<Result<Reply, Refused>, Fault>
-    ensures value { IfOk result (λ said.
-        said ≡ Ok (ShelvesReply unit.now now (lines_among alarms.now shelves now))) }
-    ensures err { OnlyMemory result }
-{
-    Ok(Ok(Reply::Shelves {
-        unit: unit.copy(alloc)?,
-        at: now,
-        lines: lines(alloc, alarms, shelves, now)?,
-    }))
-}
-
-/// The shelves that hold at the moment.
+/// The shelves that hold at the moment. It takes them out of the part, so that their words need not be copied again.
 pub fn shelves(
     alloc: Global,
-    part: &UnitPart,
+    part: &mut UnitPart,
     now: Moment,
     unit: &UnitCode,
 ) -> Result<Result<Reply, Refused>, Fault>
-    ensures value { AnswersAnyone part.now now (ShelvesCall unit.now) result }
+    ensures value { AnswersAnyone part.old now (ShelvesCall unit.now) result }
     ensures err { OnlyMemory result }
 {
-    let shelves = part.rows.shelves.copy(alloc)?;
-    shelves_among(alloc, &part.rows.alarms, shelves, now, unit)
+    let unit = unit.copy(alloc)?;
+    let shelves = mem::replace(&mut part.rows.shelves, Sorted::new(alloc));
+    Ok(Ok(Reply::Shelves {
+        unit,
+        at: now,
+        lines: lines(alloc, &part.rows.alarms, shelves, now)?,
+    }))
 }
 
 /// The places at which the shelf and the record of the next alarm are looked for first.

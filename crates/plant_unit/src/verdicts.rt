@@ -58,11 +58,14 @@ pub fn done(
 }
 
 /// The verdict of an answer that changes nothing.
-pub fn answer(alloc: Global, said: Result<Result<Reply, Refused>, Fault>) -> Result<Verdict, Fault>
-    ensures value { IfOk result (λ v. IsOkAnd said (λ a. v ≡ answered_as a)) }
-    ensures err { IfErr said (λ e. e ≡ Memory) → OnlyMemory result }
+pub fn answer(
+    alloc: Global,
+    outcome: Result<Result<Reply, Refused>, Fault>,
+) -> Result<Verdict, Fault>
+    ensures value { IfOk result (λ v. IsOkAnd outcome (λ a. v ≡ answered_as a)) }
+    ensures err { IfErr outcome (λ e. e ≡ Memory) → OnlyMemory result }
 {
-    match said? {
+    match outcome? {
         Err(refused) => Ok(Verdict::Refused(refused)),
         Ok(reply) => Ok(Verdict::Accepted(reply, List::new(alloc))),
     }

@@ -10,8 +10,8 @@ use Rattle.plant_office.specs.{Enduring.{EnduresAll, BooksState}, Failures.{Stan
 -- stays true, and what was answered up to the last confirmed call stands also where a failure shut the store after it.
 pub record Ran (before after : BooksState) (count counted_to : ℕ) (calls : List Call)
     (answers : List Answer) : Type 0 where
-  pub run : (m : Content) → before.held m → (w : World) → IsLegalWorld w → Holds m w → after.honest
-      → IsRun w calls answers after.held
+  pub run : (m : Content) → before.represents m → (w : World) → IsLegalWorld w → Holds m w → after.honest
+      → IsRun w calls answers after.represents
   pub counted : count + stores_in answers < 2 ^ 64 → counted_to ≡ count + stores_in answers
   pub endures : EnduresAll before after calls answers
   pub stands : StandBeforeFailure before after calls answers

@@ -3,7 +3,7 @@
 
 ghost use Rattle.std.specs.Prelude.{◌≡◌, ◌≤◌, length, drop, OnOk};
 ghost use Rattle.plant_books.specs.Books.{WasHonest};
-ghost use Rattle.plant_wire.specs.{Limits.{least_room}, Over.{IsSessionOn, RanOn, ReadsOn, StopsOn}, Session.{IsFewReads, IsIdle}};
+ghost use Rattle.plant_wire.specs.{Limits.{least_room}, Over.{IsSessionOn, RanWith, ReadsOn, StopsOn}, Session.{IsFewReads, IsIdle}};
 ghost use Rattle.plant_wire.specs.Session as session;
 
 use crate::put::bytes_from;
@@ -98,7 +98,7 @@ fn run_reads<I: Inlet, O: Outlet, B: Books>(
 ) -> End
     requires { least_room ≤ length chunk.old }
     ensures does { IsSessionOn I.Inlet O.Outlet inlet.old inlet.new outlet.old outlet.new
-        (RanOn B.Books office.old.books office.new.books) result }
+        (RanWith B.Books office.old office.new) result }
     ensures honest { WasHonest B.is_honest office.old.books office.new.books }
     ensures stops { StopsOn I.Inlet O.Outlet inlet.old inlet.new outlet.old outlet.new result }
     ensures counted { IsFewReads (I.reads inlet.old) (I.reads inlet.new) }
@@ -143,7 +143,7 @@ pub fn session<I: Inlet, O: Outlet, B: Books>(
     office: &mut Office<B>,
 ) -> End
     ensures does { IsSessionOn I.Inlet O.Outlet inlet.old inlet.new outlet.old outlet.new
-        (RanOn B.Books office.old.books office.new.books) result }
+        (RanWith B.Books office.old office.new) result }
     ensures honest { WasHonest B.is_honest office.old.books office.new.books }
     ensures stops { StopsOn I.Inlet O.Outlet inlet.old inlet.new outlet.old outlet.new result }
     ensures counted { IsFewReads (I.reads inlet.old) (I.reads inlet.new) }

@@ -5,7 +5,7 @@ ghost use Rattle.std.specs.Prelude.{◌≡◌, IfErr, List, ℕ};
 ghost use Rattle.plant_books.specs.Books.{WasHonest};
 ghost use Rattle.plant_wire_answer.specs.Answers.{answer_bytes};
 ghost use Rattle.plant_wire_call.specs.Cut.{IsCutOf, WaitsBelow};
-ghost use Rattle.plant_wire.specs.{Marks.{begun, said}, Over.{RanOn}, Step.{IsAnswer, IsPut, IsRest, IsStep, Stalls, StopsFor}};
+ghost use Rattle.plant_wire.specs.{Marks.{begun, said}, Over.{RanWith}, Step.{IsAnswer, IsPut, IsRest, IsStep, Stalls, StopsFor}};
 ghost use Rattle.plant_model.specs.declared.call.Call.{Call};
 ghost use Rattle.plant_model.specs.declared.reply.Answer.TheVariants as answers;
 ghost use Rattle.plant_wire.specs.Causes as spec;
@@ -106,7 +106,7 @@ fn answer_call<O: Outlet, B: Books>(
     call: &Call,
 ) -> Result<(), Stop>
     ensures does { IsAnswer (O.written outlet.old) (O.written outlet.new)
-        (RanOn B.Books office.old.books office.new.books) call.now result }
+        (RanWith B.Books office.old office.new) call.now result }
     ensures honest { WasHonest B.is_honest office.old.books office.new.books }
     ensures stalls { Stalls (O.failures outlet.old) (O.failures outlet.new) result }
 {
@@ -127,7 +127,7 @@ fn answer_cut<O: Outlet, B: Books>(
 ) -> Result<Step, Stop>
     ensures does { (bytes : List ℕ) → IsCutOf bytes cut.now → WaitsBelow bytes wanted
         → IsStep bytes (O.written outlet.old) (O.written outlet.new)
-        (RanOn B.Books office.old.books office.new.books) result }
+        (RanWith B.Books office.old office.new) result }
     ensures honest { WasHonest B.is_honest office.old.books office.new.books }
     ensures stalls { Stalls (O.failures outlet.old) (O.failures outlet.new) result }
 {
@@ -159,7 +159,7 @@ pub fn answer_next<O: Outlet, B: Books>(
     office: &mut Office<B>,
 ) -> Result<Step, Stop>
     ensures does { IsStep bytes.now (O.written outlet.old) (O.written outlet.new)
-        (RanOn B.Books office.old.books office.new.books) result }
+        (RanWith B.Books office.old office.new) result }
     ensures honest { WasHonest B.is_honest office.old.books office.new.books }
     ensures stalls { Stalls (O.failures outlet.old) (O.failures outlet.new) result }
 {
@@ -182,7 +182,7 @@ pub(crate) fn answer_all<O: Outlet, B: Books>(
 ) -> Result<Rest, Stop>
     requires { WaitsBelow bytes.now wanted }
     ensures does { IsRest bytes.now (O.written outlet.old) (O.written outlet.new)
-        (RanOn B.Books office.old.books office.new.books) result }
+        (RanWith B.Books office.old office.new) result }
     ensures honest { WasHonest B.is_honest office.old.books office.new.books }
     ensures stalls { Stalls (O.failures outlet.old) (O.failures outlet.new) result }
 {

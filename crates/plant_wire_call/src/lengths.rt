@@ -57,13 +57,13 @@ pub(crate) fn body_length(front: &[u8], headers: &[HeaderSpan]) -> Result<usize,
     ensures value { result ≡ body_length_in (map (header_bytes front.now) headers.now) }
     ensures bound { IfOk result (λ n. n ≤ MAX_BODY) }
 {
-    let said = match field(front, headers, b"content-length") {
+    let length = match field(front, headers, b"content-length") {
         Lookup::Missing => 0,
         Lookup::Once(text) => length_in(text)?,
         Lookup::Repeated => return Err(Cause::LengthWrong),
     };
     match field(front, headers, b"transfer-encoding") {
-        Lookup::Missing => Ok(said),
+        Lookup::Missing => Ok(length),
         _ => Err(Cause::Chunked),
     }
 }

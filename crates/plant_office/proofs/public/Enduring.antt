@@ -74,11 +74,11 @@ module _ (w : World) (calls : List Call) (answers : List Answer) (long : length 
   }
 
 -- before any call, on books that a crash leaves as they are
-pub after_none : (w : World) (m : Content) (books : BooksState) → books.held m → Holds m w → IsLegalWorld w → books.sound
+pub after_none : (w : World) (m : Content) (books : BooksState) → books.represents m → Holds m w → IsLegalWorld w → books.sound
     → ((x : Content) → books.leaves x → Alike x m) → AreAfter w [] [] books
 after_none w m books held holds legal all same = record {
   long = refl;
-  now = record { content = m; held = held; holds = holds; legal = legal };
+  now = record { content = m; represents = held; holds = holds; legal = legal };
   sound = all;
   outcomes = λ x l. record { made = []; are_made = inl refl; holds = holds_alike x m w (same x l) holds; legal = legal };
 }
@@ -113,7 +113,7 @@ module _ (w : World) (calls : List Call) (answers : List Answer) (before after :
           let is_open = it.endures.kept tidy told in
           let now = it.endures.made is_open told old so_far.now in
           one_more w calls answers so_far.long c (Replied r) x (inl (sym (with_it calls answers c (Replied r) so_far.long told)))
-          (holds_alike x now.content (next old c) (it.settled is_open now.content now.held x l) now.holds) now.legal
+          (holds_alike x now.content (next old c) (it.settled is_open now.content now.represents x l) now.holds) now.legal
 
   now_as : (a : Answer) → EnduresSettled c a before after → after.clean → (b : Bool) → confirms c a ≡ b
       → HoldsWorld (after_calls w (confirmed (calls ++ c ∷ []) (answers ++ a ∷ []))) after
@@ -124,7 +124,7 @@ module _ (w : World) (calls : List Call) (answers : List Answer) (before after :
   now_as a it tidy false none =
       let was = so_far.now in
       subst (λ v. HoldsWorld v after) (sym (ap (after_calls w) (plain calls answers c a so_far.long none)))
-      (record { content = was.content; held = it.endures.unmade none was.content was.held; holds = was.holds; legal = was.legal })
+      (record { content = was.content; represents = it.endures.unmade none was.content was.represents; holds = was.holds; legal = was.legal })
 
   -- one call more
   pub after_next : (a : Answer) → EnduresSettled c a before after → after.clean → AreAfter w (calls ++ c ∷ []) (answers ++ a ∷ []) after
@@ -163,7 +163,7 @@ all_then before mid after cs ds xs ys one two = record {
 
 -- after it a crash leaves books, with the calls that were confirmed, or these and one that is in doubt
 pub all_from : (before after : BooksState) (calls : List Call) (answers : List Answer) → EnduresAll before after calls answers
-    → (w : World) (m : Content) → before.held m → Holds m w → IsLegalWorld w → before.sound → ((x : Content) → before.leaves x → Alike x m)
+    → (w : World) (m : Content) → before.represents m → Holds m w → IsLegalWorld w → before.sound → ((x : Content) → before.leaves x → Alike x m)
     → after.clean → after.sound × ((x : Content) → after.leaves x → IsOutcome w calls answers x)
 all_from before after calls answers it w m held holds legal sound same tidy =
     let k = it.goes_on w [] [] tidy (after_none w m before held holds legal sound same) in

@@ -43,8 +43,8 @@ stand_none books = record {
 }
 
 module _ (before after : BooksState) (c : Call) (a : Answer)
-    (served : (m : Content) → before.held m → (w : World) → IsLegalWorld w → Holds m w → after.honest
-    → IfSaid a (λ x. IsServed w c x after.held))
+    (served : (m : Content) → before.represents m → (w : World) → IsLegalWorld w → Holds m w → after.honest
+    → IfSaid a (λ x. IsServed w c x after.represents))
     (honest : after.honest → before.honest) (it : Endures c a before after) where
   kept_one : after.clean → (confirmed (c ∷ []) (a ∷ []) ≡ [] → ⊥) → before.honest
   kept_one clean some = elim (cases_Bool (confirms c a)) [
@@ -55,7 +55,7 @@ module _ (before after : BooksState) (c : Call) (a : Answer)
   answered_one : after.clean → (w : World) → HoldsWorld w before → AreAnsweredBeforeFailure w (c ∷ []) (a ∷ [])
   answered_one clean w at = elim (cases_Bool (confirms c a)) [
     | inl told ↦
-        let said = said_as w c a after.held (served at.content at.held w at.legal at.holds (it.kept clean told)) in
+        let said = said_as w c a after.represents (served at.content at.represents w at.legal at.holds (it.kept clean told)) in
         record {
           first = c ∷ [];
           later = [];
@@ -88,7 +88,7 @@ module _ (before after : BooksState) (c : Call) (a : Answer)
 
 module _ (before mid after : BooksState) (cs ds : List Call) (xs ys : List Answer)
     (one : StandBeforeFailure before mid cs xs) (two : StandBeforeFailure mid after ds ys) (clean : after.clean → mid.clean)
-    (run : (w : World) → HoldsWorld w before → mid.honest → IsRun w cs xs mid.held) where
+    (run : (w : World) → HoldsWorld w before → mid.honest → IsRun w cs xs mid.represents) where
   kept_then : after.clean → (confirmed (cs ++ ds) (xs ++ ys) ≡ [] → ⊥) → before.honest
   kept_then tidy some = elim (some_or_none (confirmed ds ys)) [
     | inl none ↦ one.kept (clean tidy) (λ is. some (confirmed-append cs ds xs ys one.long ∙ ap (λ l. l ++ confirmed ds ys) is ∙ none))
@@ -111,7 +111,7 @@ module _ (before mid after : BooksState) (cs ds : List Call) (xs ys : List Answe
   }
 
   -- something was, so the store was open until then
-  sure : (w : World) → IsRun w cs xs mid.held → AreAnsweredBeforeFailure (world_after w cs xs) ds ys
+  sure : (w : World) → IsRun w cs xs mid.represents → AreAnsweredBeforeFailure (world_after w cs xs) ds ys
       → AreAnsweredBeforeFailure w (cs ++ ds) (xs ++ ys)
   sure w ran it =
       let both = joined w cs it.first xs it.said ran.answered ran.isolated it.answered it.isolated in
@@ -134,7 +134,7 @@ module _ (before mid after : BooksState) (cs ds : List Call) (xs ys : List Answe
     | inr there ↦
         let ran = run w at (two.kept tidy there) in
         let world : HoldsWorld (world_after w cs xs) mid =
-        record { content = ran.after; held = ran.left_it; holds = ran.holds; legal = ran.legal } in
+        record { content = ran.after; represents = ran.left_it; holds = ran.holds; legal = ran.legal } in
         sure w ran (two.answered tidy (world_after w cs xs) world)
   ]
 

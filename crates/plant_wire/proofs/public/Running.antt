@@ -40,7 +40,7 @@ counted_both before between after xs ys first second room =
 -- no call was made
 pub ran_none : (books : BooksState) (count : ℕ) → Ran books books count count [] []
 ran_none books count = record {
-  run = λ m h w legal holds t. run_none w m books.held h holds legal;
+  run = λ m h w legal holds t. run_none w m books.represents h holds legal;
   counted = λ room. let none : stores_in [] ≡ 0 = refl in omega (arith, none);
   endures = all_none books;
   stands = stand_none books;
@@ -48,13 +48,13 @@ ran_none books count = record {
 
 -- one call was made
 pub ran_one : (before after : BooksState) (count counted_to : ℕ) (call : Call) (answer : Answer)
-    → ((m : Content) → before.held m → (w : World) → IsLegalWorld w → Holds m w → after.honest → IfSaid answer (λ a. IsServed w call a after.held))
-    → ((m : Content) → before.held m → OnFault answer (after.held m)) → CountsAnswer count counted_to answer → EnduresSettled call answer before after
+    → ((m : Content) → before.represents m → (w : World) → IsLegalWorld w → Holds m w → after.honest → IfSaid answer (λ a. IsServed w call a after.represents))
+    → ((m : Content) → before.represents m → OnFault answer (after.represents m)) → CountsAnswer count counted_to answer → EnduresSettled call answer before after
     → (after.honest → before.honest) → Ran before after count counted_to (call ∷ []) (answer ∷ [])
 ran_one before after count counted_to call answer served fault counts endured honest =
     record {
       run = λ m h w legal holds t.
-          run_more w [] [] call answer before.held after.held (run_none w m before.held h holds legal)
+          run_more w [] [] call answer before.represents after.represents (run_none w m before.represents h holds legal)
           (λ m' h' w' legal' holds'. served m' h' w' legal' holds' t) fault;
       counted = counted_one count counted_to answer counts;
       endures = all_one before after call answer endured;
@@ -71,10 +71,10 @@ ran_joins before mid after count between counted_to = record {
   join = λ cs ds xs bs first second. record {
     run = λ m h w legal holds t.
         let a = first.run m h w legal holds (second.stands.honest t) in
-        run-append w cs ds xs bs mid.held after.held a (second.run a.after a.left_it (world_after w cs xs) a.legal a.holds t);
+        run-append w cs ds xs bs mid.represents after.represents a (second.run a.after a.left_it (world_after w cs xs) a.legal a.holds t);
     counted = counted_both count between counted_to xs bs first.counted second.counted;
     endures = all_then before mid after cs ds xs bs first.endures second.endures;
     stands = stand_then before mid after cs ds xs bs first.stands second.stands second.endures.clean
-        (λ w at tells. first.run at.content at.held w at.legal at.holds tells);
+        (λ w at tells. first.run at.content at.represents w at.legal at.holds tells);
   };
 }

@@ -2,8 +2,8 @@ use Rattle.std.proofs.{Common.{rules, ◌∷◌, [], decimal}, lemmas.Result.{on
 use Rattle.plant_report.{specs.{Columns.{left, right}, Texts.{state_name, priority_name, flags}}, proofs.ColumnLaws.{column_then}}
 use Rattle.plant_report.proofs.alarms.push_alarm.Goals as goal
 
-pub returns-clause-value : goal.returns-clause-value
-returns-clause-value c =
+pub returns : goal.returns
+returns c =
     let l = c.args.line.now in
     on_ok_weaker _
     (λ last.
@@ -15,4 +15,4 @@ returns-clause-value c =
     (flags l.shelved l.by_design l.out_of_service) (right 6 (decimal l.limit) ∷ []) (search rules)
     (column_then c.push_left-3.new.text.items c.push_column.new.text.items c.push_last_right.new.text.items
     (flags l.shelved l.by_design l.out_of_service) (right 6 (decimal l.limit)) ([]) (search rules) (search rules)))))
-    c.push_last_right.ensures.value
+    c.push_last_right.ensures

@@ -2,8 +2,8 @@ use Rattle.std.proofs.{Common.{rules, ◌∷◌, []}, lemmas.Result.{on_ok_weake
 use Rattle.plant_report.{specs.{Columns.{left}, Moments.{moment_text}, Texts.{state_name, priority_name, flags}}, proofs.ColumnLaws.{column_then}}
 use Rattle.plant_report.proofs.alarms.push_standing.Goals as goal
 
-pub returns-clause-value : goal.returns-clause-value
-returns-clause-value c =
+pub returns : goal.returns
+returns c =
     let l = c.args.line.now in
     on_ok_weaker _
     (λ last.
@@ -15,4 +15,4 @@ returns-clause-value c =
     (moment_text l.since) (flags l.shelved l.by_design l.out_of_service ∷ []) (search rules)
     (column_then c.push_left-3.new.text.items c.push_moment.new.text.items c.push_last.new.text.items (moment_text l.since)
     (flags l.shelved l.by_design l.out_of_service) ([]) (search rules) (search rules)))))
-    c.push_last.ensures.value
+    c.push_last.ensures

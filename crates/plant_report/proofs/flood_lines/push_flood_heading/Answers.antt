@@ -2,8 +2,8 @@ use Rattle.std.proofs.{Common.{rules, ◌∷◌, [], decimal, codes}, lemmas.Res
 use Rattle.plant_report.{specs.Moments.{moment_text}, proofs.ColumnLaws.{column_then}}
 use Rattle.plant_report.proofs.flood_lines.push_flood_heading.Goals as goal
 
-pub returns-clause-value : goal.returns-clause-value
-returns-clause-value c =
+pub returns : goal.returns
+returns c =
     on_ok_weaker _
     (λ last.
     column_then c.args.text.now.items c.push_column.new.text.items c.push_last.new.text.items (codes "FLOODS") (c.args.unit.now)
@@ -20,4 +20,4 @@ returns-clause-value c =
     (decimal c.args.count ∷ []) (search rules)
     (column_then c.push_moment-2.new.text.items c.push_column-5.new.text.items c.push_last.new.text.items (codes "COUNT") (decimal c.args.count) ([])
     (search rules) (search rules))))))))
-    c.push_last.ensures.value
+    c.push_last.ensures

@@ -2,8 +2,8 @@ use Rattle.std.proofs.{Common.{rules, ◌∷◌, [], decimal}, lemmas.Result.{on
 use Rattle.plant_report.{specs.{Columns.{left, right}, Moments.{moment_text}, Texts.{shelf_kind}}, proofs.ColumnLaws.{column_then}}
 use Rattle.plant_report.proofs.shelves.push_shelf.Goals as goal
 
-pub returns-clause-value : goal.returns-clause-value
-returns-clause-value c =
+pub returns : goal.returns
+returns c =
     let l = c.args.line.now in
     on_ok_weaker _
     (λ last.
@@ -17,4 +17,4 @@ returns-clause-value c =
     (l.words ∷ []) (search rules)
     (column_then c.push_right.new.text.items c.push_left-3.new.text.items c.push_last.new.text.items (left 32 l.person) (l.words) ([]) (search rules)
     (search rules))))))
-    c.push_last.ensures.value
+    c.push_last.ensures

@@ -14,7 +14,7 @@ returns-in-Ok g c =
           let own = own_admin it.rows.content it.rows.books.db c.args.office.admin it.rows.books.rows (opened.office it.here it.rows.books.db it.rows.books.database honest) in
           record {
             content = it.rows.content;
-            held = (opened.own.0 ∙ sym own, opened.kept it.here it.rows.content it.rows.books);
+            represents = (opened.own.0 ∙ sym own, opened.kept it.here it.rows.content it.rows.books);
             holds = it.rows.holds;
             legal = it.rows.legal;
           };

@@ -6,7 +6,6 @@ use Rattle.plant_server.proofs.services.serve_port.Goals as goal
 pub returns-then-service-gt1 : goal.returns-then-service-gt1
 returns-then-service-gt1 g c =
     let were = c.serve_at_once-outcome.ensures.sent in
-    let told = c.serve_at_once-outcome.ensures.told in
     subst (λ (many : Bool). AreOfPort many (RanOn g.B.Books c.args.office.now.books c.serve_at_once-outcome.new.office.books)
     (¬ g.B.Books.is_honest c.serve_at_once-outcome.new.office.books) c.args.service
     (lines_of g.W.Write g.E.Write (c.args.output.now, c.args.errors.now) (c.serve_at_once-outcome.new.output, c.report_halted.new.errors))
@@ -21,10 +20,10 @@ returns-then-service-gt1 g c =
         first = were.2;
         listening = were.3;
         logged = were.4;
-        noted = told.0;
+        noted = were.5;
         told = g.E.Write.contents c.serve_at_once-outcome.new.errors;
-        said = told.1;
-        faults = told.2;
+        said = were.6;
+        faults = were.7;
         ended = c.report_halted.ensures.said;
       };
       shut = c.serve_at_once-outcome.ensures.shut;
@@ -53,7 +52,7 @@ returns g c =
         noted = g.E.Write.contents c.args.errors.now;
         told = g.E.Write.contents c.serve_in_turn-outcome.new.errors;
         said = (0, Appends-nil (g.E.Write.contents c.args.errors.now));
-        faults = c.serve_in_turn-outcome.ensures.told;
+        faults = were.8;
         ended = c.report_stopped.ensures.said;
       };
       shut = c.serve_in_turn-outcome.ensures.shut;

@@ -8,7 +8,7 @@ pub returns-then-is_prompt-clause-made : goal.returns-then-is_prompt-clause-made
 returns-then-is_prompt-clause-made g c =
     let l = c.args.connection.now in
     let prompt = on_true c.is_prompt.result _ (c.is_prompt.ensures.prompt c.requires.waits) c.if-is_prompt.true in
-    made_none g.B.Books c.args.office.now.books l true
+    made_none g.B.Books c.args.office.now.books c.args.office.now.faults l true
     (λ _ u at. idle_stage l.unread.items l.pending.text.items l.end u (λ live none. (prompt live none).0) at)
 
 pub returns-then-is_prompt-clause-settled : goal.returns-then-is_prompt-clause-settled
@@ -19,7 +19,8 @@ returns-in-Ok-Waits-clause-made g c =
     let l = c.args.connection.now in
     let live = c.is_prompt.ensures.served c.if-is_prompt.false in
     let h = rw (c.in-Ok-Waits.field-0-is, c.deref.ensures.value) at c.in-Ok-Waits.ensures.does in
-    made_waiting g.B.Books c.args.office.now.books c.answer_next.new.office.books c.in-Ok-Waits.ensures.honest l
+    made_waiting g.B.Books c.args.office.now.books c.answer_next.new.office.books c.args.office.now.faults
+    c.answer_next.new.office.faults c.in-Ok-Waits.ensures.honest l
     (record l { wanted = c.wanted_next-connection.result })
     refl h.served refl (inr h.stands)
 
@@ -42,7 +43,7 @@ returns-in_default-clause-made g c =
     let l = c.args.connection.now in
     let live = c.is_prompt.ensures.served c.if-is_prompt.false in
     let empty = c.is_prompt.ensures.empty c.if-is_prompt.false in
-    made_short g.B.Books c.args.office.now.books l (record l { wanted = 0; end = Some Fault }) refl live empty (ap (ending Fault) empty)
+    made_short g.B.Books c.args.office.now.books c.args.office.now.faults l (record l { wanted = 0; end = Some Fault }) refl live empty (ap (ending Fault) empty)
 
 pub returns-in-Ok-Took-clause-made : goal.returns-in-Ok-Took-clause-made
 returns-in-Ok-Took-clause-made g c =
@@ -50,7 +51,8 @@ returns-in-Ok-Took-clause-made g c =
     let live = c.is_prompt.ensures.served c.if-is_prompt.false in
     let h = rw (c.in-Ok-Took.field-0-is, c.deref.ensures.value) at c.in-Ok-Took.ensures.does in
     let text = c.into_answers.ensures in
-    made_answered g.B.Books c.args.office.now.books c.answer_next.new.office.books c.in-Ok-Took.ensures.honest l
+    made_answered g.B.Books c.args.office.now.books c.answer_next.new.office.books c.args.office.now.faults
+    c.answer_next.new.office.faults c.in-Ok-Took.ensures.honest l
     (record l { unread = c.drop_front.new.buffer; wanted = 0; pending = c.into_answers.result })
     refl live (c.is_prompt.ensures.empty c.if-is_prompt.false)
     c.in-Ok.draft.text.items c.in-Ok.ensures
@@ -70,7 +72,8 @@ returns-in-Ok-Broken-clause-made g c =
     let live = c.is_prompt.ensures.served c.if-is_prompt.false in
     let h = rw (c.in-Ok-Broken.field-0-is, c.deref.ensures.value) at c.in-Ok-Broken.ensures.does in
     let text = c.into_answers-in-Ok-Broken.ensures in
-    made_broke g.B.Books c.args.office.now.books c.answer_next.new.office.books c.in-Ok-Broken.ensures.honest l
+    made_broke g.B.Books c.args.office.now.books c.answer_next.new.office.books c.args.office.now.faults
+    c.answer_next.new.office.faults c.in-Ok-Broken.ensures.honest l
     (record l { wanted = 0; pending = c.into_answers-in-Ok-Broken.result; end = Some BrokenInput })
     refl live (c.is_prompt.ensures.empty c.if-is_prompt.false)
     c.in-Ok.draft.text.items c.in-Ok.ensures
@@ -83,7 +86,8 @@ returns-in-Err-clause-made g c =
     let empty = c.is_prompt.ensures.empty c.if-is_prompt.false in
     let h = rw c.deref.ensures.value at c.in-Err.ensures.does in
     let draft = c.answer_next.new.outlet in
-    made_part g.B.Books c.args.office.now.books c.answer_next.new.office.books c.in-Err.ensures.honest l
+    made_part g.B.Books c.args.office.now.books c.answer_next.new.office.books c.args.office.now.faults
+    c.answer_next.new.office.faults c.in-Err.ensures.honest l
     (record l { wanted = 0; end = Some Fault })
     refl live empty c.in-Ok.draft.text.items c.in-Ok.ensures
     _ draft.text.items _ draft.failed h c.in-Err.ensures.stalls draft.full (ap (ending Fault) empty)

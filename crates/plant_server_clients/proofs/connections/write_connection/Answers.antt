@@ -1,6 +1,6 @@
 use Rattle.std.proofs.Common.{ap, ◌==◌, false, refl, drop, take, sym, ◌∙◌, take-append-drop}
 use Rattle.plant_server_clients.specs.{Events.{writing}, Stages.{stage_by}}
-use Rattle.plant_server_clients.proofs.{Handled.{moved_failed, moved_left, moved_none}, Held.{loses}, Leading.{logs_none}, Waits.{empty_if, full_if}}
+use Rattle.plant_server_clients.proofs.{Handled.{moved_failed, moved_left, moved_none}, Numbers.{loses}, Leading.{logs_none}, Waits.{empty_if, full_if}}
 use Rattle.plant_server_clients.proofs.connections.write_connection.Goals as goal
 
 pub returns-then-is_empty-clause-moved : goal.returns-then-is_empty-clause-moved
@@ -20,7 +20,7 @@ put-requires g c = record {
 pub returns-in-Failed-clause-moved : goal.returns-in-Failed-clause-moved
 returns-in-Failed-clause-moved g c =
     moved_failed (g.P.Ports.seen c.args.ports.now) (g.P.Ports.seen c.put.new.self) c.args.connection.now c.args.connection.now refl false writing
-    c.in-Failed.ensures refl
+    (rw c.requires.own at c.in-Failed.ensures.sent) refl
 
 pub returns-in-Failed-clause-failed : goal.returns-in-Failed-clause-failed
 returns-in-Failed-clause-failed g c none =
@@ -32,7 +32,7 @@ pub returns-in-Bytes-clause-moved : goal.returns-in-Bytes-clause-moved
 returns-in-Bytes-clause-moved g c =
     let l = c.args.connection.now in
     let text = l.pending.text.items in
-    let h = rw c.deref.ensures.value at c.in-Bytes.ensures in
+    let h = rw (c.requires.own, c.deref.ensures.value) at c.in-Bytes.ensures.sent in
     moved_left (g.P.Ports.seen c.args.ports.now) (g.P.Ports.seen c.put.new.self) l
     (record l { pending = record { text = c.drop_front.new.buffer } })
     refl (take c.in-Bytes.n text) (drop c.in-Bytes.n text) h.1 (sym (take-append-drop c.in-Bytes.n text))

@@ -1,5 +1,5 @@
 use Rattle.std.proofs.{Common.{refl, length}, lemmas.Option.{slice_get_read}}
-use Rattle.plant_server_clients.proofs.{Held.{prompt_next, waits_at}, Waits.{on_true}}
+use Rattle.plant_server_clients.proofs.{Numbers.{prompt_next, waits_at}, Waits.{on_true}}
 use Rattle.plant_server_clients.proofs.serving.all_prompt.Goals as goal
 
 pub connections-preserved : goal.connections-preserved

@@ -1,5 +1,5 @@
 use Rattle.std.proofs.Common.{◌∙◌, arith}
-use Rattle.plant_server_listener.proofs.Serving.{served_more, served_none, shown_still, state_of}
+use Rattle.plant_server_listener.proofs.Serving.{next_ran, served_more, served_none, shown_still, state_of}
 use Rattle.plant_server_listener.proofs.connections.serve_connections.Goals as goal
 
 pub connections-init : goal.connections-init
@@ -11,7 +11,7 @@ connections-preserved g c =
     served_more g.B.Books c.args.office.now.books (g.W.Write.contents c.args.log.now) (state_of g.L.Listener c.args.listener.now)
     c.connections.office.books c.serve_next.new.office.books (g.W.Write.contents c.connections.log) (g.W.Write.contents c.say_end.new.log)
     (state_of g.L.Listener c.connections.listener) (state_of g.L.Listener c.serve_next.new.listener) c.connections.count c.in-Ok.end
-    c.connections.invariant c.in-Ok.ensures.does c.in-Ok.ensures.honest c.in-Ok.ensures.counted c.in-Ok.ensures.ok c.in-Ok.ensures.seen
+    c.connections.invariant (next_ran g.B.Books c.connections.office c.serve_next.new.office c.in-Ok.ensures.does) c.in-Ok.ensures.honest c.in-Ok.ensures.counted c.in-Ok.ensures.ok c.in-Ok.ensures.seen
     c.in-Ok.ensures.others c.say_end.ensures
 
 pub returns-in_default-clause-served : goal.returns-in_default-clause-served

@@ -1,7 +1,6 @@
 use Rattle.std.proofs.Common.{◌≡◌, ◌∙◌, ap, arith, subst, sym, suc, ℕ, List, Some, IsTrue}
-use Rattle.plant_wire.specs.Ran.{Ran}
+use Rattle.plant_wire.specs.Over.{RanWith}
 use Rattle.plant_server_listener.{specs.Connections.{Traffic}, proofs.Serving.{next_exchange}}
-use Rattle.plant_office.specs.Enduring.{books_state}
 use Rattle.plant_server_listener.proofs.connections.serve_next.Goals as goal
 
 pub returns-clause-does : goal.returns-clause-does
@@ -16,8 +15,7 @@ returns-clause-does g c =
     (g.L.Requests.Inlet.failures c.in_ok-requests.requests) (g.L.Requests.Inlet.failures c.session-end.new.inlet)
     (g.L.Requests.Inlet.reads c.in_ok-requests.requests) (g.L.Requests.Inlet.reads c.session-end.new.inlet)
     (g.L.Answers.Outlet.failures c.in_ok-requests.answers) (g.L.Answers.Outlet.failures c.session-end.new.outlet)
-    (Ran (books_state g.B.Books c.args.office.now.books) (books_state g.B.Books c.session-end.new.office.books)
-    (g.B.Books.stores c.args.office.now.books) (g.B.Books.stores c.session-end.new.office.books))
+    (RanWith g.B.Books c.args.office.now c.session-end.new.office)
     c.session-end.result c.session-end.ensures.does c.session-end.ensures.stops
     (λ shows. accepted.comes shows ∙ ap (λ (f : ℕ → List ℕ). Some (f k)) (sym (c.close.ensures.incoming
     ∙ ap (λ (t : Traffic). t.incoming) accepted.shown)))

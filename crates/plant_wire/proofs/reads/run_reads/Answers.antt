@@ -1,18 +1,15 @@
 use Rattle.std.proofs.Common.{[], ◌∙◌, ap, sym, drop, refl, arith, inl}
 use Rattle.plant_wire_call.proofs.public.Waiting.{waits_left, waits_more, waits_none}
-use Rattle.plant_wire.specs.{Ran.{Ran}, declared.step.Stop.TheVariants.{Fault}}
+use Rattle.plant_wire.specs.{Over.{RanWith}, declared.step.Stop.TheVariants.{Fault}}
 use Rattle.plant_wire.proofs.Sessions.{stands_start, ends_cut, ends_failed, ends_fault, ends_part, ends_broken, ends_drop_fault, stands_next, some_left}
-use Rattle.plant_wire.proofs.public.Running.{ran_none, ran_joins}
-use Rattle.plant_office.specs.Enduring.{books_state}
+use Rattle.plant_wire.proofs.public.With.{with_joins, with_none}
 use Rattle.plant_wire.proofs.reads.run_reads.Goals as goal
 
 pub reads-init : goal.reads-init
 reads-init g c =
     rw c.new-buffer.ensures.items record {
       stands = stands_start (g.I.Inlet.remaining c.args.inlet.now) (g.O.Outlet.written c.args.outlet.now)
-          (Ran (books_state g.B.Books c.args.office.now.books) (books_state g.B.Books c.args.office.now.books)
-          (g.B.Books.stores c.args.office.now.books) (g.B.Books.stores c.args.office.now.books))
-          (ran_none (books_state g.B.Books c.args.office.now.books) (g.B.Books.stores c.args.office.now.books));
+          (RanWith g.B.Books c.args.office.now c.args.office.now) (with_none g.B.Books c.args.office.now);
       honest = λ t. t;
       stalls = refl;
       ended = refl;
@@ -51,10 +48,7 @@ returns-in-Finished-clause-does g c =
 
 pub returns-in-Err-WriteFailed-clause-does : goal.returns-in-Err-WriteFailed-clause-does
 returns-in-Err-WriteFailed-clause-does g c =
-    let joins =
-    ran_joins (books_state g.B.Books c.args.office.now.books) (books_state g.B.Books c.reads.office.books)
-    (books_state g.B.Books c.answer_all.new.office.books) (g.B.Books.stores c.args.office.now.books) (g.B.Books.stores c.reads.office.books)
-    (g.B.Books.stores c.answer_all.new.office.books) in
+    let joins = with_joins g.B.Books c.args.office.now c.reads.office c.answer_all.new.office in
     let h = ends_part c.reads.invariant.stands (g.I.Inlet.remaining c.read_more.new.inlet) c.deref.result.now c.in-More.ensures.0 c.in-More.ensures.1
     (c.deref.ensures.value ∙ c.in-More.ensures.2) joins (g.O.Outlet.written c.answer_all.new.outlet) _ c.in-Err-WriteFailed.ensures.does in
     (h.0, h.1, h.2.0)
@@ -62,40 +56,28 @@ returns-in-Err-WriteFailed-clause-does g c =
 pub returns-in-Err-Fault-clause-does : goal.returns-in-Err-Fault-clause-does
 returns-in-Err-Fault-clause-does g c =
     let h = rw c.in-Err-Fault.field-0-is at c.in-Err-Fault.ensures.does in
-    let joins =
-    ran_joins (books_state g.B.Books c.args.office.now.books) (books_state g.B.Books c.reads.office.books)
-    (books_state g.B.Books c.answer_all.new.office.books) (g.B.Books.stores c.args.office.now.books) (g.B.Books.stores c.reads.office.books)
-    (g.B.Books.stores c.answer_all.new.office.books) in
+    let joins = with_joins g.B.Books c.args.office.now c.reads.office c.answer_all.new.office in
     ends_part c.reads.invariant.stands (g.I.Inlet.remaining c.read_more.new.inlet) c.deref.result.now c.in-More.ensures.0 c.in-More.ensures.1
     (c.deref.ensures.value ∙ c.in-More.ensures.2) joins (g.O.Outlet.written c.answer_all.new.outlet) Fault h
 
 pub returns-in-Ok-Broken-clause-does : goal.returns-in-Ok-Broken-clause-does
 returns-in-Ok-Broken-clause-does g c =
     let h = rw c.in-Ok-Broken.field-0-is at c.in-Ok-Broken.ensures.does in
-    let joins =
-    ran_joins (books_state g.B.Books c.args.office.now.books) (books_state g.B.Books c.reads.office.books)
-    (books_state g.B.Books c.answer_all.new.office.books) (g.B.Books.stores c.args.office.now.books) (g.B.Books.stores c.reads.office.books)
-    (g.B.Books.stores c.answer_all.new.office.books) in
+    let joins = with_joins g.B.Books c.args.office.now c.reads.office c.answer_all.new.office in
     ends_broken c.reads.invariant.stands (g.I.Inlet.remaining c.read_more.new.inlet) c.deref.result.now c.in-More.ensures.0 c.in-More.ensures.1
     (c.deref.ensures.value ∙ c.in-More.ensures.2) joins (g.I.Inlet.ended c.read_more.new.inlet) (g.O.Outlet.written c.answer_all.new.outlet) h
 
 pub returns-in-Err-clause-does : goal.returns-in-Err-clause-does
 returns-in-Err-clause-does g c =
     let h = rw c.in-Ok-Waits.field-0-is at c.in-Ok-Waits.ensures.does in
-    let joins =
-    ran_joins (books_state g.B.Books c.args.office.now.books) (books_state g.B.Books c.reads.office.books)
-    (books_state g.B.Books c.answer_all.new.office.books) (g.B.Books.stores c.args.office.now.books) (g.B.Books.stores c.reads.office.books)
-    (g.B.Books.stores c.answer_all.new.office.books) in
+    let joins = with_joins g.B.Books c.args.office.now c.reads.office c.answer_all.new.office in
     ends_drop_fault c.reads.invariant.stands (g.I.Inlet.remaining c.read_more.new.inlet) c.deref.result.now c.in-More.ensures.0 c.in-More.ensures.1
     (c.deref.ensures.value ∙ c.in-More.ensures.2) joins (g.O.Outlet.written c.answer_all.new.outlet) _ h.2
 
 pub reads-preserved : goal.reads-preserved
 reads-preserved g c =
     let h = rw c.in-Ok-Waits.field-0-is at c.in-Ok-Waits.ensures.does in
-    let joins =
-    ran_joins (books_state g.B.Books c.args.office.now.books) (books_state g.B.Books c.reads.office.books)
-    (books_state g.B.Books c.answer_all.new.office.books) (g.B.Books.stores c.args.office.now.books) (g.B.Books.stores c.reads.office.books)
-    (g.B.Books.stores c.answer_all.new.office.books) in
+    let joins = with_joins g.B.Books c.args.office.now c.reads.office c.answer_all.new.office in
     record {
       stands = stands_next c.reads.invariant.stands (g.I.Inlet.remaining c.read_more.new.inlet) c.deref.result.now c.in-More.ensures.0
           c.in-More.ensures.1

@@ -1,14 +1,12 @@
 use Rattle.std.proofs.Common.{◌≡◌, ◌≤◌, ◌-◌, length, drop}
-use Rattle.plant_wire.specs.{Ran.{Ran}, Step.{AnswersFront}}
-use Rattle.plant_office.specs.Enduring.{books_state}
+use Rattle.plant_wire.specs.{Over.{RanWith}, Step.{AnswersFront}}
 use Rattle.plant_wire.proofs.step.answer_all.Given as goal
 
 abbrev pub invariant-items : goal.invariant-items
 invariant-items g l = record {
   within : l.at ≤ length l.bytes;
   serves : AnswersFront l.bytes (g.O.Outlet.written l.fn.outlet) (g.O.Outlet.written l.outlet)
-      (Ran (books_state g.B.Books l.fn.office.books) (books_state g.B.Books l.office.books) (g.B.Books.stores l.fn.office.books)
-      (g.B.Books.stores l.office.books)) (drop l.at l.bytes);
+      (RanWith g.B.Books l.fn.office l.office) (drop l.at l.bytes);
   honest : g.B.Books.is_honest l.office.books → g.B.Books.is_honest l.fn.office.books;
   stalls : g.O.Outlet.failures l.outlet ≡ g.O.Outlet.failures l.fn.outlet;
 }

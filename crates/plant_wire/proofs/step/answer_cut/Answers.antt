@@ -1,35 +1,32 @@
 use Rattle.std.proofs.KnownBytes.{Appends-nil}
 use Rattle.plant_wire_call.{specs.Front.{body_length, item_of}, proofs.public.Cuts.{whole_fits}}
 use Rattle.plant_wire.specs.Marks.{said, malformed, begun}
-use Rattle.plant_wire.proofs.{Serving.{part_none, part_one, part_broken, stops_for}, public.Running.{ran_none}}
-use Rattle.plant_office.specs.Enduring.{books_state}
+use Rattle.plant_wire.proofs.{Serving.{part_none, part_one, part_broken, stops_for}, public.With.{with_none}}
 use Rattle.plant_wire.proofs.step.answer_cut.Goals as goal
 
 pub returns-in-More-clause-does : goal.returns-in-More-clause-does
 returns-in-More-clause-does g c bytes front waits = record {
   stands = rw c.in-More.is at front;
   writes = Appends-nil (g.O.Outlet.written c.args.outlet.now);
-  served = ran_none (books_state g.B.Books c.args.office.now.books) (g.B.Books.stores c.args.office.now.books);
+  served = with_none g.B.Books c.args.office.now;
   wanted_is = waits;
 }
 
 pub returns-in-Fault-clause-does : goal.returns-in-Fault-clause-does
 returns-in-Fault-clause-does g c bytes front waits =
-    part_none bytes (g.O.Outlet.written c.args.outlet.now)
-    (ran_none (books_state g.B.Books c.args.office.now.books) (g.B.Books.stores c.args.office.now.books))
+    part_none bytes (g.O.Outlet.written c.args.outlet.now) (with_none g.B.Books c.args.office.now)
 
 pub returns-in-Ok-clause-does : goal.returns-in-Ok-clause-does
 returns-in-Ok-clause-does g c bytes front waits = record {
   cause = c.in-Broken.cause;
   stands = rw c.in-Broken.is at front;
   writes = c.in-Ok.ensures.does;
-  served = ran_none (books_state g.B.Books c.args.office.now.books) (g.B.Books.stores c.args.office.now.books);
+  served = with_none g.B.Books c.args.office.now;
 }
 
 pub returns-in-Err-clause-does : goal.returns-in-Err-clause-does
 returns-in-Err-clause-does g c bytes front waits =
-    part_broken bytes _ _ _ c.in-Err.ensures.does.0 _ (rw c.in-Broken.is at front) c.in-Err.ensures.does.1
-    (ran_none (books_state g.B.Books c.args.office.now.books) (g.B.Books.stores c.args.office.now.books))
+    part_broken bytes _ _ _ c.in-Err.ensures.does.0 _ (rw c.in-Broken.is at front) c.in-Err.ensures.does.1 (with_none g.B.Books c.args.office.now)
 
 pub returns-in-Ok-put_cause-clause-does : goal.returns-in-Ok-put_cause-clause-does
 returns-in-Ok-put_cause-clause-does g c bytes front waits = (
@@ -39,15 +36,14 @@ returns-in-Ok-put_cause-clause-does g c bytes front waits = (
     mark = malformed c.in-Malformed.cause;
     stands = rw c.in-Malformed.is at front;
     writes = c.in-Ok-put_cause.ensures.does;
-    served = ran_none (books_state g.B.Books c.args.office.now.books) (g.B.Books.stores c.args.office.now.books);
+    served = with_none g.B.Books c.args.office.now;
   },
 )
 
 pub returns-in-Err-put_cause-clause-does : goal.returns-in-Err-put_cause-clause-does
 returns-in-Err-put_cause-clause-does g c bytes front waits =
     part_one bytes _ _ (malformed c.in-Malformed.cause) _ c.in-Err-put_cause.ensures.does.0 _ (rw c.in-Malformed.is at front)
-    c.in-Err-put_cause.ensures.does.1
-    (ran_none (books_state g.B.Books c.args.office.now.books) (g.B.Books.stores c.args.office.now.books))
+    c.in-Err-put_cause.ensures.does.1 (with_none g.B.Books c.args.office.now)
     (stops_for (begun (malformed c.in-Malformed.cause)) _ tt)
 
 pub returns-in-Ok-answer_call-clause-does : goal.returns-in-Ok-answer_call-clause-does

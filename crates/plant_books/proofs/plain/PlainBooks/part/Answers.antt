@@ -5,4 +5,4 @@ pub returns-clause-found : goal.returns-clause-found
 returns-clause-found c = λ m h _ u named.
     rw c.counted.ensures.same
     (rw (← part_listed c.args.self.now.administrator u c.in-Some.unit.now c.args.self.now.units m c.args.call.now h c.in-Some.ensures named)
-    c.part_at-said.ensures.value)
+    c.part_at-part.ensures.value)

@@ -13,8 +13,8 @@ returns-then-seconds g c =
           (behind_units m w call c.in_ok-units.units c.latest-last.result h (ap unit_named c.requires) (c.in_ok-units.ensures.found m k honest)
           (c.latest-last.ensures ∙ ap (λ xs. fold max c.args.call.now.moment (map (λ (u : MineUnit). u.last) xs)) c.as_slice.ensures)
           (omega (arith, c.seconds.ensures.value, c.seconds-2.ensures.value, c.if-seconds.true)))
-          (c.mine_units.ensures.same m k))
-          c.mine_units.ensures.honest c.mine_units.ensures.same c.in_ok-units.ensures.count tt c.mine_units.ensures.crash;
+          (c.in_ok-units.ensures.unchanged.same m k))
+          c.in_ok-units.ensures.unchanged tt;
     }
 
 pub returns-in_ok-lines : goal.returns-in_ok-lines
@@ -27,6 +27,6 @@ returns-in_ok-lines g c =
           (c.latest-last.ensures
           ∙ ap (λ xs. fold max c.args.call.now.moment (map (λ (u : MineUnit). u.last) xs)) c.as_slice.ensures) c.in_ok-lines.ensures.value
           (omega (arith, c.seconds.ensures.value, c.seconds-2.ensures.value, c.if-seconds.false)))
-          (c.mine_units.ensures.same m k))
-          c.mine_units.ensures.honest c.mine_units.ensures.same c.in_ok-units.ensures.count (ap is_read c.requires) c.mine_units.ensures.crash;
+          (c.in_ok-units.ensures.unchanged.same m k))
+          c.in_ok-units.ensures.unchanged (ap is_read c.requires);
     }

@@ -71,7 +71,7 @@ loop-call-preserved g c =
           (subst (λ (xs : List Answer). StandBeforeFailure start now (take i calls ++ call ∷ []) xs) (sym c.push_answer.ensures.items)
           (stand_then start mid now (take i calls) (call ∷ []) c.loop-call.answers.items (c.serve-answer.result ∷ []) before.stands
           (stand_one mid now call c.serve-answer.result said.served said.honest said.endures.endures) said.endures.endures.clean
-          (λ w at tells. before.ran at.content at.held w at.legal at.holds tells)));
+          (λ w at tells. before.ran at.content at.represents w at.legal at.holds tells)));
       long = ap length c.push_answer.ensures.items
           ∙ (let p = length-append c.loop-call.answers.items (c.serve-answer.result ∷ []) in
           let e : length (c.loop-call.answers.items ++ c.serve-answer.result ∷ []) ≡ i + 1 = omega (arith, p, before.long) in e);

@@ -14,12 +14,12 @@ returns-in-Refused g c =
     let u = c.args.unit.now in
     record {
       serves = serves_same (λ m k w legal h honest.
-          let mid = c.taken.ensures.same m k in
+          let mid = c.in_ok-taken.ensures.unchanged.same m k in
           let v = opening_of m w call u _ _ _ h (c.administrator.ensures m mid) (c.in_ok-taken.ensures.found m k honest)
           (subst (IsOpening _ _ _) c.in-Refused.is c.in_ok-refused.ensures.value) in
           leaves w call _ m (g.B.Books.represents c.taken.new.self) legal c.note_matrix.ensures
           (refused_opening m w call u c.in-Refused.refused h c.requires.named c.requires.opening v) mid)
-          c.taken.ensures.honest c.taken.ensures.same c.in_ok-taken.ensures.count tt c.taken.ensures.crash;
+          c.in_ok-taken.ensures.unchanged tt;
     }
 
 pub returns-in-Accepted : goal.returns-in-Accepted
@@ -36,7 +36,7 @@ returns-in-Accepted g c =
           × CountsBy g.B.Books.stores mid last made × OnOk made (g.B.Books.is_clean last → g.B.Books.is_honest last))
           (c.carry_out.ensures.made, c.carry_out.ensures.unchanged, c.carry_out.ensures.count, c.carry_out.ensures.kept)
           (λ _ it. serves_changing (λ m k w legal h honest.
-          let told = c.taken.ensures.same m k in
+          let told = c.in_ok-taken.ensures.unchanged.same m k in
           let early = c.carry_out.ensures.honest honest in
           let v = opening_of m w call u _ _ _ h (c.administrator.ensures m told) (c.in_ok-taken.ensures.found m k early)
           (subst (IsOpening _ _ _) c.in-Accepted.is c.in_ok-refused.ensures.value) in
@@ -44,34 +44,34 @@ returns-in-Accepted g c =
           (g.B.Books.represents last) legal c.note_matrix.ensures
           (accepted_opening m w call u c.in-Accepted.reply _ h c.requires.named c.requires.opening v)
           (it.0 m told (known_opening m w call u c.in-Accepted.reply _ v)))
-          (λ honest. c.taken.ensures.honest (c.carry_out.ensures.honest honest)) (opening_changes call.request c.requires.opening)
-          (it.2 ∙ c.in_ok-taken.ensures.count)
+          (λ honest. c.in_ok-taken.ensures.unchanged.honest (c.carry_out.ensures.honest honest)) (opening_changes call.request c.requires.opening)
+          (it.2 ∙ c.in_ok-taken.ensures.unchanged.count)
           (record {
-            read = c.taken.ensures.crash;
-            same = c.taken.ensures.same;
+            read = c.in_ok-taken.ensures.unchanged.crash;
+            same = c.in_ok-taken.ensures.unchanged.same;
             writes = c.carry_out.ensures.crash;
             known = λ m k w legal h honest.
-                let v = opening_of m w call u _ _ _ h (c.administrator.ensures m (c.taken.ensures.same m k)) (c.in_ok-taken.ensures.found m k honest)
+                let v = opening_of m w call u _ _ _ h (c.administrator.ensures m (c.in_ok-taken.ensures.unchanged.same m k)) (c.in_ok-taken.ensures.found m k honest)
                 (subst (IsOpening _ _ _) c.in-Accepted.is c.in_ok-refused.ensures.value) in
                 known_opening m w call u c.in-Accepted.reply _ v;
             meant = λ m k w legal h honest.
-                let v = opening_of m w call u _ _ _ h (c.administrator.ensures m (c.taken.ensures.same m k)) (c.in_ok-taken.ensures.found m k honest)
+                let v = opening_of m w call u _ _ _ h (c.administrator.ensures m (c.in_ok-taken.ensures.unchanged.same m k)) (c.in_ok-taken.ensures.found m k honest)
                 (subst (IsOpening _ _ _) c.in-Accepted.is c.in_ok-refused.ensures.value) in
                 holds_opened m w call u c.in-Accepted.reply _ legal h c.note_matrix.ensures c.requires.named c.requires.opening v;
             legal = λ w legal. next_legal w call legal c.note_matrix.ensures;
           }) it.3)
-          (λ e it. serves_fault (Err e) e refl (λ honest. c.taken.ensures.honest (c.carry_out.ensures.honest honest))
-          (λ m k. it.1 m (c.taken.ensures.same m k)) c.in_ok-taken.ensures.count it.2
+          (λ e it. serves_fault (Err e) e refl (λ honest. c.in_ok-taken.ensures.unchanged.honest (c.carry_out.ensures.honest honest))
+          (λ m k. it.1 m (c.in_ok-taken.ensures.unchanged.same m k)) c.in_ok-taken.ensures.unchanged.count it.2
           (record {
-            read = c.taken.ensures.crash;
-            same = c.taken.ensures.same;
+            read = c.in_ok-taken.ensures.unchanged.crash;
+            same = c.in_ok-taken.ensures.unchanged.same;
             writes = c.carry_out.ensures.crash;
             known = λ m k w legal h honest.
-                let v = opening_of m w call u _ _ _ h (c.administrator.ensures m (c.taken.ensures.same m k)) (c.in_ok-taken.ensures.found m k honest)
+                let v = opening_of m w call u _ _ _ h (c.administrator.ensures m (c.in_ok-taken.ensures.unchanged.same m k)) (c.in_ok-taken.ensures.found m k honest)
                 (subst (IsOpening _ _ _) c.in-Accepted.is c.in_ok-refused.ensures.value) in
                 known_opening m w call u c.in-Accepted.reply _ v;
             meant = λ m k w legal h honest.
-                let v = opening_of m w call u _ _ _ h (c.administrator.ensures m (c.taken.ensures.same m k)) (c.in_ok-taken.ensures.found m k honest)
+                let v = opening_of m w call u _ _ _ h (c.administrator.ensures m (c.in_ok-taken.ensures.unchanged.same m k)) (c.in_ok-taken.ensures.found m k honest)
                 (subst (IsOpening _ _ _) c.in-Accepted.is c.in_ok-refused.ensures.value) in
                 holds_opened m w call u c.in-Accepted.reply _ legal h c.note_matrix.ensures c.requires.named c.requires.opening v;
             legal = λ w legal. next_legal w call legal c.note_matrix.ensures;

@@ -1,6 +1,6 @@
 use Rattle.std.proofs.Common.{◌∙◌, ◌==◌, ap}
 use Rattle.plant_wire.specs.declared.reads.End.TheVariants.{ReadFailed}
-use Rattle.plant_server_clients.proofs.{Held.{gives_up, loses, over_so}, Waits.{empty_if, full_if, on_true}}
+use Rattle.plant_server_clients.proofs.{Numbers.{gives_up, loses, over_so}, Waits.{empty_if, full_if, on_true}}
 use Rattle.plant_server_clients.proofs.connections.Connection.given_up.Goals as goal
 
 pub returns-then-not-is_empty : goal.returns-then-not-is_empty

@@ -10,28 +10,28 @@ use Rattle.plant_store.proofs.tables.TablesBooks.apply.Goals as goal
 pub returns-clause-made : goal.returns-clause-made
 returns-clause-made g c =
     λ m. rw (← c.self.view_is)
-    (λ h known. again_made c.apply-said.result c.heard.result c.heard.ensures.said (λ (w : IsHonest (state g.S.Store c.apply-said.new.conn)
-    × AreBooks (state g.S.Store c.self.inside.conn).now). c.apply-said.ensures.made w.0 w.1) (λ made. (
+    (λ h known. again_made c.apply-outcome.result c.conclude.result c.conclude.ensures.outcome (λ (w : IsHonest (state g.S.Store c.apply-outcome.new.conn)
+    × AreBooks (state g.S.Store c.self.inside.conn).now). c.apply-outcome.ensures.made w.0 w.1) (λ made. (
       h.0,
       λ honest.
-          let mid = state g.S.Store c.apply-said.new.conn in
-          let then = c.heard.ensures.reads.honest honest in
-          let k = h.1 (c.apply-said.ensures.honest then) in
-          keeps_same mid (state g.S.Store c.heard.new.conn) (after_changes m c.args.unit.now c.args.changes.now)
+          let mid = state g.S.Store c.apply-outcome.new.conn in
+          let then = c.conclude.ensures.reads.honest honest in
+          let k = h.1 (c.apply-outcome.ensures.honest then) in
+          keeps_same mid (state g.S.Store c.conclude.new.conn) (after_changes m c.args.unit.now c.args.changes.now)
           (keeps_after (state g.S.Store c.self.inside.conn) mid m c.args.unit.now c.args.changes.now k known
-          (rw c.as_slice.ensures at (made (then, k.books)))) (c.heard.ensures.reads.same honest),
+          (rw c.as_slice.ensures at (made (then, k.books)))) (c.conclude.ensures.reads.same honest),
     )))
 
 pub returns-clause-unchanged : goal.returns-clause-unchanged
 returns-clause-unchanged g c =
-    λ m. rw (← c.self.view_is) (λ h. again_left c.apply-said.result c.heard.result c.heard.ensures.said c.apply-said.ensures.unchanged (λ left. (
+    λ m. rw (← c.self.view_is) (λ h. again_left c.apply-outcome.result c.conclude.result c.conclude.ensures.outcome c.apply-outcome.ensures.unchanged (λ left. (
       h.0,
       λ honest.
-          let mid = state g.S.Store c.apply-said.new.conn in
-          let then = c.heard.ensures.reads.honest honest in
-          keeps_same mid (state g.S.Store c.heard.new.conn) m
-          (keeps_same (state g.S.Store c.self.inside.conn) mid m (h.1 (c.apply-said.ensures.honest then)) (left then))
-          (c.heard.ensures.reads.same honest),
+          let mid = state g.S.Store c.apply-outcome.new.conn in
+          let then = c.conclude.ensures.reads.honest honest in
+          keeps_same mid (state g.S.Store c.conclude.new.conn) m
+          (keeps_same (state g.S.Store c.self.inside.conn) mid m (h.1 (c.apply-outcome.ensures.honest then)) (left then))
+          (c.conclude.ensures.reads.same honest),
     )))
 
 pub returns-clause-crash : goal.returns-clause-crash
@@ -40,12 +40,12 @@ returns-clause-crash g c = rw (← c.self.view_is) (
     let u = c.args.unit.now in
     let cs = c.args.changes.now in
     loses_no_part g.S.Store _ _ u cs
-    (survives_then before (state g.S.Store c.apply-said.new.conn) (state g.S.Store c.heard.new.conn) (AreChangedHonestly before u cs) (λ _. ⊥)
+    (survives_then before (state g.S.Store c.apply-outcome.new.conn) (state g.S.Store c.conclude.new.conn) (AreChangedHonestly before u cs) (λ _. ⊥)
     (AreChangedHonestly before u cs)
-    (λ _ db made. made) (λ _ db none. absurd none) (rw c.as_slice.ensures at c.apply-said.ensures.survives) c.heard.ensures.reads.quiet))
+    (λ _ db made. made) (λ _ db none. absurd none) (rw c.as_slice.ensures at c.apply-outcome.ensures.survives) c.conclude.ensures.reads.quiet))
 
 pub returns-clause-kept : goal.returns-clause-kept
 returns-clause-kept g c =
-    both_ok c.heard.result
-    (again_made c.apply-said.result c.heard.result c.heard.ensures.said c.apply-said.ensures.open (λ up clean. (clean, up clean)))
-    c.heard.ensures.same (λ kept same. rw same kept)
+    both_ok c.conclude.result
+    (again_made c.apply-outcome.result c.conclude.result c.conclude.ensures.outcome c.apply-outcome.ensures.open (λ up clean. (clean, up clean)))
+    c.conclude.ensures.same (λ kept same. rw same kept)

@@ -1,12 +1,15 @@
+use Rattle.std.proofs.Common.{refl}
 use Rattle.plant_store_statements.proofs.public.ReadsOnly.{reads_then}
-use Rattle.plant_store.proofs.{SaidAgain.{again_ok}, public.Leaving.{loses_nothing}}
+use Rattle.plant_store.proofs.{SaidAgain.{again_ok}, public.Leaving.{leaves_unchanged}}
 use Rattle.plant_store.proofs.tables.TablesBooks.taken.Goals as goal
 
 pub returns-clause-found : goal.returns-clause-found
 returns-clause-found g c = λ m. rw (← c.self.view_is) (λ h honest.
-    let then = c.heard.ensures.reads.honest honest in
-    again_ok _ c.taken-said.result c.heard.result c.heard.ensures.said (c.taken-said.ensures.found then
-    m (h.1 (c.taken-said.ensures.reads.honest then))))
+    let then = c.conclude.ensures.reads.honest honest in
+    again_ok _ c.taken-outcome.result c.conclude.result c.conclude.ensures.outcome (c.taken-outcome.ensures.found then
+    m (h.1 (c.taken-outcome.ensures.reads.honest then))))
 
-pub returns-clause-crash : goal.returns-clause-crash
-returns-clause-crash g c = rw (← c.self.view_is) (loses_nothing g.S.Store _ _ (reads_then c.taken-said.ensures.reads c.heard.ensures.reads).quiet)
+pub returns-clause-unchanged : goal.returns-clause-unchanged
+returns-clause-unchanged g c =
+    rw (← c.self.view_is) (leaves_unchanged g.S.Store _ _ c.conclude.result refl
+    (reads_then c.taken-outcome.ensures.reads c.conclude.ensures.reads) c.conclude.ensures.count)

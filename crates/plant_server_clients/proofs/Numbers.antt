@@ -1,4 +1,4 @@
--- The connections that are held, by their numbers.
+-- The open connections, by their numbers.
 use Rattle.std.proofs.Common.{◌≡◌, ◌≢◌, ◌≤◌, ◌<◌, ◌+◌, ℕ, zero, suc, List, [], ◌∷◌, ◌++◌, Bool, true, false, Option, Some, None, slice_get}
 use Rattle.std.proofs.Common.{slice_index_or, slice_set, refl, sym, ap, subst, ◌∙◌, nat_eq, nat_lt, arith, take, inl, inr}
 use Rattle.std.proofs.Common.{ltb-true, ltb-false, lt-ltb, le-ltb, eq-eqb, eqb-true}
@@ -8,7 +8,7 @@ use Rattle.plant_wire_call.specs.Cut.{WaitsBelow}
 use Rattle.plant_wire.specs.declared.reads.End.{End}
 use Rattle.plant_wire.specs.declared.reads.End.TheVariants.{WriteFailed}
 use Rattle.plant_server_clients.specs.Events.{Event, opened, closed}
-use Rattle.plant_server_clients.specs.Stages.{AreOpenConnections, IsGivenUp, Leads, MayClose, Moves, Stage, fresh, gone, served, connection_with, stage_by, stage_held}
+use Rattle.plant_server_clients.specs.Stages.{AreOpenConnections, IsGivenUp, Leads, MayClose, Moves, Stage, fresh, gone, served, connection_with, stage_by, stage_if_open}
 use Rattle.plant_server_clients.specs.Stages.{stage_in, stage_of}
 use Rattle.plant_server_clients.specs.{Happens.{AreOf}, Prompt.{ArePrompt, IsPrompt}}
 use Rattle.plant_server_clients.proofs.Leading.{leads_other}
@@ -30,7 +30,7 @@ below count [] at l ok is = cc
 below count (x ∷ ls) zero l ok is = let e : x ≡ l = cc in subst (λ (t : Connection). t.number < count) e ok.0
 below count (x ∷ ls) (suc at) l ok is = below count ls at l ok.3 is
 
--- a number that no connection has is not that of a connection that is held
+-- a number that no connection has is not that of an open connection
 absent : (k : ℕ) (ls : List Connection) (at : ℕ) (l : Connection) → connection_with k ls ≡ None → slice_get ls at ≡ Some l → l.number ≡ k → ⊥
 absent k [] at l none is same = cc
 absent k (x ∷ ls) zero l none is same =
@@ -53,14 +53,14 @@ found count [] at l ok is = cc
 found count (x ∷ ls) zero l ok is = let e : x ≡ l = cc in here x l.number ls (ap (λ (t : Connection). t.number) e) ∙ ap Some e
 found count (x ∷ ls) (suc at) l ok is = later x l.number ls (differs count x ls at l ok is) ∙ found count ls at l ok.3 is
 
-set_own : (count : ℕ) (ls : List Connection) (at : ℕ) (l l' : Connection) → AreOpenConnections count ls → slice_get ls at ≡ Some l → l'.number ≡ l.number
+pub set_own : (count : ℕ) (ls : List Connection) (at : ℕ) (l l' : Connection) → AreOpenConnections count ls → slice_get ls at ≡ Some l → l'.number ≡ l.number
     → connection_with l.number (slice_set ls at l') ≡ Some l'
 set_own count [] at l l' ok is same = cc
 set_own count (x ∷ ls) zero l l' ok is same = here l' l.number ls same
 set_own count (x ∷ ls) (suc at) l l' ok is same =
     later x l.number (slice_set ls at l') (differs count x ls at l ok is) ∙ set_own count ls at l l' ok.3 is same
 
-set_other : (ls : List Connection) (at : ℕ) (l l' : Connection) (k : ℕ) → slice_get ls at ≡ Some l → l'.number ≡ l.number → l.number ≢ k
+pub set_other : (ls : List Connection) (at : ℕ) (l l' : Connection) (k : ℕ) → slice_get ls at ≡ Some l → l'.number ≡ l.number → l.number ≢ k
     → connection_with k (slice_set ls at l') ≡ connection_with k ls
 set_other [] at l l' k is same not = cc
 set_other (x ∷ ls) zero l l' k is same not =
@@ -89,8 +89,8 @@ set_connections count (x ∷ ls) (suc at) l l' ok is same waits = (
 )
 
 -- where a connection is
-stage_held_at : (k count : ℕ) (ls : List Connection) → k < count → stage_of k count ls ≡ stage_held (connection_with k ls)
-stage_held_at k count ls lt = rw (lt-ltb k count lt) refl
+stage_open_at : (k count : ℕ) (ls : List Connection) → k < count → stage_of k count ls ≡ stage_if_open (connection_with k ls)
+stage_open_at k count ls lt = rw (lt-ltb k count lt) refl
 
 stage_fresh_at : (k count : ℕ) (ls : List Connection) → count ≤ k → stage_of k count ls ≡ fresh
 stage_fresh_at k count ls le = rw (le-ltb k count le) refl
@@ -100,7 +100,7 @@ stage_same k count ls ms e = rw e refl
 
 pub stage_at : (count : ℕ) (ls : List Connection) (at : ℕ) (l : Connection) → AreOpenConnections count ls → slice_get ls at ≡ Some l
     → stage_of l.number count ls ≡ stage_in l
-stage_at count ls at l ok is = stage_held_at l.number count ls (below count ls at l ok is) ∙ ap stage_held (found count ls at l ok is)
+stage_at count ls at l ok is = stage_open_at l.number count ls (below count ls at l ok is) ∙ ap stage_if_open (found count ls at l ok is)
 
 -- one connection moved on by these events: so did its connection, and no other
 pub lifted : (count : ℕ) (ls : List Connection) (at : ℕ) (l l' : Connection) (events : List Event) → AreOpenConnections count ls → slice_get ls at ≡ Some l
@@ -111,7 +111,7 @@ lifted count ls at l l' events ok is same own leads k = go (nat_eq l.number k) r
   where
     go : (b : Bool) → nat_eq l.number k ≡ b → Leads k (stage_of k count ls) events (stage_of k count (slice_set ls at l'))
     go true e =
-        let after = stage_held_at l.number count (slice_set ls at l') (below count ls at l ok is) ∙ ap stage_held
+        let after = stage_open_at l.number count (slice_set ls at l') (below count ls at l ok is) ∙ ap stage_if_open
         (set_own count ls at l l' ok is same) in
         subst (λ (n : ℕ). Leads n (stage_of n count ls) events (stage_of n count (slice_set ls at l'))) (eqb-true l.number k e)
         (subst (λ (s : Stage). Leads l.number s events (stage_of l.number count (slice_set ls at l'))) (sym (stage_at count ls at l ok is))
@@ -123,13 +123,13 @@ lifted count ls at l l' events ok is same own leads k = go (nat_eq l.number k) r
         (leads_other k l.number (stage_of k count ls) events own not)
 
 -- once a connection is closed, no connection has its number
-remove_own : (count : ℕ) (ls : List Connection) (at : ℕ) (l : Connection) → AreOpenConnections count ls → slice_get ls at ≡ Some l
+pub remove_own : (count : ℕ) (ls : List Connection) (at : ℕ) (l : Connection) → AreOpenConnections count ls → slice_get ls at ≡ Some l
     → connection_with l.number (remove ls at) ≡ None
 remove_own count [] at l ok is = cc
 remove_own count (x ∷ ls) zero l ok is = let e : x ≡ l = cc in ap (λ (t : Connection). connection_with t.number ls) (sym e) ∙ ok.1
 remove_own count (x ∷ ls) (suc at) l ok is = later x l.number (remove ls at) (differs count x ls at l ok is) ∙ remove_own count ls at l ok.3 is
 
-remove_other : (ls : List Connection) (at : ℕ) (l : Connection) (k : ℕ) → slice_get ls at ≡ Some l → l.number ≢ k
+pub remove_other : (ls : List Connection) (at : ℕ) (l : Connection) (k : ℕ) → slice_get ls at ≡ Some l → l.number ≢ k
     → connection_with k (remove ls at) ≡ connection_with k ls
 remove_other [] at l k is not = cc
 remove_other (x ∷ ls) zero l k is not = let e : x ≡ l = cc in sym (later x k ls (λ w. not (sym (ap (λ (t : Connection). t.number) e) ∙ w)))
@@ -173,7 +173,7 @@ lifted_closed count ls at l end ok is may k = go (nat_eq l.number k) refl
   where
     go : (b : Bool) → nat_eq l.number k ≡ b → Leads k (stage_of k count ls) (closed l.number end ∷ []) (stage_of k count (remove ls at))
     go true e =
-        let after = stage_held_at l.number count (remove ls at) (below count ls at l ok is) ∙ ap stage_held (remove_own count ls at l ok is) in
+        let after = stage_open_at l.number count (remove ls at) (below count ls at l ok is) ∙ ap stage_if_open (remove_own count ls at l ok is) in
         subst (λ (n : ℕ). Leads n (stage_of n count ls) (closed l.number end ∷ []) (stage_of n count (remove ls at))) (eqb-true l.number k e)
         (subst (λ (s : Stage). Leads l.number s (closed l.number end ∷ []) (stage_of l.number count (remove ls at)))
         (sym (stage_at count ls at l ok is))
@@ -185,11 +185,11 @@ lifted_closed count ls at l end ok is may k = go (nat_eq l.number k) refl
         (leads_other k l.number (stage_of k count ls) (closed l.number end ∷ []) (refl, tt) not)
 
 -- a connection is accepted
-none_above : (count : ℕ) (ls : List Connection) (k : ℕ) → AreOpenConnections count ls → count ≤ k → connection_with k ls ≡ None
+pub none_above : (count : ℕ) (ls : List Connection) (k : ℕ) → AreOpenConnections count ls → count ≤ k → connection_with k ls ≡ None
 none_above count [] k ok le = refl
 none_above count (x ∷ ls) k ok le = later x k ls (λ e. let lt = ok.0 in omega (arith, e)) ∙ none_above count ls k ok.3 le
 
-pushed_own : (ls : List Connection) (l : Connection) (k : ℕ) → connection_with k ls ≡ None → l.number ≡ k → connection_with k (ls ++ l ∷ []) ≡ Some l
+pub pushed_own : (ls : List Connection) (l : Connection) (k : ℕ) → connection_with k ls ≡ None → l.number ≡ k → connection_with k (ls ++ l ∷ []) ≡ Some l
 pushed_own [] l k none is = here l k [] is
 pushed_own (x ∷ ls) l k none is = go (nat_eq x.number k) refl (λ h. pushed_own ls l k h is)
   where
@@ -198,7 +198,7 @@ pushed_own (x ∷ ls) l k none is = go (nat_eq x.number k) refl (λ h. pushed_ow
     go true e more = let h = here x k ls (eqb-true x.number k e) in cc
     go false e more = rw e (more (sym (later x k ls (eqb-false x.number k e)) ∙ none))
 
-pushed_other : (ls : List Connection) (l : Connection) (k : ℕ) → l.number ≢ k → connection_with k (ls ++ l ∷ []) ≡ connection_with k ls
+pub pushed_other : (ls : List Connection) (l : Connection) (k : ℕ) → l.number ≢ k → connection_with k (ls ++ l ∷ []) ≡ connection_with k ls
 pushed_other [] l k not = later l k [] not
 pushed_other (x ∷ ls) l k not = go (nat_eq x.number k) refl (pushed_other ls l k not)
   where
@@ -226,7 +226,7 @@ counted_other : (count : ℕ) (ls : List Connection) (k : ℕ) → AreOpenConnec
 counted_other count ls k ok not = go (nat_lt k count) refl
   where
     go : (b : Bool) → nat_lt k count ≡ b → stage_of k (count + 1) ls ≡ stage_of k count ls
-    go true e = let lt = ltb-true k count e in stage_held_at k (count + 1) ls (omega arith) ∙ sym (stage_held_at k count ls lt)
+    go true e = let lt = ltb-true k count e in stage_open_at k (count + 1) ls (omega arith) ∙ sym (stage_open_at k count ls lt)
     go false e = let le = ltb-false k count e in stage_fresh_at k (count + 1) ls (omega (arith, not)) ∙ sym (stage_fresh_at k count ls le)
 
 pub lifted_opened : (count : ℕ) (ls : List Connection) (l : Connection) → AreOpenConnections count ls → l.number ≡ count → stage_in l ≡ served [] []
@@ -237,7 +237,7 @@ lifted_opened count ls l ok is new k = go (nat_eq count k) refl
     go true e =
         let same = eqb-true count k e in
         let before = stage_fresh_at k count ls (omega (arith, same)) in
-        let after = stage_held_at k (count + 1) (ls ++ l ∷ []) (omega (arith, same)) ∙ ap stage_held
+        let after = stage_open_at k (count + 1) (ls ++ l ∷ []) (omega (arith, same)) ∙ ap stage_if_open
         (pushed_own ls l k (none_above count ls k ok (omega (arith, same))) (is ∙ same)) ∙ new in
         rw (before, after) (served [] [], record { own = λ w. refl; other = λ n. absurd (n same) }, refl)
     go false e =

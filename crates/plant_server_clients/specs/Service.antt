@@ -1,26 +1,28 @@
 -- The open connections, and the turns that they have.
-use Rattle.std.specs.Prelude.{Bool, false, true, ℕ, suc, length, List, [], Option, Some, slice_get, remove, ◌⊎◌, ◌≡◌, ◌≤◌}
+use Rattle.std.specs.Prelude.{Bool, false, true, ℕ, suc, length, map, List, [], Option, Some, slice_get, remove, ◌⊎◌, ◌≡◌, ◌≤◌}
 use Rattle.plant_books.specs.declared.books.Books.{Ghosts}
 use Rattle.plant_server_clients.specs.{Causes.{Always}, Events.{Event, Log, Seen, reports, seen_by}}
 use Rattle.plant_server_clients.specs.Happens.{Happened, ServiceState, stages}
 use Rattle.plant_server_clients.specs.{Paces.{AreKept, AreRising, Keeps, Splits, numbers}, Prompt.{ArePrompt}}
 use Rattle.plant_server_clients.specs.Stages.{AreOpenConnections}
 use Rattle.plant_server_clients.specs.declared.connections.Connection.{Connection}
-use Rattle.plant_server_clients.specs.declared.serving.{Held.{Held}, Turn.{Turn}}
+use Rattle.plant_server_clients.specs.declared.serving.{Service.{Service}, Turn.{Turn}}
 
--- the open connections, in the order in which they were accepted; no more were accepted than are to be served
-pub record IsHeld (held : Held) : Type 0 where
-  pub connections : AreOpenConnections held.count held.connections.items
-  pub few : held.count ≤ held.plan.connections
-  pub rising : AreRising (numbers held.connections.items)
+-- the open connections, in the order in which they were accepted, each with its client; no more were accepted than are
+-- to be served
+pub record IsConsistent {C : Type 0} (number_of : C → ℕ) (service : Service C) : Type 0 where
+  pub connections : AreOpenConnections service.count service.connections.items
+  pub few : service.count ≤ service.plan.connections
+  pub rising : AreRising (numbers service.connections.items)
+  pub clients : map number_of service.clients.items ≡ numbers service.connections.items
 
 -- unless the service is busy, the ports may be waited for
-abbrev pub MayWait : Held → Type 0
-MayWait held = held.busy ≡ false → ArePrompt held.connections.items
+abbrev pub MayWait : {C : Type 0} → Service C → Type 0
+MayWait service = service.busy ≡ false → ArePrompt service.connections.items
 
--- the service that holds these, with what the ports and the log show
-abbrev pub service_state : Log → Option (List ℕ) → Held → ServiceState
-service_state ports log held = record { seen = seen_by ports log; count = held.count; connections = held.connections.items }
+-- the service, with what the ports and the log show
+abbrev pub service_state : {C : Type 0} → Log → Option (List ℕ) → Service C → ServiceState
+service_state ports log service = record { seen = seen_by ports log; count = service.count; connections = service.connections.items }
 
 -- a service before it accepted any connection
 abbrev pub new_service : Seen → ServiceState

@@ -1,0 +1,6 @@
+use Rattle.std.proofs.Common.{◌≡◌}
+use Rattle.plant_server_sockets.specs.Clients.{numbers}
+use Rattle.plant_server_sockets.proofs.sockets.Sockets.next_in_turn.Given as goal
+
+abbrev pub invariant-turns : goal.invariant-turns
+invariant-turns l = numbers l.clients ≡ numbers l.fn.clients
