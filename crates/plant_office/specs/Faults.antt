@@ -7,7 +7,7 @@ use Rattle.plant_office.specs.{Runs.{is_store}, declared.office.Faults.{Faults}}
 abbrev pub no_faults : Faults
 no_faults = record { memory = false; store = false }
 
--- the answer is a fault for want of memory
+-- the answer is a fault because memory ran out
 abbrev pub is_memory : Answer → Bool
 is_memory (Replied r) = false
 is_memory (WasRefused r) = false

@@ -81,7 +81,7 @@ take_none zero xs none = refl
 take_none (suc n) [] none = refl
 take_none (suc n) (x ∷ xs) none = cc
 
--- what a connection with these faults noted is told of these answers
+-- the lines for these answers, on a connection that was given those before
 abbrev now_told : ℕ → List Answer → List Answer → List ℕ
 now_told n answers before = take n (fault_lines (without (faults_in answers) (faults_in before)))
 
@@ -304,7 +304,7 @@ tells_then_quiet {reports = reports} {t = t} {u = u} {b = b} fs is quiet stay fi
     let plan : Plan = record { connections = 0; while_open = reports } in
     tells_if_then {p = plan} {q = plan} is refl first (tells_quiet reports t u fs b quiet stay)
 
--- what a service told in all
+-- all the lines of a service, from its start
 pub tells_all : (reports : Bool) (s t : ServiceState) (es : List Event) (written written' : Option (List ℕ)) → s.count ≡ 0 → s.connections ≡ []
     → TellsIf reports s t es written written' → TellsFaults written (reported_faults reports es) written'
 tells_all true s t es written written' count none it =

@@ -31,7 +31,7 @@ abbrev pub AreOf : ℕ → List Event → Type 0
 AreOf k [] = Unit {0}
 AreOf k (e ∷ es) = (who e ≡ k) × AreOf k es
 
--- a connection on which a whole request waits is answered, or it is no longer served
+-- where a whole request waits and nothing is left to send, these events answer it or end the connection
 abbrev pub Answers : Connection → List Event → Type 0
 Answers l events = (unread : List ℕ) → stage_in l ≡ served unread [] → (IsIdle unread → ⊥) → marks_of l.number events ≡ []
     → (v : List ℕ) → Leads l.number (stage_in l) events (served v []) → ⊥

@@ -1,6 +1,6 @@
 //! One connection of many: its unread bytes and its unsent answer, and the steps that read, answer and write on it.
 
-ghost use Rattle.std.specs.Prelude.{◌≡◌, ◌≤◌, ◌<◌, [], None, Some, length, drop, false, take, true, IfSome, ℕ};
+ghost use Rattle.std.specs.Prelude.{◌≡◌, ◌≤◌, ◌<◌, [], None, Some, length, false, take, true, IfSome, ℕ};
 ghost use Rattle.std.specs.{Bool.{OnTrue}, Io.KnownBytes.{Appends}};
 ghost use Rattle.plant_wire_call.specs.{Cut.{WaitsBelow}, Front.{StandsAtFront, waits}};
 ghost use Rattle.plant_wire.specs.{Limits.{least_room}, Session.{IsIdle}};
@@ -17,7 +17,7 @@ use crate::desk::Desk;
 use crate::ports::{Ports, Sent, Taken};
 use plant_office::{Books, Faults, NO_FAULTS, Office};
 use plant_server_log::say_faults;
-use plant_wire::{End, Step, answer_next};
+use plant_wire::{End, Step, answer_next, drop_front};
 use plant_wire_head::FieldRoom;
 use plant_wire_route::Routes;
 use std::alloc::Global;
@@ -113,20 +113,6 @@ impl Connection {
         }
         self.end
     }
-}
-
-/// Removes the first `n` bytes. A buffer that becomes empty releases its memory.
-pub(crate) fn drop_front(alloc: Global, buffer: &mut Vec<u8>, n: usize)
-    requires { n ≤ length buffer.old.items }
-    ensures { buffer.new.items ≡ drop n buffer.old.items }
-{
-    if n == buffer.len() {
-        *buffer = Vec::new(alloc);
-        return;
-    }
-    let rest = buffer.len() - n;
-    buffer.rotate_left(n);
-    buffer.truncate(rest);
 }
 
 /// How a connection ends if its input ends with these bytes unread.

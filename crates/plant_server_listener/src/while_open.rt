@@ -22,8 +22,9 @@ pub enum Stopped {
 }
 
 /// Serves `n` connections as `serve_connections` does, but only while the store is open: if a failure shuts it, the
-/// current connection is served to its end, and none after it. After each connection it also writes to the errors which
-/// kinds of fault the connection was answered, and nothing else; faults that the office answered earlier are not told.
+/// current connection is served to its end, and none after it. After each connection it also writes to `errors` a line
+/// for each kind of fault among the answers on that connection, and nothing else; faults that the office answered
+/// before the first connection are not reported.
 pub fn serve_while_open<L: Listener, B: Books, W: Write, E: Write>(
     alloc: Global,
     listener: &mut L,

@@ -84,11 +84,6 @@ module _ {r r' o o' : Option (List ℕ)} {ran : List Call → List Answer → Ty
         → (bytes : List ℕ) × Consumes r r'' bytes × (ServesBroken bytes o o'' all ⊎ IsCutShort bytes r'' e o o'' all)
     ends_broken e o'' b = (at.bytes ++ more, all_bytes, inl (serves_then_broken joins (at.bytes ++ more) buffer' o o' o'' before b))
 
-    pub ends_drop_fault : (o'' : Option (List ℕ)) (rest : List ℕ) → AnswersFront buffer' o' o'' next rest
-        → (bytes : List ℕ) × Consumes r r'' bytes × IsStopped bytes o o'' all Fault
-    ends_drop_fault o'' rest b =
-        (at.bytes ++ more, all_bytes, serves_part (at.bytes ++ more) rest o o'' (serves_more joins (at.bytes ++ more) buffer' rest o o' o'' before b))
-
     pub stands_next : (o'' : Option (List ℕ)) (n : ℕ) (rest : List ℕ) → rest ≡ drop n buffer' → StandsAtFront (drop n buffer') waits
         → AnswersFront buffer' o' o'' next (drop n buffer') → Stands r r'' o o'' all rest
     stands_next o'' n rest e front b =

@@ -15,7 +15,7 @@ pub use plant_wire_call::{
     Cause, Cut, cuts_agree, next_call, next_call_with, one_reading, one_stream,
 };
 pub use put::bytes_from;
-pub use reads::{CHUNK, End, may_send, session};
+pub use reads::{CHUNK, End, drop_front, may_send, session};
 pub use std_streams::{FromRead, ToWrite};
 pub use step::{Step, Stop, answer_next};
 pub use streams::{Failed, Inlet, Outlet};

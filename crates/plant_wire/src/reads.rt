@@ -1,19 +1,18 @@
 //! The loop of a session: reads bytes, answers all requests that are complete, and keeps the rest for the next read,
 //! until the session ends.
 
-ghost use Rattle.std.specs.Prelude.{◌≡◌, ◌≤◌, length, drop, OnOk};
+ghost use Rattle.std.specs.Prelude.{◌≡◌, ◌≤◌, length, drop};
 ghost use Rattle.plant_books.specs.Books.{WasHonest};
 ghost use Rattle.plant_wire.specs.{Limits.{least_room}, Over.{IsSessionOn, RanWith, ReadsOn, StopsOn}, Session.{IsFewReads, IsIdle}};
 ghost use Rattle.plant_wire.specs.Session as session;
 
-use crate::put::bytes_from;
 use crate::step::{Rest, Stop, answer_all};
 use crate::streams::{Inlet, Outlet};
 use plant_office::{Books, Office};
 use plant_types::limits::MAX_READS;
 use plant_wire_head::FieldRoom;
 use plant_wire_route::Routes;
-use std::alloc::{AllocError, Global};
+use std::alloc::Global;
 
 /// How a session ended.
 #[derive(Clone, Copy, Debug, PartialEq, Eq)]
@@ -71,20 +70,18 @@ fn read_more<I: Inlet>(inlet: &mut I, chunk: &mut [u8], buffer: &mut Vec<u8>) ->
     }
 }
 
-fn drop_front(alloc: Global, buffer: &mut Vec<u8>, n: usize) -> Result<(), AllocError>
+/// Removes the first `n` bytes. A buffer that becomes empty releases its memory.
+pub fn drop_front(alloc: Global, buffer: &mut Vec<u8>, n: usize)
     requires { n ≤ length buffer.old.items }
-    ensures { OnOk result (buffer.new.items ≡ drop n buffer.old.items) }
+    ensures { buffer.new.items ≡ drop n buffer.old.items }
 {
-    if n == 0 {
-        return Ok(());
-    }
     if n == buffer.len() {
-        buffer.clear();
-        return Ok(());
+        *buffer = Vec::new(alloc);
+        return;
     }
-    let rest = Vec::from_slice(alloc, bytes_from(buffer, n))?;
-    *buffer = rest;
-    Ok(())
+    let rest = buffer.len() - n;
+    buffer.rotate_left(n);
+    buffer.truncate(rest);
 }
 
 fn run_reads<I: Inlet, O: Outlet, B: Books>(
@@ -121,10 +118,10 @@ fn run_reads<I: Inlet, O: Outlet, B: Books>(
             Err(Stop::WriteFailed) => return End::WriteFailed,
             Err(Stop::Fault) => return End::Fault,
             Ok(Rest::Broken) => return End::BrokenInput,
-            Ok(Rest::Waits(n, more)) => match drop_front(alloc, &mut buffer, n) {
-                Ok(()) => wanted = more,
-                Err(_) => return End::Fault,
-            },
+            Ok(Rest::Waits(n, more)) => {
+                drop_front(alloc, &mut buffer, n);
+                wanted = more;
+            }
         }
     }
     End::ReadFailed

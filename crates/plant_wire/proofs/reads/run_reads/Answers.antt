@@ -1,7 +1,7 @@
 use Rattle.std.proofs.Common.{[], ◌∙◌, ap, sym, drop, refl, arith, inl}
 use Rattle.plant_wire_call.proofs.public.Waiting.{waits_left, waits_more, waits_none}
 use Rattle.plant_wire.specs.{Over.{RanWith}, declared.step.Stop.TheVariants.{Fault}}
-use Rattle.plant_wire.proofs.Sessions.{stands_start, ends_cut, ends_failed, ends_fault, ends_part, ends_broken, ends_drop_fault, stands_next, some_left}
+use Rattle.plant_wire.proofs.Sessions.{stands_start, ends_cut, ends_failed, ends_fault, ends_part, ends_broken, stands_next, some_left}
 use Rattle.plant_wire.proofs.public.With.{with_joins, with_none}
 use Rattle.plant_wire.proofs.reads.run_reads.Goals as goal
 
@@ -67,13 +67,6 @@ returns-in-Ok-Broken-clause-does g c =
     ends_broken c.reads.invariant.stands (g.I.Inlet.remaining c.read_more.new.inlet) c.deref.result.now c.in-More.ensures.0 c.in-More.ensures.1
     (c.deref.ensures.value ∙ c.in-More.ensures.2) joins (g.I.Inlet.ended c.read_more.new.inlet) (g.O.Outlet.written c.answer_all.new.outlet) h
 
-pub returns-in-Err-clause-does : goal.returns-in-Err-clause-does
-returns-in-Err-clause-does g c =
-    let h = rw c.in-Ok-Waits.field-0-is at c.in-Ok-Waits.ensures.does in
-    let joins = with_joins g.B.Books c.args.office.now c.reads.office c.answer_all.new.office in
-    ends_drop_fault c.reads.invariant.stands (g.I.Inlet.remaining c.read_more.new.inlet) c.deref.result.now c.in-More.ensures.0 c.in-More.ensures.1
-    (c.deref.ensures.value ∙ c.in-More.ensures.2) joins (g.O.Outlet.written c.answer_all.new.outlet) _ h.2
-
 pub reads-preserved : goal.reads-preserved
 reads-preserved g c =
     let h = rw c.in-Ok-Waits.field-0-is at c.in-Ok-Waits.ensures.does in
@@ -83,12 +76,12 @@ reads-preserved g c =
           c.in-More.ensures.1
           (c.deref.ensures.value ∙ c.in-More.ensures.2) joins (g.O.Outlet.written c.answer_all.new.outlet)
           c.in-Ok-Waits.n c.drop_front.new.buffer.items
-          (c.in-Ok.ensures ∙ sym (ap (drop c.in-Ok-Waits.n) c.deref.ensures.value)) h.1 h.2;
+          (c.drop_front.ensures ∙ sym (ap (drop c.in-Ok-Waits.n) c.deref.ensures.value)) h.1 h.2;
       honest = λ t. c.reads.invariant.honest (c.in-Ok-Waits.ensures.honest t);
       stalls = c.in-Ok-Waits.ensures.stalls ∙ c.reads.invariant.stalls;
       ended = c.in-More.ensures.5 ∙ c.reads.invariant.ended;
       failed = c.in-More.ensures.3 ∙ c.reads.invariant.failed;
       count = omega (arith, c.in-More.ensures.4, c.reads.invariant.count);
       waits = waits_left (drop c.in-Ok-Waits.n c.deref.result.now) c.drop_front.new.buffer.items c.in-Ok-Waits.more
-          (c.in-Ok.ensures ∙ sym (ap (drop c.in-Ok-Waits.n) c.deref.ensures.value)) h.3;
+          (c.drop_front.ensures ∙ sym (ap (drop c.in-Ok-Waits.n) c.deref.ensures.value)) h.3;
     }
