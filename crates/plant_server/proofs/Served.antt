@@ -1,6 +1,6 @@
 -- What was served, from what the books held when it began.
-use Rattle.std.proofs.Common.{ℕ, ◌≡◌, ◌⊎◌, inl, inr, refl, ◌∷◌, IfSome, IsTrue, List, None, Option, Some, [], subst, sym}
-use Rattle.sqlite.specs.{Effect.{Database}, declared.file.Leftover.{Leftover}}
+use Rattle.std.proofs.Common.{ℕ, ◌≡◌, ◌⊎◌, inl, inr, refl, ◌∷◌, IsTrue, List, Option, []}
+use Rattle.sqlite.specs.Effect.{Database}
 use Rattle.sqlite_disk.specs.declared.Disk.{Ghosts}
 use Rattle.plant_server_options.specs.declared.words.Service.{Service}
 use Rattle.sqlite_store.specs.{FileStore.{view}, declared.store.FileStore.{FileStore}}
@@ -8,11 +8,11 @@ use Rattle.sqlite_trees.specs.View.{IsClean}
 use Rattle.plant_books.specs.Contents.{Content}
 use Rattle.plant_model.specs.{Worlds.{World}, declared.{call.Call.{Call}, reply.Answer.{Answer}}}
 use Rattle.plant_office.specs.{Enduring.{BooksState}, Failures.{AreAnsweredBeforeFailure}, Outcomes.{IsOutcome, confirmed}}
-use Rattle.plant_server.specs.{Crashes.{LeavesOutcomes}, Files.{HoldDatabase}, Parts.{BooksServed, IsAtHand, IsClosing, unopened}}
-use Rattle.plant_server.specs.OverFiles.{Begins, IsHonestAfter, IsRefusal, IsUnopened, Place, RanOnFiles, closing_text}
+use Rattle.plant_server.specs.{Crashes.{LeavesOutcomes}, Files.{HoldDatabase}, Parts.{BooksServed, IsAtHand, IsClosing}}
+use Rattle.plant_server.specs.OverFiles.{Begins, IsHonestAfter, Place, RanOnFiles, closing_text}
 use Rattle.plant_server.specs.{Promise.{FilesServed}, Services.{HasServed}, Statuses.{no_rows_text}, Streams.{Bytes, IsSaid, Streams, within}}
 use Rattle.plant_server.specs.declared.{remains.Left.{Left}, statuses.ExitStatus.{ExitStatus}}
-use Rattle.plant_store.specs.{Opening.{IsThisOffice}, declared.tables.StoreFault.{StoreFault}}
+use Rattle.plant_store.specs.Opening.{IsThisOffice}
 use Rattle.plant_types.specs.Names.{Name}
 use Rattle.plant_wire.specs.Ran.{Ran}
 use Rattle.plant_server.proofs.Streamed.{made, served}
@@ -38,12 +38,6 @@ module _ {D N : Type 0} {g : Ghosts D} where
       afterwards = λ w at. is.afterwards w (follows w at);
     }) _ _ (λ not. not) _ service n it.served;
   }
-
-  pub refusal : (place : Place D) (path : List ℕ) (admin : Name) (fault : StoreFault) (rest : Option (Leftover D g)) (after : Left D N g)
-      → after ≡ unopened rest → IfSome rest (IsUnopened place path fault) → IsRefusal place path admin fault after
-  refusal place path admin fault None after is untouched = subst (λ (it : Left D N g). IsRefusal place path admin fault it) (sym is) tt
-  refusal place path admin fault (Some rest) after is untouched =
-      subst (λ (it : Left D N g). IsRefusal place path admin fault it) (sym is) untouched
 
 none_or_some : (calls : List Call) → (calls ≡ []) ⊎ (calls ≡ [] → ⊥)
 none_or_some [] = inl refl

@@ -1,6 +1,5 @@
 -- What the parts of the command establish for one another.
-use Rattle.std.specs.Prelude.{◌≡◌, IsTrue, List, [], None, Option, Some}
-use Rattle.sqlite.specs.declared.file.Leftover.{Leftover}
+use Rattle.std.specs.Prelude.{◌≡◌, IsTrue, List, [], Option}
 use Rattle.sqlite_disk.specs.declared.Disk.{Ghosts}
 use Rattle.sqlite_store.specs.{FileStore.{view}, declared.store.FileStore.{FileStore}}
 use Rattle.sqlite_trees.specs.View.{IsClean}
@@ -9,7 +8,6 @@ use Rattle.plant_model.specs.{Worlds.{World, empty_world}, declared.{call.Call.{
 use Rattle.plant_office.specs.{Enduring.{AreAfter, BooksState, HoldsWorld}, Failures.{AreAnsweredBeforeFailure}}
 use Rattle.plant_server.specs.{Crashes.{LeavesOutcomes}, OverFiles.{AreAnsweredBy, AreServed, IsCleanAfter, IsHonestAfter, LeavesAfter, RanOnFiles, closing_text}, declared.remains.Left.{Left}}
 use Rattle.plant_server.specs.{Services.{HasServed}, Statuses.{no_rows_text}, Streams.{Bytes, IsSaid, Streams, within}, declared.statuses.ExitStatus.{ExitStatus}}
-use Rattle.plant_server.specs.declared.remains.Left.TheVariants as left
 use Rattle.plant_types.specs.Names.{Name}
 
 -- While the books are honest they hold the rows of this world; and for a world of this administrator a crash leaves
@@ -51,8 +49,3 @@ module _ {D N : Type 0} {g : Ghosts D} where
     pub said : IsSaid s.lines.reported first no_rows_text × IsSaid last s.lines.reported_after (closing_text after)
     pub served : HasServed (RanOnFiles (IsAtHand books admin) admin store after) (¬ IsHonestAfter after) service
         (within s first last) n
-
-  -- files that were not opened
-  abbrev pub unopened : Option (Leftover D g) → Left D N g
-  unopened None = left.Nothing
-  unopened (Some rest) = left.Unopened rest

@@ -118,6 +118,25 @@ fn serve_books<S: Alter + Drop, I: Inlet, O: Outlet + Write, E: Write>(
     }
 }
 
+/// The same over any two files: the prover is slow where the store is a concrete one, and so meets it once.
+fn serve_files<D: Disk + Drop, I: Inlet, O: Outlet + Write, E: Write>(
+    rt: &HostRuntime,
+    books: Tables<FileStore<D>>,
+    service: Option<Service>,
+    inlet: &mut I,
+    outlet: &mut O,
+    errors: &mut E,
+) -> (ExitStatus, Tables<FileStore<D>>)
+    ensures { let s = streams_of I.Inlet O.Outlet O.Write E.Write (inlet.old, outlet.old, errors.old)
+        (inlet.new, outlet.new, errors.new) in
+        (first : Bytes) × IsSaid s.lines.reported first statuses.no_rows_text
+        × HasServed (RanOn ⟦<Tables<FileStore<D>> as Books>⟧ books result.1)
+        (¬ ⟦<Tables<FileStore<D>> as Books>⟧.is_honest result.1) service
+        (within s first s.lines.reported_after) result.0 }
+{
+    serve_books(rt, books, service, inlet, outlet, errors)
+}
+
 /// Serves new books over any two files, and returns the status and the store as serving left it.
 fn serve_new<D: Disk + Drop, I: Inlet, O: Outlet + Write, E: Write>(
     rt: &HostRuntime,
@@ -132,7 +151,7 @@ fn serve_new<D: Disk + Drop, I: Inlet, O: Outlet + Write, E: Write>(
         (streams_of I.Inlet O.Outlet O.Write E.Write (inlet.old, outlet.old, errors.old) (inlet.new, outlet.new, errors.new))
         result.0 result.1 }
 {
-    let (status, served) = serve_books(rt, books, service, inlet, outlet, errors);
+    let (status, served) = serve_files(rt, books, service, inlet, outlet, errors);
     (status, leave(served))
 }
 
@@ -191,7 +210,7 @@ fn serve_kept<D: Disk + Drop, N: Disk + Drop, I: Inlet, O: Outlet + Write, E: Wr
         (streams_of I.Inlet O.Outlet O.Write E.Write (inlet.old, outlet.old, errors.old) (inlet.new, outlet.new, errors.new))
         result.0 result.1 }
 {
-    let (status, served) = serve_books(rt, books, service, inlet, outlet, errors);
+    let (status, served) = serve_files(rt, books, service, inlet, outlet, errors);
     let left = close_and_say(leave(served), errors);
     (status, left)
 }

@@ -8,11 +8,11 @@ ghost use Rattle.sqlite_std_file.specs.File.{IsFresh};
 ghost use Rattle.sqlite_store.specs.FileStore.{view};
 ghost use Rattle.sqlite_wal.specs.Files.{image_at};
 ghost use Rattle.sqlite_wal.specs.Reads.{AreClean};
-ghost use Rattle.sqlite.specs.Held.{state};
+ghost use Rattle.sqlite.specs.{Held.{state}, Tree.{Trees}};
 ghost use Rattle.plant_books.specs.{Books.{WasHonest}, Contents.{Content, no_units}};
 ghost use Rattle.plant_store_columns.specs.Tables.{schema_no};
 ghost use Rattle.plant_server.specs.{Crashes.{HoldWholeBooks, LeavesOnly}, Files.{HoldBooks, HoldDatabase}};
-ghost use Rattle.plant_server.specs.{OverFiles.{IsRefusal, IsUnopened, place_of}, Parts.{unopened}};
+ghost use Rattle.plant_server.specs.OverFiles.{IsRefusal, IsUnopened, place_of};
 ghost use Rattle.plant_store_statements.specs.{Changes.{IsHonest}, Keeping.{LeavesAlike, Represents}, OnlyReads.{OnlyReads}, Reading.{HasNoTransaction, IsHonestIn}};
 ghost use Rattle.plant_store.specs.{Opened.{IsAnothers, KeepsIfOk, WasOffice}, Opening.{IsThisOffice}};
 ghost use Rattle.plant_server.specs.Files as files;
@@ -78,8 +78,8 @@ pub fn connect<S: Start + Located>(
     }
 }
 
-/// Opens the books of a database. If it is refused as books, the database is handed back; it was only read. Generic
-/// over the store: the prover is slow on the concrete one.
+/// Opens the books of a database. If it is refused as books, the database is handed back; it was only read. While it is
+/// open, a crash leaves what it has committed. Generic over the store: the prover is slow on the concrete one.
 fn open_books<S: Alter + Drop>(
     alloc: Global,
     conn: Connection<S>,
@@ -94,20 +94,14 @@ fn open_books<S: Alter + Drop>(
     ensures office { IfOk result (λ t. WasOffice S.Store conn t.0.0 schema_no admin) }
     ensures other { IfErr result (λ e. IsAnothers S.Store conn e.1 schema_no admin e.0) }
     ensures read { IfErr result (λ e. OnlyReads (state S.Store conn) (state S.Store e.1)) }
+    ensures settled { (db : Trees) → IsTrue (state S.Store conn).is_open → (state S.Store conn).may_leave db
+        → db ≡ (state S.Store conn).committed.trees }
 {
+    // Gives the proof what a crash leaves of it; does nothing at run time.
+    note_settled(&conn);
     match Tables::open(alloc, conn, admin) {
         Ok(books) => Ok(books),
         Err(refused) => Err((refused.fault, refused.conn)),
-    }
-}
-
-/// What is left of files that were not opened as a database.
-fn unopened<D: Disk, N: Disk>(rest: Option<Leftover<D>>) -> Left<D, N>
-    ensures { result ≡ unopened rest }
-{
-    match rest {
-        None => Left::Nothing,
-        Some(rest) => Left::Unopened(rest),
     }
 }
 
@@ -132,10 +126,9 @@ fn open_file<S: Start + Located>(
 {
     let conn = match connect(rt, path, start) {
         Ok(conn) => conn,
-        Err((fault, rest)) => return Err((fault, unopened(rest))),
+        Err((fault, None)) => return Err((fault, Left::Nothing)),
+        Err((fault, Some(rest))) => return Err((fault, Left::Unopened(rest))),
     };
-    // Gives the proof what a crash leaves of it; does nothing at run time.
-    note_settled(&conn);
     match open_books(rt.alloc(), conn, admin) {
         Ok(books) => Ok(books),
         Err((fault, conn)) => Err((fault, Left::Refused(conn))),

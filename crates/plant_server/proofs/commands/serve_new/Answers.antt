@@ -10,7 +10,7 @@ use Rattle.plant_server.proofs.commands.serve_new.Goals as goal
 pub returns : goal.returns
 returns g c admin own new =
     let it = c.leave.ensures in
-    let was = c.serve_books-status.ensures in
+    let was = c.serve_files-status.ensures in
     let holds : Holds (no_units admin) (empty_world admin) = record {
       same_admin = refl;
       rows = λ u. get-empty name_cmp u ∙ sym (ap (option_map rows_of) (get-empty name_cmp u));
