@@ -118,7 +118,8 @@ fn serve_books<S: Alter + Drop, I: Inlet, O: Outlet + Write, E: Write>(
     }
 }
 
-/// The same over any two files: the prover is slow where the store is a concrete one, and so meets it once.
+/// Serves the books of two files as `serve_books` does. Generic over the disk: the prover is slow on the concrete one.
+/// New books and those of a file share this call of `serve_books`.
 fn serve_files<D: Disk + Drop, I: Inlet, O: Outlet + Write, E: Write>(
     rt: &HostRuntime,
     books: Tables<FileStore<D>>,

@@ -78,8 +78,8 @@ pub fn connect<S: Start + Located>(
     }
 }
 
-/// Opens the books of a database. If it is refused as books, the database is handed back; it was only read. While it is
-/// open, a crash leaves what it has committed. Generic over the store: the prover is slow on the concrete one.
+/// Opens the books of a database. A crash while they are open leaves what had been committed. A database that is
+/// refused as books was only read, and is handed back. Generic over the store: the prover is slow on the concrete one.
 fn open_books<S: Alter + Drop>(
     alloc: Global,
     conn: Connection<S>,
