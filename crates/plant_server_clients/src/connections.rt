@@ -17,9 +17,7 @@ use crate::desk::Desk;
 use crate::ports::{Ports, Sent, Taken};
 use plant_office::{Books, Faults, NO_FAULTS, Office};
 use plant_server_log::say_faults;
-use plant_wire::{End, Step, answer_next, drop_front};
-use plant_wire_head::FieldRoom;
-use plant_wire_route::Routes;
+use plant_wire::{End, Parser, Step, answer_next, drop_front};
 use std::alloc::Global;
 use std::io::Write;
 
@@ -208,8 +206,7 @@ fn wanted_next(unread: &[u8], more: usize) -> usize
 /// the call.
 pub(crate) fn serve_connection<B: Books>(
     alloc: Global,
-    routes: &Routes,
-    room: &mut FieldRoom,
+    parser: &mut Parser,
     connection: &mut Connection,
     office: &mut Office<B>,
 )
@@ -227,7 +224,7 @@ pub(crate) fn serve_connection<B: Books>(
         connection.end = Some(End::Fault);
         return;
     };
-    match answer_next(alloc, routes, room, &connection.unread, &mut draft, office) {
+    match answer_next(alloc, parser, &connection.unread, &mut draft, office) {
         Ok(Step::Waits(more)) => connection.wanted = wanted_next(&connection.unread, more),
         Ok(Step::Took(n)) => {
             drop_front(alloc, &mut connection.unread, n);
@@ -274,8 +271,7 @@ fn read_if<P: Ports>(
 fn serve_if<B: Books>(
     serves: bool,
     alloc: Global,
-    routes: &Routes,
-    room: &mut FieldRoom,
+    parser: &mut Parser,
     connection: &mut Connection,
     office: &mut Office<B>,
 )
@@ -285,7 +281,7 @@ fn serve_if<B: Books>(
     ensures faults { connection.new.faults ≡ connection.old.faults }
 {
     if serves {
-        serve_connection(alloc, routes, room, connection, office);
+        serve_connection(alloc, parser, connection, office);
     }
 }
 
@@ -323,14 +319,7 @@ pub(crate) fn turn_connection<P: Ports, B: Books>(
     if !read_if(asked.reads, ports, client, chunk, connection) {
         return Some(End::ReadFailed);
     }
-    serve_if(
-        asked.serves,
-        alloc,
-        &desk.routes,
-        &mut desk.room,
-        connection,
-        office,
-    );
+    serve_if(asked.serves, alloc, &mut desk.parser, connection, office);
     if !write_connection(alloc, ports, client, connection) {
         return Some(End::WriteFailed);
     }

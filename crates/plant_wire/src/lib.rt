@@ -17,5 +17,5 @@ pub use plant_wire_call::{
 pub use put::bytes_from;
 pub use reads::{CHUNK, End, drop_front, may_send, session};
 pub use std_streams::{FromRead, ToWrite};
-pub use step::{Step, Stop, answer_next};
+pub use step::{Parser, Step, Stop, answer_next};
 pub use streams::{Failed, Inlet, Outlet};

@@ -6,12 +6,10 @@ ghost use Rattle.plant_books.specs.Books.{WasHonest};
 ghost use Rattle.plant_wire.specs.{Limits.{least_room}, Over.{IsSessionOn, RanWith, ReadsOn, StopsOn}, Session.{IsFewReads, IsIdle}};
 ghost use Rattle.plant_wire.specs.Session as session;
 
-use crate::step::{Rest, Stop, answer_all};
+use crate::step::{Parser, Rest, Stop, answer_all};
 use crate::streams::{Inlet, Outlet};
 use plant_office::{Books, Office};
 use plant_types::limits::MAX_READS;
-use plant_wire_head::FieldRoom;
-use plant_wire_route::Routes;
 use std::alloc::Global;
 
 /// How a session ended.
@@ -86,8 +84,7 @@ pub fn drop_front(alloc: Global, buffer: &mut Vec<u8>, n: usize)
 
 fn run_reads<I: Inlet, O: Outlet, B: Books>(
     alloc: Global,
-    routes: &Routes,
-    room: &mut FieldRoom,
+    parser: &mut Parser,
     chunk: &mut [u8],
     inlet: &mut I,
     outlet: &mut O,
@@ -114,7 +111,7 @@ fn run_reads<I: Inlet, O: Outlet, B: Books>(
             }
             Read::More => {}
         }
-        match answer_all(alloc, routes, room, &buffer, wanted, outlet, office) {
+        match answer_all(alloc, parser, &buffer, wanted, outlet, office) {
             Err(Stop::WriteFailed) => return End::WriteFailed,
             Err(Stop::Fault) => return End::Fault,
             Ok(Rest::Broken) => return End::BrokenInput,
@@ -145,15 +142,12 @@ pub fn session<I: Inlet, O: Outlet, B: Books>(
     ensures stops { StopsOn I.Inlet O.Outlet inlet.old inlet.new outlet.old outlet.new result }
     ensures counted { IsFewReads (I.reads inlet.old) (I.reads inlet.new) }
 {
-    let Ok(routes) = Routes::new(alloc) else {
-        return End::Fault;
-    };
-    let Ok(mut room) = FieldRoom::new(alloc) else {
+    let Ok(mut parser) = Parser::new(alloc) else {
         return End::Fault;
     };
     let Ok(mut bytes) = vec![in alloc; 0u8; CHUNK] else {
         return End::Fault;
     };
     let chunk = bytes.as_mut_slice();
-    run_reads(alloc, &routes, &mut room, chunk, inlet, outlet, office)
+    run_reads(alloc, &mut parser, chunk, inlet, outlet, office)
 }

@@ -2,6 +2,7 @@
 //! before the next call is made.
 
 ghost use Rattle.std.specs.Prelude.{◌≡◌, IfErr, List, ℕ};
+ghost use Rattle.plant_types.specs.Results.{OnlyMemory};
 ghost use Rattle.plant_books.specs.Books.{WasHonest};
 ghost use Rattle.plant_wire_answer.specs.Answers.{answer_bytes};
 ghost use Rattle.plant_wire_call.specs.Cut.{IsCutOf, WaitsBelow};
@@ -22,6 +23,27 @@ use plant_wire_call::{Cause, Cut, Look, look_with};
 use plant_wire_head::FieldRoom;
 use plant_wire_route::Routes;
 use std::alloc::Global;
+
+/// What requests are parsed with, allocated once and used for one request after another.
+#[derive(Drop)]
+pub struct Parser {
+    /// The routes.
+    pub routes: Routes,
+    /// Space for the fields of a head.
+    pub room: FieldRoom,
+}
+
+impl Parser {
+    /// Allocates it.
+    pub fn new(alloc: Global) -> Result<Parser, Fault>
+        ensures { OnlyMemory result }
+    {
+        Ok(Parser {
+            routes: Routes::new(alloc)?,
+            room: FieldRoom::new(alloc)?,
+        })
+    }
+}
 
 /// What stood at the front: an incomplete request, which stays so with fewer bytes than this number (`Waits`); a
 /// request of this length in bytes, which was answered (`Took`); or bytes that are not a request (`Broken`).
@@ -152,8 +174,7 @@ fn answer_cut<O: Outlet, B: Books>(
 /// Answers the request at the front of the bytes, if it is whole.
 pub fn answer_next<O: Outlet, B: Books>(
     alloc: Global,
-    routes: &Routes,
-    room: &mut FieldRoom,
+    parser: &mut Parser,
     bytes: &[u8],
     outlet: &mut O,
     office: &mut Office<B>,
@@ -163,7 +184,7 @@ pub fn answer_next<O: Outlet, B: Books>(
     ensures honest { WasHonest B.is_honest office.old.books office.new.books }
     ensures stalls { Stalls (O.failures outlet.old) (O.failures outlet.new) result }
 {
-    let Look { cut, wanted } = look_with(alloc, routes, room, bytes);
+    let Look { cut, wanted } = look_with(alloc, &parser.routes, &mut parser.room, bytes);
     let step = answer_cut(alloc, &cut, wanted, outlet, office);
     drop(cut);
     step
@@ -173,8 +194,7 @@ pub fn answer_next<O: Outlet, B: Books>(
 /// parsed.
 pub(crate) fn answer_all<O: Outlet, B: Books>(
     alloc: Global,
-    routes: &Routes,
-    room: &mut FieldRoom,
+    parser: &mut Parser,
     bytes: &[u8],
     wanted: usize,
     outlet: &mut O,
@@ -191,7 +211,7 @@ pub(crate) fn answer_all<O: Outlet, B: Books>(
     }
     let mut at = 0;
     'items: loop {
-        match answer_next(alloc, routes, room, bytes_from(bytes, at), outlet, office) {
+        match answer_next(alloc, parser, bytes_from(bytes, at), outlet, office) {
             Err(stop) => return Err(stop),
             Ok(Step::Waits(more)) => return Ok(Rest::Waits(at, more)),
             Ok(Step::Broken) => return Ok(Rest::Broken),

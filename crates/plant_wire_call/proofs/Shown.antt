@@ -3,7 +3,7 @@ use Rattle.std.proofs.{Common.{◌≡◌, ℕ, ◌+◌, ◌<◌, ◌≤◌, List
 use Rattle.httparse.specs.{Grammar.{RequestHead, print_request}, Spans.{header_bytes, span_bytes, name_and_value, IsRequestAt}}
 use Rattle.httparse.specs.declared.spans.{HeaderSpan.{HeaderSpan}, RequestSpans.{RequestSpans}}
 use Rattle.plant_wire_call.specs.{Front.{item_from, waits, whole, broken, of_head, body_length, item_of, answer_to}, Lengths.{body_length_in}}
-use Rattle.plant_wire_call.specs.{Reading.{call_in}, declared.{causes.Cause.{Cause}, cut.Cut.TheVariants.{Call}}}
+use Rattle.plant_wire_call.specs.{Reading.{call_in}, declared.{causes.Cause.{Cause}}}
 use Rattle.plant_model.specs.declared.call.Call as model
 
 pub answers_broken : (head : RequestHead) (after : List ℕ) (cause : Cause) → body_length head ≡ Err cause → answer_to head after ≡ broken cause

@@ -8,7 +8,7 @@ ghost use Rattle.plant_wire_call.specs.Front.{Item, Front, waits, answer_to, Sta
 
 use crate::causes::{CallError, Cause};
 use crate::lengths::body_length;
-use crate::requests::call_in;
+use crate::requests::{Fields, call_in};
 use httparse::spans::{HeaderSpan, RequestSpans};
 use plant_model::Call;
 use plant_types::limits::MAX_HEAD;
@@ -78,8 +78,10 @@ fn look_at(
         routes,
         spans.method.of(front),
         spans.path.of(front),
-        front,
-        fields,
+        Fields {
+            front,
+            headers: fields,
+        },
         &after[..count],
     ) {
         Ok(call) => Look {

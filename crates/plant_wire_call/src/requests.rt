@@ -36,23 +36,32 @@ fn of_body<T>(read: Result<T, BodyError>) -> Result<T, CallError>
     }
 }
 
-fn person_in(alloc: Global, front: &[u8], headers: &[HeaderSpan]) -> Result<Person, CallError>
-    requires { All (IsHeaderWithin (length front.now)) headers.now }
+/// The fields of a head.
+#[derive(Clone, Copy)]
+pub(crate) struct Fields<'a> {
+    /// The bytes that hold the head.
+    pub front: &'a [u8],
+    /// Where each field stands in them.
+    pub headers: &'a [HeaderSpan],
+}
+
+fn person_in(alloc: Global, fields: Fields<'_>) -> Result<Person, CallError>
+    requires { All (IsHeaderWithin (length fields.front.now)) fields.headers.now }
     ensures { ReadsAs result (person_said
-        (values_named (codes "x-person") (map (header_bytes front.now) headers.now))) }
+        (values_named (codes "x-person") (map (header_bytes fields.entry.front.now) fields.entry.headers.now))) }
 {
-    let Lookup::Once(text) = field(front, headers, b"x-person") else {
+    let Lookup::Once(text) = field(fields.front, fields.headers, b"x-person") else {
         return Err(CallError::Because(Cause::BadPerson));
     };
     Person::read(alloc, text)?.ok_or(CallError::Because(Cause::BadPerson))
 }
 
-fn moment_in(front: &[u8], headers: &[HeaderSpan]) -> Result<Moment, CallError>
-    requires { All (IsHeaderWithin (length front.now)) headers.now }
+fn moment_in(fields: Fields<'_>) -> Result<Moment, CallError>
+    requires { All (IsHeaderWithin (length fields.front.now)) fields.headers.now }
     ensures { ReadsAs result (moment_said
-        (values_named (codes "x-moment") (map (header_bytes front.now) headers.now))) }
+        (values_named (codes "x-moment") (map (header_bytes fields.entry.front.now) fields.entry.headers.now))) }
 {
-    let Lookup::Once(text) = field(front, headers, b"x-moment") else {
+    let Lookup::Once(text) = field(fields.front, fields.headers, b"x-moment") else {
         return Err(CallError::Because(Cause::BadMoment));
     };
     Moment::read(text).ok_or(CallError::Because(Cause::BadMoment))
@@ -300,17 +309,16 @@ pub(crate) fn call_in(
     routes: &Routes,
     method: &[u8],
     target: &[u8],
-    front: &[u8],
-    headers: &[HeaderSpan],
+    fields: Fields<'_>,
     body: &[u8],
 ) -> Result<Call, CallError>
-    requires { All (IsHeaderWithin (length front.now)) headers.now }
+    requires { All (IsHeaderWithin (length fields.front.now)) fields.headers.now }
     ensures { ReadsAs result (call_in method.now target.now
-        (map (header_bytes front.now) headers.now) body.now) }
+        (map (header_bytes fields.entry.front.now) fields.entry.headers.now) body.now) }
 {
     let kind = route_in(routes, method, target)?;
-    let person = person_in(alloc, front, headers)?;
-    let moment = moment_in(front, headers)?;
+    let person = person_in(alloc, fields)?;
+    let moment = moment_in(fields)?;
     let request = request_in(alloc, kind, target, body)?;
     Ok(Call {
         person,

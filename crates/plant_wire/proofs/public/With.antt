@@ -1,5 +1,5 @@
 -- What the office did in one step after another, with the kinds of fault that it noted.
-use Rattle.std.proofs.Common.{◌≡◌, ◌∙◌, ap, refl, sym, ◌∷◌, []}
+use Rattle.std.proofs.Common.{◌≡◌, ◌∙◌, ap, sym, ◌∷◌, []}
 use Rattle.plant_model.specs.{Worlds.{World, IsLegalWorld}, declared.{call.Call.{Call}, reply.Answer.{Answer}}}
 use Rattle.plant_books.specs.Contents.{Content}
 use Rattle.plant_books.specs.declared.books.Books as books

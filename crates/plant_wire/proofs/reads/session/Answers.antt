@@ -9,13 +9,6 @@ returns-in_default-clause-does g c = (
   stopped_none [] (g.O.Outlet.written c.args.outlet.now) (with_none g.B.Books c.args.office.now),
 )
 
-pub returns-in_default-new-clause-does : goal.returns-in_default-new-clause-does
-returns-in_default-new-clause-does g c = (
-  [],
-  Consumes-nil (g.I.Inlet.remaining c.args.inlet.now),
-  stopped_none [] (g.O.Outlet.written c.args.outlet.now) (with_none g.B.Books c.args.office.now),
-)
-
 pub returns-in_default-vec-clause-does : goal.returns-in_default-vec-clause-does
 returns-in_default-vec-clause-does g c = (
   [],
