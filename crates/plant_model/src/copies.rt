@@ -1,5 +1,8 @@
 //! Copies of rows, keys and changes, and the rows of a unit that was never opened. A copy fails only when memory
 //! runs out.
+//!
+//! Copies of rows of which a unit has thousands are inlined into copies of whole lists: that halves the instructions,
+//! since a row that a function returns is moved several times.
 
 ghost use Rattle.std.specs.Prelude.{◌≡◌, IfOk, OnOk};
 ghost use Rattle.plant_model.specs.steps.RowChanges.{no_rows};
@@ -46,8 +49,7 @@ fn copy_three<A: TryCopy, B: TryCopy, C: TryCopy>(
 }
 
 /// Replaces the rows with copies of others, list by list. The prover treats each list owned at a copy that can fail;
-/// this
-/// function owns none of the nine.
+/// this function owns none of the nine.
 fn copy_over(alloc: Global, rows: &UnitRows, copies: &mut UnitRows) -> Result<(), Fault>
     ensures value { OnOk result (copies.new ≡ rows.now) }
     ensures memory { OnlyMemory result }
@@ -89,6 +91,7 @@ impl TryCopy for GrantRow {
 }
 
 impl TryCopy for AlarmRow {
+    #[inline(always)]
     fn copy(&self, alloc: Global) -> Result<AlarmRow, Fault> {
         Ok(AlarmRow {
             tag: self.tag.copy(alloc)?,
@@ -107,6 +110,7 @@ impl TryCopy for AlarmRow {
 }
 
 impl TryCopy for ShelfRow {
+    #[inline(always)]
     fn copy(&self, alloc: Global) -> Result<ShelfRow, Fault> {
         Ok(ShelfRow {
             tag: self.tag.copy(alloc)?,
@@ -132,6 +136,7 @@ impl TryCopy for CellRow {
 }
 
 impl TryCopy for RecordEntry {
+    #[inline(always)]
     fn copy(&self, alloc: Global) -> Result<RecordEntry, Fault> {
         Ok(RecordEntry {
             tag: self.tag.copy(alloc)?,
