@@ -61,8 +61,7 @@ fn is_header(row: &ByteRecord) -> bool
 }
 
 /// The events of the rows below the header, or their first fault, where reading stops. Room for `capacity` events is
-/// made
-/// at first.
+/// made at first.
 fn read_rows(alloc: Global, mut reader: Reader<&[u8]>, capacity: usize) -> Result<FileRead, Fault>
     ensures value { IfOk result (λ read. (text : List ℕ) → (header : List (List ℕ))
         → HasRead reader.entry text (header ∷ []) → AreRowsRead text header read) }

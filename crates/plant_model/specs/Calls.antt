@@ -1,6 +1,5 @@
 -- What a unit answers to each call: its refusals in their order, and its reply. Each table has one line for each kind
--- of
--- call.
+-- of call.
 use Rattle.std.specs.Prelude.{Bool, List, None, Option, Some, [], is_none, is_some, nat_le, nat_lt, not, ℕ, ◌&&◌, ◌++◌, ◌+◌, ◌∷◌}
 use Rattle.plant_alarm.specs.Shelves.{is_one_shot, is_timed, is_unshelved}
 use Rattle.plant_model.specs.{Events.{flood_lines, is_aligned, rows_of_file}, Facts.{Facts, is_out, limit_of, shelf_now}}

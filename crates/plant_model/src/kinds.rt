@@ -69,8 +69,7 @@ pub enum Scope<'a> {
     /// An alarm with its shelf.
     OneAlarm(&'a Tag),
     /// An alarm with its shelf, for a shelving. The flag is whether it looks at all other alarms and shelves too,
-    /// because
-    /// the quota may be used up.
+    /// because the quota may be used up.
     Shelving(&'a Tag, bool),
     /// An alarm with its record and the change that it came from.
     OneRecord(&'a Tag),
@@ -247,8 +246,7 @@ fn scope_of_kind(kind: &ChangeKind) -> Scope<'_>
 }
 
 /// What the request looks at in a unit. `crowded` is whether the unit's quota may be used up; `approved` is the row of
-/// the
-/// change that the request approves, if any.
+/// the change that the request approves, if any.
 pub fn scope_of<'a>(
     request: &'a Request,
     crowded: bool,

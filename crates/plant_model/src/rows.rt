@@ -167,8 +167,7 @@ pub struct UnitRows {
 
 /// The rows that one call looks at; how many alarms, changes or events the unit has, whichever the call needs; and
 /// whether the caller holds a role in the unit. A unit with more of these than `count` can hold has no part; a unit
-/// with
-/// a legal history never has so many.
+/// with a legal history never has so many.
 #[derive(Drop)]
 pub struct UnitPart {
     pub rows: UnitRows,
@@ -198,8 +197,7 @@ pub enum Key {
 }
 
 /// A change of the tables: a row that is inserted or replaces the row with its key, several events of which each does
-/// so,
-/// or the key of a row that is removed.
+/// so, or the key of a row that is removed.
 #[derive(Drop)]
 pub enum RowEdit {
     Put(Row),

@@ -174,10 +174,10 @@ fn after_interruptions<B: Interruptible>(
     mut books: B,
     theirs: &mut Plain,
     wanted: &Exchanges,
-    last: Mark,
-    next: Mark,
+    marks: (Mark, Mark),
     call: &Call,
 ) -> B {
+    let (last, next) = marks;
     for steps in 0..10_000u64 {
         let (answer, mut left) = limited(rt, books, steps, call);
         if let Some(answer) = answer {
@@ -199,7 +199,7 @@ fn passes_in_the_end<B: Interruptible>(rt: &(impl Abort + AllocGlobal), texts: &
     let all = calls(rt, &wanted);
     let mut last = BEGIN;
     for (mark, call) in wanted.marks.iter().zip(&all.calls) {
-        books = after_interruptions(rt, books, &mut theirs, &wanted, last, *mark, call);
+        books = after_interruptions(rt, books, &mut theirs, &wanted, (last, *mark), call);
         theirs = after_marks(rt, theirs, &wanted, last, *mark);
         check_rows(&mut theirs, &mut books, &wanted.units).expect(rt, "after the call");
         last = *mark;

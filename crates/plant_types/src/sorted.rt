@@ -268,8 +268,7 @@ impl<T: Keyed> Sorted<T> {
     }
 
     /// Moves rows to the end. They are known to be in order and to come after all others; nothing is checked at run
-    /// time.
-    /// If memory runs out, the rows are unchanged.
+    /// time. If memory runs out, the rows are unchanged.
     pub fn append(&mut self, more: List<T>) -> Result<(), Fault>
         requires { IsInOrder T.order T.key (self.old ++ more) }
         ensures ok { OnOk result (self.new ≡ self.old ++ more) }

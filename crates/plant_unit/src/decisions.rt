@@ -204,6 +204,13 @@ fn cell_by(matrix: &Matrix, severity: u8, response: Seconds) -> Cell
     matrix.priority(severity, response).unwrap_or(Cell::N)
 }
 
+/// The record that a change proposes: the tag of its alarm, and its sheet.
+#[derive(Clone, Copy)]
+struct ProposedRecord<'a> {
+    tag: &'a Tag,
+    sheet: &'a Sheet,
+}
+
 /// Appends the change of a record that comes into force, or returns the first refusal for its base
 /// and its sheet.
 fn push_record(
@@ -212,16 +219,17 @@ fn push_record(
     unit: &UnitRow,
     part: &UnitPart,
     change: &ChangeRow,
-    tag: &Tag,
-    sheet: &Sheet,
+    proposed: ProposedRecord<'_>,
 ) -> Result<Option<Refused>, Fault>
     requires { unit_read part.now.rows ≡ unit.now }
-    ensures refused { RefusesFrom part.now change.now.base (Rationale tag.now sheet.now) result }
+    ensures refused { RefusesFrom part.now change.now.base
+        (Rationale proposed.entry.tag.now proposed.entry.sheet.now) result }
     ensures added { AreKept part.now → IfOk result (λ r. r ≡ None
         → changes.new ≡ changes.old
-        ++ in_force (facts_in part.now) change.now.number (Rationale tag.now sheet.now)) }
+        ++ in_force (facts_in part.now) change.now.number (Rationale proposed.entry.tag.now proposed.entry.sheet.now)) }
     ensures err { OnlyMemory result }
 {
+    let ProposedRecord { tag, sheet } = proposed;
     let cell_no = match record_priority(alloc, unit, part, change.base, tag, sheet)? {
         Err(refused) => return Ok(Some(refused)),
         Ok(cell) => cell,
@@ -345,7 +353,8 @@ fn push_in_force(
 {
     match &change.kind {
         ChangeKind::Rationale(tag, sheet) => {
-            push_record(alloc, changes, unit, part, change, tag, sheet)
+            let proposed = ProposedRecord { tag, sheet };
+            push_record(alloc, changes, unit, part, change, proposed)
         }
         ChangeKind::Matrix(matrix) => {
             push_matrix_in_force(alloc, changes, unit, part, change, matrix)

@@ -16,8 +16,8 @@ use crate::imports::judge_import;
 use crate::refusals::holder_refusal;
 use crate::replies::{alarms, change, floods, record, shelves, standing, status};
 use crate::service::{place_in_service, register, remove_from_service};
-use crate::shelving::{end_shelf, shelve_for, shelve_once};
-use crate::verdicts::{answer, done};
+use crate::shelving::{Shelving, end_shelf, shelve_for, shelve_once};
+use crate::verdicts::{answer, verdict_of};
 use plant_model::{Call, Refused, Reply, Request, UnitPart, UnitRow, Verdict};
 use plant_types::{Fault, Person};
 use std::alloc::Global;
@@ -39,17 +39,17 @@ fn judge_change(
     let now = call.moment;
     match &call.request {
         Request::Grant { person, tenure, .. } => {
-            done(alloc, unit, now, grant(alloc, part, now, person, *tenure))
+            verdict_of(alloc, unit, now, grant(alloc, part, now, person, *tenure))
         }
         Request::Withdraw { person, role, .. } => {
-            done(alloc, unit, now, withdraw(alloc, part, person, *role))
+            verdict_of(alloc, unit, now, withdraw(alloc, part, person, *role))
         }
         Request::Register {
             tag,
             latching,
             max,
             ..
-        } => done(
+        } => verdict_of(
             alloc,
             unit,
             now,
@@ -61,24 +61,29 @@ fn judge_change(
             words,
             ..
         } => {
-            let decided = shelve_for(alloc, unit, part, call, tag, *seconds, words);
-            done(alloc, unit, now, decided)
+            let decision = shelve_for(alloc, unit, part, call, Shelving { tag, words }, *seconds);
+            verdict_of(alloc, unit, now, decision)
         }
         Request::OneShotShelve { tag, words, .. } => {
-            let decided = shelve_once(alloc, unit, part, call, tag, words);
-            done(alloc, unit, now, decided)
+            let decision = shelve_once(alloc, unit, part, call, Shelving { tag, words });
+            verdict_of(alloc, unit, now, decision)
         }
-        Request::Unshelve { tag, .. } => done(alloc, unit, now, end_shelf(alloc, part, now, tag)),
+        Request::Unshelve { tag, .. } => verdict_of(
+            alloc,
+            unit,
+            now,
+            end_shelf(alloc, part, now, tag),
+        ),
         Request::RemoveFromService { tag, words, .. } => {
-            let decided = remove_from_service(alloc, part, call, tag, words);
-            done(alloc, unit, now, decided)
+            let decision = remove_from_service(alloc, part, call, tag, words);
+            verdict_of(alloc, unit, now, decision)
         }
         Request::PlaceInService { tag, .. } => {
-            done(alloc, unit, now, place_in_service(alloc, part, tag))
+            verdict_of(alloc, unit, now, place_in_service(alloc, part, tag))
         }
         Request::Propose { proposal, .. } => propose(alloc, unit, part, call, proposal),
         Request::WithdrawChange { number, .. } => {
-            done(
+            verdict_of(
                 alloc,
                 unit,
                 now,
@@ -87,7 +92,7 @@ fn judge_change(
         }
         Request::Approve { number, .. } => approve(alloc, unit, part, call, *number),
         Request::Reject { number, .. } => {
-            done(alloc, unit, now, reject(alloc, part, call, *number))
+            verdict_of(alloc, unit, now, reject(alloc, part, call, *number))
         }
         // Judged elsewhere: openings, imports, and reads.
         Request::OpenUnit { .. }

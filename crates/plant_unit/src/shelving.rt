@@ -13,6 +13,13 @@ use plant_model::{Call, Key, Refused, Row, RowEdit, ShelfRow, UnitPart, UnitRow}
 use plant_types::{Fault, Moment, Person, Seconds, Tag, Words};
 use std::alloc::Global;
 
+/// What a call that shelves states: the tag of the alarm, and the words.
+#[derive(Clone, Copy)]
+pub struct Shelving<'a> {
+    pub tag: &'a Tag,
+    pub words: &'a Words,
+}
+
 fn refusal_of(refused: ShelfRefused) -> Refused
     ensures { result ≡ shelving.refusal_of refused }
 {
@@ -56,15 +63,15 @@ fn shelve(
     unit: &UnitRow,
     part: &UnitPart,
     call: &Call,
-    tag: &Tag,
-    words: &Words,
+    shelving: Shelving<'_>,
     shelf: Shelf,
 ) -> Result<Result<RowEdit, Refused>, Fault>
     requires { unit_read part.now.rows ≡ unit.now }
     ensures value { AreKept part.now
-        → GivesOne result (shelf_decision part.now call.now tag.now words.now shelf) }
+        → GivesOne result (shelf_decision part.now call.now shelving.entry.tag.now shelving.entry.words.now shelf) }
     ensures err { OnlyMemory result }
 {
+    let Shelving { tag, words } = shelving;
     if others_shelved(part, tag, call.moment) as u64 >= unit.quota.get() {
         return Ok(Err(Refused::ShelfQuota(unit.quota)));
     }
@@ -77,22 +84,21 @@ pub fn shelve_for(
     unit: &UnitRow,
     part: &UnitPart,
     call: &Call,
-    tag: &Tag,
+    shelving: Shelving<'_>,
     seconds: Seconds,
-    words: &Words,
 ) -> Result<Result<RowEdit, Refused>, Fault>
     requires { unit_read part.now.rows ≡ unit.now }
     ensures value { DecidesFrom part.now call.now
-        (λ u. TimedShelve u tag.now seconds words.now) result }
+        (λ u. TimedShelve u shelving.entry.tag.now seconds shelving.entry.words.now) result }
     ensures err { OnlyMemory result }
 {
-    let Some(alarm) = alarm_of(part, tag) else {
+    let Some(alarm) = alarm_of(part, shelving.tag) else {
         return Ok(Err(Refused::AlarmUnknown));
     };
-    let left = shelf_left(shelf_of(part, tag));
+    let left = shelf_left(shelf_of(part, shelving.tag));
     match timed(&left, alarm.return_s, call.moment, seconds, alarm.max_s) {
         Err(refused) => Ok(Err(refusal_of(refused))),
-        Ok(shelf) => shelve(alloc, unit, part, call, tag, words, shelf),
+        Ok(shelf) => shelve(alloc, unit, part, call, shelving, shelf),
     }
 }
 
@@ -102,20 +108,20 @@ pub fn shelve_once(
     unit: &UnitRow,
     part: &UnitPart,
     call: &Call,
-    tag: &Tag,
-    words: &Words,
+    shelving: Shelving<'_>,
 ) -> Result<Result<RowEdit, Refused>, Fault>
     requires { unit_read part.now.rows ≡ unit.now }
-    ensures value { DecidesFrom part.now call.now (λ u. OneShotShelve u tag.now words.now) result }
+    ensures value { DecidesFrom part.now call.now
+        (λ u. OneShotShelve u shelving.entry.tag.now shelving.entry.words.now) result }
     ensures err { OnlyMemory result }
 {
-    let Some(alarm) = alarm_of(part, tag) else {
+    let Some(alarm) = alarm_of(part, shelving.tag) else {
         return Ok(Err(Refused::AlarmUnknown));
     };
-    let left = shelf_left(shelf_of(part, tag));
+    let left = shelf_left(shelf_of(part, shelving.tag));
     match one_shot(&left, alarm.return_s, call.moment, alarm.max_s) {
         Err(refused) => Ok(Err(refusal_of(refused))),
-        Ok(shelf) => shelve(alloc, unit, part, call, tag, words, shelf),
+        Ok(shelf) => shelve(alloc, unit, part, call, shelving, shelf),
     }
 }
 

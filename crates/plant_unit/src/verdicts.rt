@@ -39,16 +39,16 @@ fn unit_change_and(
 }
 
 /// The verdict of a decision that makes one change, besides that of the unit's own row.
-pub fn done(
+pub fn verdict_of(
     alloc: Global,
     unit: &UnitRow,
     now: Moment,
-    decided: Result<Result<RowEdit, Refused>, Fault>,
+    decision: Result<Result<RowEdit, Refused>, Fault>,
 ) -> Result<Verdict, Fault>
-    ensures value { IfOk result (IsDone unit.now now decided) }
-    ensures err { IfErr decided (λ e. e ≡ Memory) → OnlyMemory result }
+    ensures value { IfOk result (IsDone unit.now now decision) }
+    ensures err { IfErr decision (λ e. e ≡ Memory) → OnlyMemory result }
 {
-    match decided? {
+    match decision? {
         Err(refused) => Ok(Verdict::Refused(refused)),
         Ok(change) => {
             let changes = unit_change_and(alloc, unit, now, change)?;

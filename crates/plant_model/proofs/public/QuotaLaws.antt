@@ -17,8 +17,7 @@ use Rattle.plant_types.specs.{KeyedRows.{in_order, put_row, row_at, remove_row},
 use Rattle.plant_types.{specs.Options.{or_else}, proofs.public.KeyedRowLaws.{IsInOrder-rows, IsInOrder-remove_row, row_at-remove_row}}
 use Rattle.plant_types.proofs.public.Orders.{name_total, same_names}
 
--- Alarms: at most 2,000
--- there are as many rows where the same keys have one
+-- Alarms: at most 2,000. Two lists have equally many rows if they have rows for the same keys.
 length-cons_option : {X : Type 0} (o p : Option X) (xs ys : List X) → is_some o ≡ is_some p → length xs ≡ length ys
     → length (cons_option o xs) ≡ length (cons_option p ys)
 length-cons_option None None xs ys e same = same

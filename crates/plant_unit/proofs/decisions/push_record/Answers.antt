@@ -10,6 +10,6 @@ pub returns-clause-added : goal.returns-clause-added
 returns-clause-added c kept none =
     let f = facts_in c.args.part.now in
     let made =
-    record_made f c.args.change.now.base c.args.tag.now c.args.sheet.now c.in-Ok.cell (sym c.in-Ok.is ∙ c.in_ok-refused.ensures.value kept) in
-    let fits = kept.record_fits c.args.tag.now in
+    record_made f c.args.change.now.base c.args.proposed.tag.now c.args.proposed.sheet.now c.in-Ok.cell (sym c.in-Ok.is ∙ c.in_ok-refused.ensures.value kept) in
+    let fits = kept.record_fits c.args.proposed.tag.now in
     grind (arith, common_steps)
