@@ -37,11 +37,11 @@ fn is_among(unit: &UnitCode, units: &[UnitCode]) -> bool
 
 /// The part that was made from cached rows. `None` if they are more than a part can count: the books below then report
 /// that fault.
-fn made(said: Result<UnitPart, Fault>) -> Result<Option<UnitPart>, Fault>
-    ensures same { IfOk result (λ made. IfSome made (λ part. said ≡ Ok part)) }
+fn part_if_countable(part: Result<UnitPart, Fault>) -> Result<Option<UnitPart>, Fault>
+    ensures same { IfOk result (λ ready. IfSome ready (λ rows. part ≡ Ok rows)) }
     ensures memory { OnlyMemory result }
 {
-    match said {
+    match part {
         Ok(part) => Ok(Some(part)),
         Err(Fault::Memory) => Err(Fault::Memory),
         Err(Fault::Store) => Ok(None),
@@ -218,7 +218,9 @@ impl<B: Books> CachedBooks<B> {
         ensures memory { OnlyMemory result }
     {
         match self.copies.copy_of(unit) {
-            Some(copy) if copy.serves(call) => made(part_of(self.alloc, &copy.rows, call)),
+            Some(copy) if copy.serves(call) => {
+                part_if_countable(part_of(self.alloc, &copy.rows, call))
+            }
             _ => Ok(None),
         }
     }
@@ -322,7 +324,7 @@ impl<B: Books> Books for CachedBooks<B> {
                 self.copies.clear();
                 self.books.part(call)
             }
-            said => said,
+            part => part,
         }
     }
 

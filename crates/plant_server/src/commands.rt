@@ -280,9 +280,9 @@ fn migrate_and_say<F: Start + Located, W: Write, E: Write>(
         result.0 result.1 }
 {
     let Migration { admin, old, new } = migration;
-    let (old, made) = migrate_file(rt, old.as_str(), new.as_str(), admin, start);
-    let status = report_migration(output, errors, &made);
-    (status, Left::Migrated(old, made))
+    let (old, files) = migrate_file(rt, old.as_str(), new.as_str(), admin, start);
+    let status = report_migration(output, errors, &files);
+    (status, Left::Migrated(old, files))
 }
 
 /// Does what the command line asks for, and returns the status and what is left of the files.

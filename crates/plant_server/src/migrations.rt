@@ -105,13 +105,15 @@ fn copy_to_file<D: Disk + Drop>(
 
 /// Closes the new file, if it was made: whatever a crash leaves of it from then on holds the books, also without the
 /// log.
-fn close_made(made: Result<Tables<FileStore<File>>, StoreFault>) -> Result<Files<File>, StoreFault>
-    ensures whole { (m : Content) → IfOk made (λ books. Represents (file_state books.0.0) m
+fn close_migrated(
+    tables: Result<Tables<FileStore<File>>, StoreFault>,
+) -> Result<Files<File>, StoreFault>
+    ensures whole { (m : Content) → IfOk tables (λ books. Represents (file_state books.0.0) m
         → IfOk result (λ files. AreClean ⟦<File as Disk>⟧ files.log files.db
         → HoldWholeBooks ⟦<File as Disk>⟧ files m)) }
-    ensures unmade { IfErr made (λ _. IsErr result) }
+    ensures unmade { IfErr tables (λ _. IsErr result) }
 {
-    match made {
+    match tables {
         Ok(books) => close_new(books),
         Err(fault) => Err(fault),
     }
@@ -120,15 +122,15 @@ fn close_made(made: Result<Tables<FileStore<File>>, StoreFault>) -> Result<Files
 /// The same. If the new file was not made, or closing fails, its remains are removed.
 fn finish(
     rt: &HostRuntime,
-    made: Result<Tables<FileStore<File>>, StoreFault>,
+    tables: Result<Tables<FileStore<File>>, StoreFault>,
     new: &NewNames,
 ) -> Result<Files<File>, StoreFault>
-    ensures whole { (m : Content) → IfOk made (λ books. Represents (file_state books.0.0) m
+    ensures whole { (m : Content) → IfOk tables (λ books. Represents (file_state books.0.0) m
         → IfOk result (λ files. AreClean ⟦<File as Disk>⟧ files.log files.db
         → HoldWholeBooks ⟦<File as Disk>⟧ files m)) }
-    ensures unmade { IfErr made (λ _. IsErr result) }
+    ensures unmade { IfErr tables (λ _. IsErr result) }
 {
-    let closed = close_made(made);
+    let closed = close_migrated(tables);
     if closed.is_err() {
         discard(rt, new);
     }
@@ -155,8 +157,8 @@ fn make_new<D: Disk + Drop>(
     if let Err(fault) = clear(rt, old_path, new) {
         return (old, Err(fault));
     }
-    let (old, made) = copy_to_file(rt, old, &new.file, admin);
-    (old, finish(rt, made, new))
+    let (old, tables) = copy_to_file(rt, old, &new.file, admin);
+    (old, finish(rt, tables, new))
 }
 
 /// The name of the log of the file at this path. If the path is a link, the log is beside the file that it points to.
@@ -262,13 +264,13 @@ fn names_for(rt: &HostRuntime, old_path: &str, new_path: &str) -> Result<NewName
 /// Renames the new file to its final name, if it was made.
 fn place(
     rt: &HostRuntime,
-    made: Result<Files<File>, StoreFault>,
+    files: Result<Files<File>, StoreFault>,
     new: &NewNames,
     path: &str,
 ) -> Result<Files<File>, StoreFault>
-    ensures { IfOk result (λ files. made ≡ Ok files) }
+    ensures { IfOk result (λ left. files ≡ Ok left) }
 {
-    let files = made?;
+    let files = files?;
     if let Err(fault) = put_in_place(rt, new, path) {
         discard(rt, new);
         return Err(fault);
@@ -300,7 +302,7 @@ pub fn migrate_file<S: Start + Located>(
         Err(fault) => return (None, Err(fault)),
     };
     match open_and_make(rt, old_path, &new, admin, start) {
-        Ok((old, made)) => (Some(old), place(rt, made, &new, new_path)),
+        Ok((old, files)) => (Some(old), place(rt, files, &new, new_path)),
         Err(fault) => (None, Err(fault)),
     }
 }

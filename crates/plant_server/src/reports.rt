@@ -146,13 +146,13 @@ pub(crate) fn report_unopened<E: Write>(errors: &mut E, fault: &StoreFault) -> E
 pub(crate) fn report_migration<T, W: Write, E: Write>(
     output: &mut W,
     errors: &mut E,
-    made: &Result<T, StoreFault>,
+    outcome: &Result<T, StoreFault>,
 ) -> ExitStatus
-    ensures status { result ≡ statuses.status_of_migration made.now }
-    ensures printed { IsSaid (W.contents output.old) (W.contents output.new) (statuses.migrated_text made.now) }
-    ensures said { IsSaid (E.contents errors.old) (E.contents errors.new) (statuses.unmigrated_text made.now) }
+    ensures status { result ≡ statuses.status_of_migration outcome.now }
+    ensures printed { IsSaid (W.contents output.old) (W.contents output.new) (statuses.migrated_text outcome.now) }
+    ensures said { IsSaid (E.contents errors.old) (E.contents errors.new) (statuses.unmigrated_text outcome.now) }
 {
-    match made {
+    match outcome {
         Ok(_) => {
             say(output, b"migrated\n");
             ExitStatus::Done

@@ -320,32 +320,27 @@ fn read_in_scope<S: Alter>(
     Ok(count)
 }
 
-/// The part for a caller who holds a role, with the unit's own row and the part's grants, which were read before. The
-/// scope must be that of the call.
+/// The part for a caller who holds a role: the rows have the unit's own row and the part's grants, and the others are
+/// read into them. The scope must be that of the call.
 fn part_in_scope<S: Alter>(
     alloc: Global,
     conn: &mut Connection<S>,
     unit: &UnitCode,
     call: &Call,
     scope: Scope<'_>,
-    units: List<UnitRow>,
-    grants: Sorted<GrantRow>,
+    rows: UnitRows,
 ) -> Result<UnitPart, Error>
     requires { HasNoTransaction conn.old }
     ensures mode { HasNoTransaction conn.new }
     ensures found { IsHonest (state S.Store conn.new) → (m : Content)
         → HasContent (state S.Store conn.old) m
         → selection_by (rows_in m unit.now) scope.entry ≡ selected (rows_in m unit.now) call.now.request
-        → units ≡ (rows_in m unit.now).units
-        → grants ≡ (part_of_holder call.now (rows_in m unit.now)).rows.grants
+        → rows.units ≡ (rows_in m unit.now).units
+        → rows.grants ≡ (part_of_holder call.now (rows_in m unit.now)).rows.grants
         → IfOk result (λ part. part ≡ part_of_holder call.now (rows_in m unit.now)) }
     ensures reads { IsOnlyRead S.Store conn.old conn.new }
 {
-    let mut rows = UnitRows {
-        units,
-        grants,
-        ..UnitRows::none(alloc)
-    };
+    let mut rows = rows;
     let count = read_in_scope(alloc, conn, unit, call, scope, &mut rows)?;
     Ok(UnitPart {
         rows,
@@ -378,7 +373,12 @@ fn holders_part<S: Alter>(
     let scope = scope_of(request, crowded, approved.as_slice().first());
     let all = wants_all_grants(scope);
     let grants = some_grants(alloc, conn, unit, own, all)?;
-    part_in_scope(alloc, conn, unit, call, scope, units, grants)
+    let rows = UnitRows {
+        units,
+        grants,
+        ..UnitRows::none(alloc)
+    };
+    part_in_scope(alloc, conn, unit, call, scope, rows)
 }
 
 /// The part of the unit's rows that the call looks at, if the unit was opened. For a caller who holds no role, only the

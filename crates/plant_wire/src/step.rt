@@ -110,14 +110,18 @@ fn put_answer<O: Outlet>(alloc: Global, outlet: &mut O, answer: &Answer) -> Resu
 }
 
 /// Writes an answer. If it is a fault, this takes no memory.
-fn put_said<O: Outlet>(alloc: Global, outlet: &mut O, answer: &Answer) -> Result<(), Stop>
+fn put_answer_or_fault<O: Outlet>(
+    alloc: Global,
+    outlet: &mut O,
+    answer: &Answer,
+) -> Result<(), Stop>
     ensures does { IsPut (O.written outlet.old) (O.written outlet.new) (answer_bytes answer.now) result }
     ensures stalls { Stalls (O.failures outlet.old) (O.failures outlet.new) result }
     ensures why { (call : Call) → IfErr result (StopsFor (begun (said call answer.now))) }
 {
     match answer {
         Answer::Fault(fault) => put_fault(outlet, fault),
-        said => put_answer(alloc, outlet, said),
+        other => put_answer(alloc, outlet, other),
     }
 }
 
@@ -133,7 +137,7 @@ fn answer_call<O: Outlet, B: Books>(
     ensures stalls { Stalls (O.failures outlet.old) (O.failures outlet.new) result }
 {
     let answer = office.serve(call);
-    let put = put_said(alloc, outlet, &answer);
+    let put = put_answer_or_fault(alloc, outlet, &answer);
     drop(answer);
     put
 }

@@ -9,6 +9,6 @@ returns-in-Some-clause-found g c = λ m h honest named.
     let copy = c.in-Some.copy.now in
     let serves : c.serves.result ≡ true = search rules in
     let it = found_there u (get m.units) c.args.self.now.copies.units.entries copy (h.copied honest) (sym c.in-Some.ensures) in
-    made_there c.part_of.result c.made.result (part_of c.args.call.now copy.rows) (option_map (part_of c.args.call.now) (get m.units u))
-    c.made.ensures.same c.part_of.ensures.value
+    made_there c.part_of.result c.part_if_countable.result (part_of c.args.call.now copy.rows) (option_map (part_of c.args.call.now) (get m.units u))
+    c.part_if_countable.ensures.same c.part_of.ensures.value
     (part_there c.args.call.now copy.has_events (get m.units u) copy.rows it (c.serves.ensures serves))

@@ -1,7 +1,7 @@
 use Rattle.std.proofs.Common.{sym, subst}
 use Rattle.plant_wire_answer.specs.Answers.{answer_bytes}
 use Rattle.plant_wire.{specs.{Marks.{said, begun}, Step.{IsPut}}, proofs.Serving.{said_unless, stops_faultless, stops_writing}}
-use Rattle.plant_wire.proofs.step.put_said.Goals as goal
+use Rattle.plant_wire.proofs.step.put_answer_or_fault.Goals as goal
 
 pub returns-in-Fault-clause-does : goal.returns-in-Fault-clause-does
 returns-in-Fault-clause-does g c =
