@@ -28,7 +28,7 @@ Its help, and its version:
         --port <N>         Serves connections to port N of 127.0.0.1
         --connections <N>  Ends after N connections [default: 1]
         --clients <N>      Serves N connections at once [default: 1; 256 with --forever]
-        --forever          Serves connections until the program is stopped or its store fails
+        --forever          Serves connections to --port until the program is stopped or its store fails
         --idle <SECONDS>   Gives up a silent connection [default: never; 30 with --forever]
     -h, --help             Print help
     -V, --version          Print version
@@ -81,10 +81,10 @@ Words that are refused. They are read whole before any file is opened: the folde
   error: invalid value '3601' for '--idle <SECONDS>': 3601 is not in 1..=3600
   [2]
   $ refused --port 8080 --forever --connections 2
-  error: the argument '--forever' cannot be used with '--connections <N>'
+  forever: no port, or connections
   [2]
   $ refused --forever
-  error: the following required arguments were not provided:
+  forever: no port, or connections
   [2]
 
 A session ends with its input. One request from somebody without a role is answered before:

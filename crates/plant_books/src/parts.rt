@@ -5,7 +5,6 @@ ghost use Rattle.plant_books.specs.{Asking.{alarms_wanted, IsApprovedBy, changes
 ghost use Rattle.plant_model.specs.steps.Parts.{counted_for, is_crowded as is_crowded_in, part_of as the_part, part_of_holder as holders_part, selected};
 ghost use Rattle.plant_model.specs.steps.{RowChanges.{no_rows}, RowFacts.{last_number as last_number_of}};
 ghost use Rattle.plant_model.specs.steps.Scopes.{is_shelving as is_shelving_by, selection_by};
-ghost use Rattle.plant_import.specs.Needed.{needed as needed_of};
 ghost use Rattle.plant_types.specs.{Names.{Name, same_name}, Results.{Gives, OnlyMemory}};
 
 use crate::asking::{
@@ -21,7 +20,7 @@ use plant_model::{
     AlarmRow, BandRow, Call, CellRow, ChangeEntry, Counted, GrantRow, Request, Scope, ShelfRow,
     UnitPart, UnitRow, UnitRows, holds_some_by, is_shelving, number_approved, scope_of,
 };
-use plant_types::{Fault, List, Person, Sorted, TryCopy, copy_all};
+use plant_types::{Fault, List, Person, Sorted, TryCopy};
 use std::alloc::Global;
 
 /// A copy of the rows of a unit except its history.
@@ -89,19 +88,6 @@ fn alarms_asked(
     }
 }
 
-/// Copies of the events that are needed to import these rows of a file.
-fn events_needed(
-    alloc: Global,
-    events: &Sorted<Event>,
-    rows: &[Event],
-) -> Result<Sorted<Event>, Fault>
-    ensures value { Gives result (needed_of events.now rows.now) }
-    ensures memory { OnlyMemory result }
-{
-    let some = needed(alloc, events, rows)?;
-    Ok(Sorted::of(copy_all(alloc, some)?))
-}
-
 /// The events that are wanted.
 pub fn events_asked(
     alloc: Global,
@@ -113,7 +99,7 @@ pub fn events_asked(
 {
     match wanted {
         WantedEvents::Nothing => Ok(Sorted::new(alloc)),
-        WantedEvents::Beside(rows) => events_needed(alloc, events, rows),
+        WantedEvents::Beside(rows) => needed(alloc, events, rows),
         WantedEvents::Every => events.copy(alloc),
     }
 }

@@ -8,3 +8,4 @@ pub mod public
 mod ByNumber
 mod Examples
 mod BelowAll
+mod BesideLaws

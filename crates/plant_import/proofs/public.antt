@@ -5,5 +5,8 @@ pub mod Counted
 pub mod Risings
 pub mod Nearest
 pub mod FileLaws
+pub mod AroundLaws
+pub mod FirstLaws
 pub mod NeededLaws
 pub mod LaterLaws
+pub mod OwnLaws

@@ -163,8 +163,30 @@ pub fn events_after(
     joined(alloc, kept, &rising)
 }
 
+/// Puts events one by one where their numbers belong.
+fn put_each(kept: &mut Sorted<Event>, more: List<Event>) -> Result<(), Fault>
+    ensures value { OnOk result (kept.new ≡ with_events kept.old more) }
+    ensures err { OnlyMemory result }
+{
+    for event in more.into_vec() {
+        kept.put(event)?;
+    }
+    Ok(())
+}
+
+/// For how many moved events one is copied in the same time.
+const MOVES: usize = 16;
+
+/// Whether it takes less time to move the kept events behind the least of these once for each of these than to copy all
+/// kept ones.
+fn is_cheaper_to_move(kept: &Sorted<Event>, events: &[Event]) -> bool {
+    let behind = kept.len() - count_before(kept, events);
+    events.len().saturating_mul(behind) <= kept.len().saturating_mul(MOVES)
+}
+
 /// Adds events, in any order, to the kept ones. If the new events are in order and come after all kept ones, the kept
-/// ones are not touched; otherwise each of them is copied once.
+/// ones are not touched. A few events are put one by one, which moves the kept ones behind them. Otherwise each of the
+/// kept ones is copied once.
 pub fn put_events(alloc: Global, kept: &mut Sorted<Event>, more: List<Event>) -> Result<(), Fault>
     ensures value { OnOk result (kept.new ≡ with_events kept.old more) }
     ensures err { OnlyMemory result }
@@ -172,6 +194,9 @@ pub fn put_events(alloc: Global, kept: &mut Sorted<Event>, more: List<Event>) ->
     let events = more.as_slice();
     if rise(events) && count_before(kept, events) == kept.as_slice().len() {
         return kept.append(more);
+    }
+    if is_cheaper_to_move(kept, events) {
+        return put_each(kept, more);
     }
     *kept = events_after(alloc, kept, events)?;
     Ok(())

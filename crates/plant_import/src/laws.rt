@@ -1,6 +1,6 @@
 //! Laws about the definitions alone, stated as contracts of functions with empty bodies.
 
-ghost use Rattle.plant_import.specs.{Files.{FilesAgree, TakenFilesFit}, Needed.{NeededSuffice, NewOnesFollow}};
+ghost use Rattle.plant_import.specs.{Files.{FilesAgree, TakenFilesFit}, Needed.{NeededHaveOwn, NeededSuffice, NewOnesFollow}};
 
 /// Files with the same rows, in whatever order and however often, leave the same events.
 pub fn files_agree()
@@ -18,6 +18,12 @@ pub fn taken_files_fit()
 #[tactic(auto, using(crate::proofs::public::NeededLaws::needed_merge))]
 pub fn needed_suffice()
     ensures { NeededSuffice }
+{}
+
+/// If a row comes late, the alarms that the file names have the same events after it.
+#[tactic(auto, using(crate::proofs::public::OwnLaws::own_needed))]
+pub fn needed_have_own()
+    ensures { NeededHaveOwn }
 {}
 
 /// If no row comes late, the states of alarms can be continued from where the kept events left them.

@@ -2,6 +2,7 @@
 #![tactic(auto)]
 
 mod bad_file;
+mod beside;
 mod event_numbers;
 mod fields;
 pub mod laws;
@@ -14,5 +15,5 @@ mod relation;
 pub use bad_file::{BadFile, Cause};
 pub use event_numbers::{count_new, events_after, in_rising_number, put_events};
 pub use merging::{Merged, merge};
-pub use needs::needed;
+pub use needs::{has_late, needed};
 pub use reading::{FileRead, read_file};

@@ -1,15 +1,17 @@
-//! Which kept events an import needs: all of them, if a row comes late for its alarm; otherwise only those from the
-//! last one that comes before all its rows.
+//! Which kept events an import needs. If a row comes late for its alarm, these are the events of the rows' alarms and
+//! those around the rows' numbers; otherwise those from the last one that comes before all rows.
 
-ghost use Rattle.std.specs.Prelude.{◌≡◌, ◌≤◌, ◌&&◌, IfOk, List, filter, length, nat_lt, option_map, true, unwrap_or};
+ghost use Rattle.std.specs.BTreeMap.{get};
+ghost use Rattle.std.specs.Prelude.{◌≡◌, ◌≤◌, ◌∷◌, ◌++◌, [], IfOk, List, OnOk, false, filter, length, nat_le, nat_lt, option_map, true, unwrap_or};
 ghost use Rattle.plant_alarm.specs.declared.event.Event.{Event as TheEvent};
-ghost use Rattle.plant_types.specs.Results.{OnlyMemory};
-ghost use Rattle.plant_import.specs.{Numbers.{AreNumbered, is_other}, Reached.{AreReached}};
+ghost use Rattle.plant_types.specs.{Names.{name_cmp}, Results.{OnlyMemory}};
+ghost use Rattle.plant_import.specs.{Numbers.{AreNumbered}, Reached.{AreFirst, is_passed}};
 ghost use Rattle.plant_import.specs.Needed as needs;
 
+use crate::beside::beside;
 use crate::event_numbers::has_number;
 use plant_alarm::{Event, Number};
-use plant_types::{Fault, Sorted, Tag};
+use plant_types::{Fault, Sorted, Tag, copy_all};
 use std::alloc::Global;
 use std::collections::BTreeMap;
 
@@ -49,46 +51,66 @@ fn from_last_before<'a>(kept: &'a Sorted<Event>, rows: &[Event]) -> &'a [Event]
     near
 }
 
-/// The last number of each alarm among these events.
-#[tactic(auto, using(crate::proofs::public::NeededLaws::reached_next))]
-fn last_numbers(
-    alloc: Global,
-    kept: &Sorted<Event>,
-    rows: &[Event],
-) -> Result<BTreeMap<Tag, Number>, Fault>
-    ensures value { IfOk result
-        (λ lasts. AreReached lasts (needs.from_last_before kept.now rows.now)) }
-    ensures err { OnlyMemory result }
+/// Whether the first new number of the event's alarm is the event's or a smaller one.
+fn is_reached(firsts: &BTreeMap<Tag, Number>, event: &Event) -> bool
+    ensures { result ≡ unwrap_or
+        (option_map (λ m. nat_le m event.now.seq) (get name_cmp firsts.now event.now.tag)) false }
 {
-    let mut lasts = BTreeMap::new(alloc);
-    let near = from_last_before(kept, rows);
-    for event in near {
-        lasts.insert(event.tag.copy(alloc)?, event.seq)?;
-    }
-    Ok(lasts)
-}
-
-/// Whether an alarm's last number is greater than the row's.
-fn is_overtaken(lasts: &BTreeMap<Tag, Number>, event: &Event) -> bool
-    ensures { (kept : List TheEvent) → AreReached lasts.now kept
-        → result ≡ needs.is_overtaken kept event.now }
-{
-    match lasts.get(&event.tag) {
-        Some(last) => event.seq < *last,
+    match firsts.get(&event.tag) {
+        Some(first) => *first <= event.seq,
         None => false,
     }
 }
 
-/// Whether the row's number is new and smaller than the last number of its alarm.
-fn is_late(lasts: &BTreeMap<Tag, Number>, kept: &Sorted<Event>, row: &Event) -> bool
-    ensures { (near : List TheEvent) → AreReached lasts.now near
-        → result ≡ (needs.is_overtaken near row.now && is_other kept.now row.now) }
+/// Takes one more row into the first new numbers.
+fn put_first(
+    alloc: Global,
+    firsts: &mut BTreeMap<Tag, Number>,
+    kept: &Sorted<Event>,
+    row: &Event,
+) -> Result<(), Fault>
+    ensures value { (rows : List TheEvent) → AreFirst firsts.old kept.now rows
+        → OnOk result (AreFirst firsts.new kept.now (rows ++ row.now ∷ [])) }
+    ensures err { OnlyMemory result }
 {
-    is_overtaken(lasts, row) && !has_number(kept, row.seq)
+    if has_number(kept, row.seq) {
+        return Ok(());
+    }
+    if is_reached(firsts, row) {
+        return Ok(());
+    }
+    firsts.insert(row.tag.copy(alloc)?, row.seq)?;
+    Ok(())
+}
+
+/// The first number of each alarm that a row has and no kept event.
+fn first_numbers(
+    alloc: Global,
+    kept: &Sorted<Event>,
+    rows: &[Event],
+) -> Result<BTreeMap<Tag, Number>, Fault>
+    ensures value { IfOk result (λ firsts. AreFirst firsts kept.now rows.now) }
+    ensures err { OnlyMemory result }
+{
+    let mut firsts = BTreeMap::new(alloc);
+    for row in rows {
+        put_first(alloc, &mut firsts, kept, row)?;
+    }
+    Ok(firsts)
+}
+
+/// Whether a new row of the event's alarm has a smaller number.
+fn is_overtaking(firsts: &BTreeMap<Tag, Number>, event: &Event) -> bool
+    ensures { (kept rows : List TheEvent) → AreFirst firsts.now kept rows
+        → result ≡ is_passed kept rows event.now.tag event.now.seq }
+{
+    match firsts.get(&event.tag) {
+        Some(first) => *first < event.seq,
+        None => false,
+    }
 }
 
 /// Whether some row has a new number while a kept event of its alarm has a greater one.
-#[tactic(auto, using(crate::proofs::public::NeededLaws::near_late, std::proofs::lemmas::List::take_all))]
 pub fn has_late(alloc: Global, kept: &Sorted<Event>, rows: &[Event]) -> Result<bool, Fault>
     ensures value { IfOk result (λ late. late ≡ needs.has_late kept.now rows.now) }
     ensures err { OnlyMemory result }
@@ -98,28 +120,24 @@ pub fn has_late(alloc: Global, kept: &Sorted<Event>, rows: &[Event]) -> Result<b
     if count_before(kept, rows) == kept.len() {
         return Ok(false);
     }
-    let lasts = last_numbers(alloc, kept, rows)?;
-    for row in rows {
-        if is_late(&lasts, kept, row) {
+    let firsts = first_numbers(alloc, kept, rows)?;
+    let near = from_last_before(kept, rows);
+    for event in near {
+        if is_overtaking(&firsts, event) {
             return Ok(true);
         }
     }
     Ok(false)
 }
 
-/// The kept events that are needed to import these rows: all, if a row comes late; otherwise those from the last one
-/// that comes before every row.
-pub fn needed<'a>(
-    alloc: Global,
-    kept: &'a Sorted<Event>,
-    rows: &[Event],
-) -> Result<&'a [Event], Fault>
-    ensures value { IfOk result (λ some. some.now ≡ needs.needed kept.now rows.now) }
-    ensures order { IfOk result (λ some. AreNumbered some.now) }
+/// Copies of the kept events that are needed to import these rows: if a row comes late, those of the rows' alarms and
+/// those around the rows' numbers; otherwise those from the last one that comes before every row.
+pub fn needed(alloc: Global, kept: &Sorted<Event>, rows: &[Event]) -> Result<Sorted<Event>, Fault>
+    ensures value { IfOk result (λ some. some ≡ needs.needed kept.now rows.now) }
     ensures err { OnlyMemory result }
 {
     if has_late(alloc, kept, rows)? {
-        return Ok(kept.as_slice());
+        return beside(alloc, kept, rows);
     }
-    Ok(from_last_before(kept, rows))
+    Ok(Sorted::of(copy_all(alloc, from_last_before(kept, rows))?))
 }

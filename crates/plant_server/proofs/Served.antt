@@ -17,12 +17,12 @@ use Rattle.plant_types.specs.Names.{Name}
 use Rattle.plant_wire.specs.Ran.{Ran}
 use Rattle.plant_server.proofs.Streamed.{made, served}
 
-module _ {D N : Type 0} {g : Ghosts D} where
+module _ {D N F : Type 0} {g : Ghosts D} where
   -- books that hold the rows of each world that begins in files
   pub files_served : (books : BooksState) (admin : Name) (place : Place D) (path : List ℕ)
       → ((w : World) → Begins place path w → IsAtHand books admin w)
       → (path ≡ place.path → (db : Database) → HoldDatabase place.files db → books.honest → IsThisOffice admin db)
-      → (service : Option Service) (s : Streams) (n : ExitStatus) (after : Left D N g) → BooksServed books admin service s n after
+      → (service : Option Service) (s : Streams) (n : ExitStatus) (after : Left D N F g) → BooksServed books admin service s n after
       → FilesServed place path admin service s n after
   files_served books admin place path follows own service s n after it = record {
     were = it.were;
@@ -44,8 +44,8 @@ none_or_some [] = inl refl
 none_or_some (c ∷ calls) = inr (λ none. cc none)
 
 -- serving leaves a store, of which this is left
-module _ {D N : Type 0} {g : Ghosts D} (before end : BooksState) (admin : Name) (count counted_to : ℕ) (store : FileStore D g)
-    (after : Left D N g) (closing : IsClosing store after)
+module _ {D N F : Type 0} {g : Ghosts D} (before end : BooksState) (admin : Name) (count counted_to : ℕ) (store : FileStore D g)
+    (after : Left D N F g) (closing : IsClosing store after)
     (tidy : IsClean (view store) → end.clean)
     (sure : IsClean (view store) → IsTrue (view store).is_open → end.honest)
     (leaves : (w : World) (calls : List Call) (answers : List Answer) → IsClean (view store) → end.sound

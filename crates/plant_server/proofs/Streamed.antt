@@ -72,9 +72,11 @@ module _ (ran also : List Call → List Answer → Type 0)
     );
     said = is.said;
     status = is.status;
+    stops = is.stops;
+    still = is.still;
   }
 
-  port : (many : Bool) (service : Service) (n : ExitStatus) → AreOfPort many ran lost service s.lines n → AreOfPort many also gone service s.lines n
+  port : (many : Bool) (service : Service) (n : ExitStatus) → AreOfPort many ran lost service s.nets s.lines n → AreOfPort many also gone service s.nets s.lines n
   unfolding sent
   port false service n is = record {
     exchanges = is.exchanges;
@@ -85,6 +87,9 @@ module _ (ran also : List Call → List Answer → Type 0)
     status = is.status;
     said = is.said;
     shut = λ e. ((is.shut e).0, loses (is.shut e).1);
+    listened = is.listened;
+    over = is.over;
+    failed = is.failed;
   }
   port true service n is = record {
     result = is.result;
@@ -92,6 +97,9 @@ module _ (ran also : List Call → List Answer → Type 0)
     status = is.status;
     said = is.said;
     shut = λ e. ((is.shut e).0, loses (is.shut e).1);
+    listened = is.listened;
+    shown = is.shown;
+    halts = is.halts;
   }
 
   pub served : (service : Option Service) (n : ExitStatus) → HasServed ran lost service s n → HasServed also gone service s n
@@ -111,7 +119,7 @@ module _ (ran : List Call → List Answer → Type 0) (lost : Type 0) (s : Strea
   made_at bytes r' o o' ended WriteFailed it = (_, _, it.served)
   made_at bytes r' o o' ended Fault (it, is) = (_, _, it.served)
 
-  made_over : (many : Bool) (service : Service) (n : ExitStatus) → AreOfPort many ran lost service s.lines n → Made
+  made_over : (many : Bool) (service : Service) (n : ExitStatus) → AreOfPort many ran lost service s.nets s.lines n → Made
   made_over false service n is = (_, _, is.made)
   made_over true service n is = (_, _, is.sent.made)
 

@@ -1,8 +1,10 @@
 pub mod Files
 pub mod Statuses
 pub mod Streams
+pub mod Nets
 pub mod Services
 pub mod Crashes
 pub mod OverFiles
 pub mod Promise
 pub mod Parts
+pub mod Promises

@@ -29,9 +29,9 @@ module _ {D : Type 0} {g : Ghosts D} where
     pub served : HasServed (RanAnew (empty_world admin) store) (IsClean (view store) → ¬ IsTrue (view store).is_open) service
         (within s first s.lines.reported_after) n
 
-module _ {D N : Type 0} {g : Ghosts D} where
+module _ {D N F : Type 0} {g : Ghosts D} where
   -- what closing leaves of a store after serving
-  pub record IsClosing (store : FileStore D g) (after : Left D N g) : Type 0 where
+  pub record IsClosing (store : FileStore D g) (after : Left D N F g) : Type 0 where
     pub were : AreServed after
     pub clean : IsCleanAfter after → IsClean (view store)
     pub honest : IsHonestAfter after → IsClean (view store) × IsTrue (view store).is_open
@@ -40,7 +40,7 @@ module _ {D N : Type 0} {g : Ghosts D} where
 
   -- The books of files were served, and the files closed.
   pub record BooksServed (books : BooksState) (admin : Name) (service : Option Service) (s : Streams) (n : ExitStatus)
-      (after : Left D N g) : Type 0 where
+      (after : Left D N F g) : Type 0 where
     pub were : AreServed after
     pub honest : IsHonestAfter after → books.honest
     pub store : FileStore D g

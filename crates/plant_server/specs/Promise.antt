@@ -11,7 +11,7 @@ use Rattle.plant_model.specs.{Worlds.{World, empty_world}, declared.{call.Call.{
 use Rattle.plant_office.specs.Failures.{AreAnsweredBeforeFailure}
 use Rattle.plant_store_memory.specs.{Memory.{memory}, declared.file.MemoryFile.{MemoryFile}}
 use Rattle.plant_server.specs.{Crashes.{HoldWholeBooks}, Files.{HoldDatabase, HoldOldBooks, HoldsStill}}
-use Rattle.plant_server.specs.OverFiles.{AreAnsweredBy, AreServed, Begins, IsHonestAfter, IsRefusal, Place, RanOnFiles, closing_text}
+use Rattle.plant_server.specs.OverFiles.{AreAnsweredBy, AreServed, Begins, IsHonestAfter, IsRefusal, IsUntouched, Place, RanOnFiles, closing_text}
 use Rattle.plant_server.specs.{Services.{HasServed}, Streams.{Bytes, IsSaid, Lines, Streams, within}}
 use Rattle.plant_server.specs.Statuses.{code, help_text, migrated_text, no_rows_text, refusal_text, status_of_command_line, status_of_migration, unmigrated_text, unopened_text}
 use Rattle.plant_server.specs.declared.{remains.Left.{Left}, statuses.ExitStatus.{ExitStatus}}
@@ -27,6 +27,7 @@ pub record IsUnserved (fault : StoreFault) (s : Streams) (n : ExitStatus) : Type
   pub unread : s.unread_after ≡ s.unread
   pub written : s.written_after ≡ s.written
   pub printed : s.lines.printed_after ≡ s.lines.printed
+  pub unlistened : s.nets.after ≡ s.nets.before
   pub said : IsSaid s.lines.reported s.lines.reported_after (unopened_text fault)
 
 -- The calls that were made on books in memory, from this world. If no failure has shut the store, all were answered
@@ -44,32 +45,6 @@ pub record IsServedInMemory (admin : Name) (service : Option Service) (s : Strea
       (within s first s.lines.reported_after) n
 
 module _ {D N : Type 0} {g : Ghosts D} where
-  -- it was served in memory, or books could not be made and nothing was served
-  abbrev pub IsDoneInMemory : Name → Option Service → Streams → ExitStatus → Left D N g → Type 0
-  IsDoneInMemory admin service s n left.Nothing = (fault : StoreFault) × IsUnserved fault s n × (fault ≢ NotThisStore)
-  IsDoneInMemory admin service s n (left.InMemory store) = IsServedInMemory admin service s n store
-  IsDoneInMemory admin service s n _ = ⊥
-
-  -- The files of the administrator's office were served. If a service ended because a failure had shut the store, the
-  -- store is indeed shut.
-  pub record FilesServed (place : Place D) (path : List ℕ) (admin : Name) (service : Option Service) (s : Streams)
-      (n : ExitStatus) (after : Left D N g) : Type 0 where
-    pub were : AreServed after
-    pub own : path ≡ place.path → (db : Database) → HoldDatabase place.files db → IsHonestAfter after
-        → IsThisOffice admin db
-    pub store : FileStore D g
-    pub first : Bytes
-    pub last : Bytes
-    pub said : IsSaid s.lines.reported first no_rows_text × IsSaid last s.lines.reported_after (closing_text after)
-    pub served : HasServed (RanOnFiles (Begins place path) admin store after) (¬ IsHonestAfter after) service
-        (within s first last) n
-
-  -- files were served, or no books were opened, for this fault
-  abbrev pub IsDoneOnFile : Place D → List ℕ → Name → Option Service → Streams → ExitStatus → Left D N g → Type 0
-  IsDoneOnFile place path admin service s n after =
-      ((fault : StoreFault) × IsUnserved fault s n × IsRefusal place path admin fault after)
-      ⊎ FilesServed place path admin service s n after
-
   -- An older file was migrated, or not. The new file holds what the older one held in schema 1, and the older one still
   -- holds what it held.
   pub record AreMigrated (h : Ghosts N) (place : Place D) (path : List ℕ) (admin : Name) (lines : Lines) (n : ExitStatus)
@@ -83,29 +58,58 @@ module _ {D N : Type 0} {g : Ghosts D} where
     pub still : path ≡ place.path → IfSome old (λ conn. (db : Database) → HoldDatabase place.files db
         → HoldsStill (file_state conn) db)
 
-  abbrev pub IsMigration : Ghosts N → Place D → List ℕ → Name → Lines → ExitStatus → Left D N g → Type 0
+module _ {D N F : Type 0} {g : Ghosts D} where
+  -- it was served in memory, or books could not be made and nothing was served
+  abbrev pub IsDoneInMemory : Name → Option Service → Streams → ExitStatus → Left D N F g → Type 0
+  IsDoneInMemory admin service s n (left.Nothing start) = (fault : StoreFault) × IsUnserved fault s n × (fault ≢ NotThisStore)
+  IsDoneInMemory admin service s n (left.InMemory start store) = IsServedInMemory admin service s n store
+  IsDoneInMemory admin service s n _ = ⊥
+
+  -- The files of the administrator's office were served. If a service ended because a failure had shut the store, the
+  -- store is indeed shut.
+  pub record FilesServed (place : Place D) (path : List ℕ) (admin : Name) (service : Option Service) (s : Streams)
+      (n : ExitStatus) (after : Left D N F g) : Type 0 where
+    pub were : AreServed after
+    pub own : path ≡ place.path → (db : Database) → HoldDatabase place.files db → IsHonestAfter after
+        → IsThisOffice admin db
+    pub store : FileStore D g
+    pub first : Bytes
+    pub last : Bytes
+    pub said : IsSaid s.lines.reported first no_rows_text × IsSaid last s.lines.reported_after (closing_text after)
+    pub served : HasServed (RanOnFiles (Begins place path) admin store after) (¬ IsHonestAfter after) service
+        (within s first last) n
+
+  -- files were served, or no books were opened, for this fault
+  abbrev pub IsDoneOnFile : Place D → List ℕ → Name → Option Service → Streams → ExitStatus → Left D N F g → Type 0
+  IsDoneOnFile place path admin service s n after =
+      ((fault : StoreFault) × IsUnserved fault s n × IsRefusal place path admin fault after)
+      ⊎ FilesServed place path admin service s n after
+
+  abbrev pub IsMigration : Ghosts N → Place D → List ℕ → Name → Lines → ExitStatus → Left D N F g → Type 0
   IsMigration h place path admin lines n (left.Migrated old made) = AreMigrated h place path admin lines n old made
   IsMigration h place path admin lines n _ = ⊥
 
   -- a task was done, or the reason why it was not was reported
-  abbrev pub IsDone : Ghosts N → Place D → Name → Task → Streams → ExitStatus → Left D N g → Type 0
+  abbrev pub IsDone : Ghosts N → Place D → Name → Task → Streams → ExitStatus → Left D N F g → Type 0
   IsDone h place admin (Serve None service) s n after = IsDoneInMemory admin service s n after
   IsDone h place admin (Serve (Some path) service) s n after =
       IsDoneOnFile place (string_bytes path) admin service s n after
   IsDone h place admin (Migrate old new) s n after =
-      (s.unread_after ≡ s.unread) × IsMigration h place (string_bytes old) admin s.lines n after
+      (s.unread_after ≡ s.unread) × (s.nets.after ≡ s.nets.before) × IsMigration h place (string_bytes old) admin s.lines n after
 
-  -- What the command line asks for was done, or it was refused, or it asked for help, which was printed.
-  abbrev pub IsObeyed : Ghosts N → Place D → Result CommandLine CommandLineError → Streams → ExitStatus → Left D N g → Type 0
+  -- What the command line asks for was done, or it was refused, or it asked for help, which was printed, and then no
+  -- file was opened.
+  abbrev pub IsObeyed : Ghosts N → Place D → Result CommandLine CommandLineError → Streams → ExitStatus → Left D N F g → Type 0
   IsObeyed h place (Ok line) s n after = IsDone h place line.admin line.task s n after
-  IsObeyed h place (Err error) s n after = (n ≡ status_of_command_line error) × (s.unread_after ≡ s.unread)
+  IsObeyed h place (Err error) s n after = IsUntouched after × (n ≡ status_of_command_line error) × (s.unread_after ≡ s.unread)
+      × (s.nets.after ≡ s.nets.before)
       × IsSaid s.lines.printed s.lines.printed_after (help_text error)
       × IsSaid s.lines.reported s.lines.reported_after (refusal_text error)
 
   -- The promise: the command line is read, what it asks for is done, and the exit status shows how it ended.
   -- `gives_port` and `gives` read the numbers of options.
   pub record IsKept {E : Type 0} (gives_port gives : List ℕ → Result ℕ E → Type 0) (h : Ghosts N) (place : Place D)
-      (words : List (List ℕ)) (s : Streams) (number : ℕ) (after : Left D N g) : Type 0 where
+      (words : List (List ℕ)) (s : Streams) (number : ℕ) (after : Left D N F g) : Type 0 where
     pub line : Result CommandLine CommandLineError
     pub read : IsReadAs gives_port gives words line
     pub status : ExitStatus

@@ -1,13 +1,15 @@
 -- The exit statuses of the program, and the lines that it prints about them.
-use Rattle.std.specs.Prelude.{if◌then◌else◌, true, false, codes, string_bytes, List, [], ◌++◌, ℕ, Err, Ok, Result}
+use Rattle.std.specs.Prelude.{if◌then◌else◌, true, false, codes, decimal, string_bytes, List, [], ◌++◌, ℕ, Err, Ok, Result}
 use Rattle.plant_wire.specs.declared.reads.End.{End}
 use Rattle.plant_wire.specs.declared.reads.End.TheVariants.{BrokenInput, Closed, Fault, ReadFailed, WriteFailed}
 use Rattle.plant_server_listener.specs.declared.while_open.Stopped.{Stopped}
 use Rattle.plant_server_listener.specs.declared.while_open.Stopped.TheVariants as stopped
 use Rattle.plant_server_options.specs.declared.words.CommandLineError.{CommandLineError}
-use Rattle.plant_server_options.specs.declared.words.CommandLineError.TheVariants.{Memory, NoDb, NotAPerson, Text}
+use Rattle.plant_server_options.specs.declared.words.CommandLineError.TheVariants.{Forever, Memory, NoDb, NotAPerson, Text}
 use Rattle.plant_server_clients.specs.Accounts.{Outcome}
 use Rattle.plant_server_clients.specs.declared.serving.Halted.TheVariants as halted
+use Rattle.plant_server.specs.declared.nets.Standing.{Standing}
+use Rattle.plant_server.specs.declared.nets.Standing.TheVariants as standing
 use Rattle.plant_server.specs.declared.statuses.ExitStatus.{ExitStatus}
 use Rattle.plant_store.specs.declared.tables.StoreFault.{StoreFault, TheVariants.{NotThisStore, Fault as StoreFailed}}
 use Rattle.plant_server.specs.declared.statuses.ExitStatus.TheVariants as statuses
@@ -36,6 +38,7 @@ abbrev pub status_of_command_line : CommandLineError → ExitStatus
 status_of_command_line (Text text is_error) = if is_error then statuses.WrongCommandLine else statuses.Done
 status_of_command_line NotAPerson = statuses.WrongCommandLine
 status_of_command_line NoDb = statuses.WrongCommandLine
+status_of_command_line Forever = statuses.WrongCommandLine
 status_of_command_line Memory = statuses.NoMemory
 
 -- for connections one after the other: all were served, or listening or accepting failed, or a failure shut the store
@@ -65,6 +68,7 @@ help_text (Text text false) = string_bytes text
 help_text (Text text true) = []
 help_text NotAPerson = []
 help_text NoDb = []
+help_text Forever = []
 help_text Memory = []
 
 -- on standard error: why the words are refused
@@ -73,6 +77,7 @@ refusal_text (Text text true) = string_bytes text
 refusal_text (Text text false) = []
 refusal_text NotAPerson = codes "admin: not a person name\n"
 refusal_text NoDb = codes "migrate: no db\n"
+refusal_text Forever = codes "forever: no port, or connections\n"
 refusal_text Memory = []
 
 -- why no books were opened, or an older file was not migrated
@@ -88,9 +93,14 @@ end_text ReadFailed = codes "end: ReadFailed\n"
 end_text WriteFailed = codes "end: WriteFailed\n"
 end_text Fault = codes "end: Fault\n"
 
--- on the output: the address on which a port listens
-abbrev pub listening_text : List ℕ → List ℕ
-listening_text address = codes "listening on " ++ address ++ codes "\n"
+-- on the output: the address on which a net listens, if it does
+abbrev pub listening_text : ℕ → List ℕ
+listening_text number = codes "listening on 127.0.0.1:" ++ decimal number ++ codes "\n"
+
+abbrev pub announced : Standing → List ℕ
+announced standing.Nowhere = []
+announced standing.Refused = []
+announced (standing.Listens service number) = listening_text number
 
 -- on standard error: that a port of many connections may want for file descriptors
 abbrev pub few_descriptors_text : List ℕ

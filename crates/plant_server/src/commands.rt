@@ -11,7 +11,7 @@ ghost use Rattle.plant_books.specs.Contents.{no_units};
 ghost use Rattle.plant_office.specs.Enduring.{books_state};
 ghost use Rattle.plant_server.specs.{Crashes.{IsWhole}, OverFiles.{closing_text, place_of}, Parts.{BooksServed, IsClosing, IsServedAnew}};
 ghost use Rattle.plant_server.specs.Promise.{IsDone, IsDoneInMemory, IsDoneOnFile, IsKept, IsMigration, IsObeyed};
-ghost use Rattle.plant_server.specs.Services.{HasServed};
+ghost use Rattle.plant_server.specs.{Nets.{nets_of}, Services.{HasServed}};
 ghost use Rattle.plant_server.specs.Streams.{Bytes, IsSaid, lines_of, streams_of, within};
 ghost use Rattle.plant_store_statements.specs.Keeping.{Represents};
 ghost use Rattle.plant_types.specs.Names.{Name};
@@ -22,6 +22,7 @@ ghost use Rattle.plant_server.specs.Statuses as statuses;
 use crate::books::in_memory;
 use crate::files::in_file;
 use crate::migrations::migrate_file;
+use crate::nets::Net;
 use crate::places::Located;
 use crate::remains::{Left, close_left, leave};
 use crate::reports::{report_command_line_error, report_migration, report_unopened};
@@ -43,8 +44,9 @@ use std::str::FromStr;
 
 /// Serves the port, or the streams if no service is given, over these books, and returns the status and the books after
 /// it.
-fn serve_over<B: Books + Drop, I: Inlet, O: Outlet + Write, E: Write>(
+fn serve_over<B: Books + Drop, P: Net, I: Inlet, O: Outlet + Write, E: Write>(
     rt: &HostRuntime,
+    net: &mut P,
     books: B,
     service: Option<Service>,
     inlet: &mut I,
@@ -52,11 +54,12 @@ fn serve_over<B: Books + Drop, I: Inlet, O: Outlet + Write, E: Write>(
     errors: &mut E,
 ) -> (ExitStatus, B)
     ensures { HasServed (RanOn B.Books books result.1) (¬ B.is_honest result.1) service
-        (streams_of I.Inlet O.Outlet O.Write E.Write (inlet.old, outlet.old, errors.old) (inlet.new, outlet.new, errors.new))
+        (streams_of (nets_of (P.state net.old) (P.state net.new)) I.Inlet O.Outlet O.Write E.Write
+        (inlet.old, outlet.old, errors.old) (inlet.new, outlet.new, errors.new))
         result.0 }
 {
     let mut office = Office::new(rt.alloc(), books);
-    let status = serve_office(rt, &mut office, service, inlet, outlet, errors);
+    let status = serve_office(rt, net, &mut office, service, inlet, outlet, errors);
     let left = office.into_books();
     (status, left)
 }
@@ -69,8 +72,9 @@ struct Uncached<S: Alter> {
 }
 
 /// The same over tables, with cached rows.
-fn serve_cached<S: Alter + Drop, I: Inlet, O: Outlet + Write, E: Write>(
+fn serve_cached<S: Alter + Drop, P: Net, I: Inlet, O: Outlet + Write, E: Write>(
     rt: &HostRuntime,
+    net: &mut P,
     tables: Uncached<S>,
     service: Option<Service>,
     inlet: &mut I,
@@ -80,28 +84,30 @@ fn serve_cached<S: Alter + Drop, I: Inlet, O: Outlet + Write, E: Write>(
     requires { tables.cache.units.entries ≡ [] }
     ensures { HasServed (RanOn ⟦<Tables<S> as Books>⟧ tables.books result.1)
         (¬ ⟦<Tables<S> as Books>⟧.is_honest result.1) service
-        (streams_of I.Inlet O.Outlet O.Write E.Write (inlet.old, outlet.old, errors.old) (inlet.new, outlet.new, errors.new))
+        (streams_of (nets_of (P.state net.old) (P.state net.new)) I.Inlet O.Outlet O.Write E.Write
+        (inlet.old, outlet.old, errors.old) (inlet.new, outlet.new, errors.new))
         result.0 }
 {
     let Uncached { books, cache } = tables;
     let cached_books = CachedBooks::new(rt.alloc(), cache, books);
-    let (status, left) = serve_over(rt, cached_books, service, inlet, outlet, errors);
+    let (status, left) = serve_over(rt, net, cached_books, service, inlet, outlet, errors);
     let below = left.into_books();
     (status, below)
 }
 
 /// Serves the port, or the streams if no service is given, over these tables, with cached rows if there is memory for
 /// the cache; if there is not, standard error gets a line first. Returns the status and the tables after it.
-fn serve_books<S: Alter + Drop, I: Inlet, O: Outlet + Write, E: Write>(
+fn serve_books<S: Alter + Drop, P: Net, I: Inlet, O: Outlet + Write, E: Write>(
     rt: &HostRuntime,
+    net: &mut P,
     books: Tables<S>,
     service: Option<Service>,
     inlet: &mut I,
     outlet: &mut O,
     errors: &mut E,
 ) -> (ExitStatus, Tables<S>)
-    ensures { let s = streams_of I.Inlet O.Outlet O.Write E.Write (inlet.old, outlet.old, errors.old)
-        (inlet.new, outlet.new, errors.new) in
+    ensures { let s = streams_of (nets_of (P.state net.old) (P.state net.new)) I.Inlet O.Outlet O.Write E.Write
+        (inlet.old, outlet.old, errors.old) (inlet.new, outlet.new, errors.new) in
         (first : Bytes) × IsSaid s.lines.reported first statuses.no_rows_text
         × HasServed (RanOn ⟦<Tables<S> as Books>⟧ books result.1) (¬ ⟦<Tables<S> as Books>⟧.is_honest result.1) service
         (within s first s.lines.reported_after) result.0 }
@@ -109,38 +115,40 @@ fn serve_books<S: Alter + Drop, I: Inlet, O: Outlet + Write, E: Write>(
     match Cache::new(rt.alloc(), MAX_CACHED_ROWS) {
         Ok(cache) => {
             let tables = Uncached { books, cache };
-            serve_cached(rt, tables, service, inlet, outlet, errors)
+            serve_cached(rt, net, tables, service, inlet, outlet, errors)
         }
         Err(_) => {
             say(errors, b"memory: no rows at hand\n");
-            serve_over(rt, books, service, inlet, outlet, errors)
+            serve_over(rt, net, books, service, inlet, outlet, errors)
         }
     }
 }
 
 /// Serves the books of two files as `serve_books` does. Generic over the disk: the prover is slow on the concrete one.
 /// New books and those of a file share this call of `serve_books`.
-fn serve_files<D: Disk + Drop, I: Inlet, O: Outlet + Write, E: Write>(
+fn serve_files<D: Disk + Drop, P: Net, I: Inlet, O: Outlet + Write, E: Write>(
     rt: &HostRuntime,
+    net: &mut P,
     books: Tables<FileStore<D>>,
     service: Option<Service>,
     inlet: &mut I,
     outlet: &mut O,
     errors: &mut E,
 ) -> (ExitStatus, Tables<FileStore<D>>)
-    ensures { let s = streams_of I.Inlet O.Outlet O.Write E.Write (inlet.old, outlet.old, errors.old)
-        (inlet.new, outlet.new, errors.new) in
+    ensures { let s = streams_of (nets_of (P.state net.old) (P.state net.new)) I.Inlet O.Outlet O.Write E.Write
+        (inlet.old, outlet.old, errors.old) (inlet.new, outlet.new, errors.new) in
         (first : Bytes) × IsSaid s.lines.reported first statuses.no_rows_text
         × HasServed (RanOn ⟦<Tables<FileStore<D>> as Books>⟧ books result.1)
         (¬ ⟦<Tables<FileStore<D>> as Books>⟧.is_honest result.1) service
         (within s first s.lines.reported_after) result.0 }
 {
-    serve_books(rt, books, service, inlet, outlet, errors)
+    serve_books(rt, net, books, service, inlet, outlet, errors)
 }
 
 /// Serves new books over any two files, and returns the status and the store as serving left it.
-fn serve_new<D: Disk + Drop, I: Inlet, O: Outlet + Write, E: Write>(
+fn serve_new<D: Disk + Drop, P: Net, I: Inlet, O: Outlet + Write, E: Write>(
     rt: &HostRuntime,
+    net: &mut P,
     books: Tables<FileStore<D>>,
     service: Option<Service>,
     inlet: &mut I,
@@ -149,41 +157,45 @@ fn serve_new<D: Disk + Drop, I: Inlet, O: Outlet + Write, E: Write>(
 ) -> (ExitStatus, FileStore<D>)
     ensures { (admin : Name) → books.0.1 ≡ admin → Represents (file_state books.0.0) (no_units admin)
         → IsServedAnew admin service
-        (streams_of I.Inlet O.Outlet O.Write E.Write (inlet.old, outlet.old, errors.old) (inlet.new, outlet.new, errors.new))
+        (streams_of (nets_of (P.state net.old) (P.state net.new)) I.Inlet O.Outlet O.Write E.Write
+        (inlet.old, outlet.old, errors.old) (inlet.new, outlet.new, errors.new))
         result.0 result.1 }
 {
-    let (status, served) = serve_files(rt, books, service, inlet, outlet, errors);
+    let (status, served) = serve_files(rt, net, books, service, inlet, outlet, errors);
     (status, leave(served))
 }
 
 /// Serves new books in memory, and returns the status and the store as serving left it, if books could be made.
-fn serve_memory<D: Disk, N: Disk, I: Inlet, O: Outlet + Write, E: Write>(
+fn serve_memory<D: Disk, N: Disk, F, P: Net, I: Inlet, O: Outlet + Write, E: Write>(
     rt: &HostRuntime,
+    net: &mut P,
     admin: Person,
     service: Option<Service>,
     inlet: &mut I,
     outlet: &mut O,
     errors: &mut E,
-) -> (ExitStatus, Left<D, N>)
+    start: F,
+) -> (ExitStatus, Left<D, N, F>)
     ensures { IsDoneInMemory admin service
-        (streams_of I.Inlet O.Outlet O.Write E.Write (inlet.old, outlet.old, errors.old) (inlet.new, outlet.new, errors.new))
+        (streams_of (nets_of (P.state net.old) (P.state net.new)) I.Inlet O.Outlet O.Write E.Write
+        (inlet.old, outlet.old, errors.old) (inlet.new, outlet.new, errors.new))
         result.0 result.1 }
 {
     match in_memory(rt.alloc(), admin) {
         Ok(books) => {
-            let (status, store) = serve_new(rt, books, service, inlet, outlet, errors);
-            (status, Left::InMemory(store))
+            let (status, store) = serve_new(rt, net, books, service, inlet, outlet, errors);
+            (status, Left::InMemory(start, store))
         }
-        Err(fault) => (report_unopened(errors, &fault), Left::Nothing),
+        Err(fault) => (report_unopened(errors, &fault), Left::Nothing(start)),
     }
 }
 
 /// Closes the files after serving, and reports on standard error if the log could not be copied and stays beside the
 /// file. After a copy, the file alone holds what a crash could leave before.
-fn close_and_say<D: Disk + Drop, N: Disk + Drop, E: Write>(
+fn close_and_say<D: Disk + Drop, N: Disk + Drop, F, E: Write>(
     store: FileStore<D>,
     errors: &mut E,
-) -> Left<D, N>
+) -> Left<D, N, F>
     requires { IsClean (view store) → IsWhole store }
     ensures closed { IsClosing store result }
     ensures said { IsSaid (E.contents errors.old) (E.contents errors.new) (closing_text result) }
@@ -199,19 +211,21 @@ fn close_and_say<D: Disk + Drop, N: Disk + Drop, E: Write>(
 
 /// Serves the books of files, closes these, and returns the status and what is left of the files. If the service ended
 /// because a failure had shut the store, the store is indeed shut.
-fn serve_kept<D: Disk + Drop, N: Disk + Drop, I: Inlet, O: Outlet + Write, E: Write>(
+fn serve_kept<D: Disk + Drop, N: Disk + Drop, F, P: Net, I: Inlet, O: Outlet + Write, E: Write>(
     rt: &HostRuntime,
+    net: &mut P,
     books: Tables<FileStore<D>>,
     service: Option<Service>,
     inlet: &mut I,
     outlet: &mut O,
     errors: &mut E,
-) -> (ExitStatus, Left<D, N>)
+) -> (ExitStatus, Left<D, N, F>)
     ensures { (admin : Name) → BooksServed (books_state ⟦<Tables<FileStore<D>> as Books>⟧ books) admin service
-        (streams_of I.Inlet O.Outlet O.Write E.Write (inlet.old, outlet.old, errors.old) (inlet.new, outlet.new, errors.new))
+        (streams_of (nets_of (P.state net.old) (P.state net.new)) I.Inlet O.Outlet O.Write E.Write
+        (inlet.old, outlet.old, errors.old) (inlet.new, outlet.new, errors.new))
         result.0 result.1 }
 {
-    let (status, served) = serve_files(rt, books, service, inlet, outlet, errors);
+    let (status, served) = serve_files(rt, net, books, service, inlet, outlet, errors);
     let left = close_and_say(leave(served), errors);
     (status, left)
 }
@@ -232,18 +246,20 @@ pub struct FileOffice<'a> {
 /// confirmed calls, or after these and one that was answered by a fault. The same is true at each moment of the
 /// serving, read as the end of the serving over a disk that fails from then on. If no books are opened, no port is
 /// listened on, and the file is as it was.
-pub fn serve_file<F: Start + Located, I: Inlet, O: Outlet + Write, E: Write>(
+pub fn serve_file<F: Start + Located, P: Net, I: Inlet, O: Outlet + Write, E: Write>(
     rt: &HostRuntime,
+    net: &mut P,
     office: FileOffice<'_>,
     inlet: &mut I,
     outlet: &mut O,
     errors: &mut E,
     start: F,
-) -> (ExitStatus, Left<FileFrom<F>, File>)
+) -> (ExitStatus, Left<FileFrom<F>, File, F>)
     ensures { IsDoneOnFile
         (place_of F.Located.path (image_at F.Start) (λ files. IsFresh true files.log × IsFresh false files.db))
         office.entry.path.now office.entry.admin office.entry.service
-        (streams_of I.Inlet O.Outlet O.Write E.Write (inlet.old, outlet.old, errors.old) (inlet.new, outlet.new, errors.new))
+        (streams_of (nets_of (P.state net.old) (P.state net.new)) I.Inlet O.Outlet O.Write E.Write
+        (inlet.old, outlet.old, errors.old) (inlet.new, outlet.new, errors.new))
         result.0 result.1 }
 {
     let FileOffice {
@@ -252,7 +268,7 @@ pub fn serve_file<F: Start + Located, I: Inlet, O: Outlet + Write, E: Write>(
         service,
     } = office;
     match in_file(rt, path, admin, start) {
-        Ok(books) => serve_kept(rt, books, service, inlet, outlet, errors),
+        Ok(books) => serve_kept(rt, net, books, service, inlet, outlet, errors),
         Err((fault, left)) => (report_unopened(errors, &fault), left),
     }
 }
@@ -272,7 +288,7 @@ fn migrate_and_say<F: Start + Located, W: Write, E: Write>(
     output: &mut W,
     errors: &mut E,
     start: F,
-) -> (ExitStatus, Left<FileFrom<F>, File>)
+) -> (ExitStatus, Left<FileFrom<F>, File, F>)
     ensures { IsMigration ⟦<File as Disk>⟧
         (place_of F.Located.path (image_at F.Start) (λ files. IsFresh true files.log × IsFresh false files.db))
         (string_bytes migration.old) migration.admin
@@ -286,31 +302,33 @@ fn migrate_and_say<F: Start + Located, W: Write, E: Write>(
 }
 
 /// Does what the command line asks for, and returns the status and what is left of the files.
-fn run<F: Start + Located, I: Inlet, O: Outlet + Write, E: Write>(
+fn run<F: Start + Located, P: Net, I: Inlet, O: Outlet + Write, E: Write>(
     rt: &HostRuntime,
+    net: &mut P,
     line: CommandLine,
     inlet: &mut I,
     outlet: &mut O,
     errors: &mut E,
     start: F,
-) -> (ExitStatus, Left<FileFrom<F>, File>)
+) -> (ExitStatus, Left<FileFrom<F>, File, F>)
     ensures { IsDone ⟦<File as Disk>⟧
         (place_of F.Located.path (image_at F.Start) (λ files. IsFresh true files.log × IsFresh false files.db))
         line.admin line.task
-        (streams_of I.Inlet O.Outlet O.Write E.Write (inlet.old, outlet.old, errors.old) (inlet.new, outlet.new, errors.new))
+        (streams_of (nets_of (P.state net.old) (P.state net.new)) I.Inlet O.Outlet O.Write E.Write
+        (inlet.old, outlet.old, errors.old) (inlet.new, outlet.new, errors.new))
         result.0 result.1 }
 {
     let CommandLine { admin, task } = line;
     match task {
         Task::Serve { db, service } => match db {
-            None => serve_memory(rt, admin, service, inlet, outlet, errors),
+            None => serve_memory(rt, net, admin, service, inlet, outlet, errors, start),
             Some(path) => {
                 let office = FileOffice {
                     path: path.as_str(),
                     admin,
                     service,
                 };
-                serve_file(rt, office, inlet, outlet, errors, start)
+                serve_file(rt, net, office, inlet, outlet, errors, start)
             }
         },
         Task::Migrate { old, new } => {
@@ -322,28 +340,30 @@ fn run<F: Start + Located, I: Inlet, O: Outlet + Write, E: Write>(
 
 /// Reads the command line and does what it asks for, or reports why it is refused. Returns the status and what is left
 /// of the files.
-fn obey<S: AsStr, F: Start + Located, I: Inlet, O: Outlet + Write, E: Write>(
+fn obey<S: AsStr, F: Start + Located, P: Net, I: Inlet, O: Outlet + Write, E: Write>(
     rt: &HostRuntime,
+    net: &mut P,
     words: &[S],
     inlet: &mut I,
     outlet: &mut O,
     errors: &mut E,
     start: F,
-) -> (ExitStatus, Left<FileFrom<F>, File>)
+) -> (ExitStatus, Left<FileFrom<F>, File, F>)
     ensures { (line : Result CommandLine CommandLineError)
         × IsReadAs ⟦<u16 as FromStr>⟧.from_str_gives ⟦<u64 as FromStr>⟧.from_str_gives
         (map S.text words.now) line
         × IsObeyed ⟦<File as Disk>⟧
         (place_of F.Located.path (image_at F.Start) (λ files. IsFresh true files.log × IsFresh false files.db))
         line
-        (streams_of I.Inlet O.Outlet O.Write E.Write (inlet.old, outlet.old, errors.old) (inlet.new, outlet.new, errors.new))
+        (streams_of (nets_of (P.state net.old) (P.state net.new)) I.Inlet O.Outlet O.Write E.Write
+        (inlet.old, outlet.old, errors.old) (inlet.new, outlet.new, errors.new))
         result.0 result.1 }
 {
     match command_line_of(rt.alloc(), words) {
-        Ok(line) => run(rt, line, inlet, outlet, errors, start),
+        Ok(line) => run(rt, net, line, inlet, outlet, errors, start),
         Err(error) => (
             report_command_line_error(outlet, errors, &error),
-            Left::Nothing,
+            Left::Nothing(start),
         ),
     }
 }
@@ -358,21 +378,23 @@ fn obey<S: AsStr, F: Start + Located, I: Inlet, O: Outlet + Write, E: Write>(
 ///
 /// `Promise` states in full what is answered, and what the files hold then and after a crash at any moment. For that,
 /// `start` stands for what the files at a path hold as they are opened, and what is left of them is handed back.
-pub fn command<S: AsStr, F: Start + Located, I: Inlet, O: Outlet + Write, E: Write>(
+pub fn command<S: AsStr, F: Start + Located, P: Net, I: Inlet, O: Outlet + Write, E: Write>(
     rt: &HostRuntime,
+    net: &mut P,
     words: &[S],
     inlet: &mut I,
     outlet: &mut O,
     errors: &mut E,
     start: F,
-) -> (u8, Left<FileFrom<F>, File>)
+) -> (u8, Left<FileFrom<F>, File, F>)
     ensures { IsKept ⟦<u16 as FromStr>⟧.from_str_gives ⟦<u64 as FromStr>⟧.from_str_gives
         ⟦<File as Disk>⟧
         (place_of F.Located.path (image_at F.Start) (λ files. IsFresh true files.log × IsFresh false files.db))
         (map S.text words.now)
-        (streams_of I.Inlet O.Outlet O.Write E.Write (inlet.old, outlet.old, errors.old) (inlet.new, outlet.new, errors.new))
+        (streams_of (nets_of (P.state net.old) (P.state net.new)) I.Inlet O.Outlet O.Write E.Write
+        (inlet.old, outlet.old, errors.old) (inlet.new, outlet.new, errors.new))
         result.0 result.1 }
 {
-    let (status, left) = obey(rt, words, inlet, outlet, errors, start);
+    let (status, left) = obey(rt, net, words, inlet, outlet, errors, start);
     (status.code(), left)
 }

@@ -1,7 +1,7 @@
 //! Opens the books that a file keeps, or creates the file if neither it nor its log exists. A new file is made under
 //! another name and renamed once it is whole, so that a start that is cut off leaves no half file.
 
-ghost use Rattle.std.specs.Prelude.{◌≡◌, ◌≢◌, false, true, IsTrue, IfErr, IfOk, IfSome};
+ghost use Rattle.std.specs.Prelude.{◌≡◌, ◌≢◌, false, true, IsTrue, IfErr, IfOk, IfSome, string_bytes};
 ghost use Rattle.sqlite.specs.{Effect.{Database}, Files.{file_state, IsBlankAs, IsOpened}, Start.{FindsIn}};
 ghost use Rattle.sqlite.specs.State.{HasCleanDisk};
 ghost use Rattle.sqlite_std_file.specs.File.{IsFresh};
@@ -12,30 +12,31 @@ ghost use Rattle.sqlite.specs.{Held.{state}, Tree.{Trees}};
 ghost use Rattle.plant_books.specs.{Books.{WasHonest}, Contents.{Content, no_units}};
 ghost use Rattle.plant_store_columns.specs.Tables.{schema_no};
 ghost use Rattle.plant_server.specs.{Crashes.{HoldWholeBooks, LeavesOnly}, Files.{HoldBooks, HoldDatabase}};
-ghost use Rattle.plant_server.specs.OverFiles.{IsRefusal, IsUnopened, place_of};
+ghost use Rattle.plant_server.specs.OverFiles.{IsRefusal, place_of};
+ghost use Rattle.plant_types.specs.Names.{Name};
 ghost use Rattle.plant_store_statements.specs.{Changes.{IsHonest}, Keeping.{LeavesAlike, Represents}, OnlyReads.{OnlyReads}, Reading.{HasNoTransaction, IsHonestIn}};
 ghost use Rattle.plant_store.specs.{Opened.{IsAnothers, KeepsIfOk, WasOffice}, Opening.{IsThisOffice}};
 ghost use Rattle.plant_server.specs.Files as files;
 
+use crate::names::{Empty, Found, beside, is_there, length_of, remove};
 use crate::openings::open_at;
 use crate::places::Located;
 use crate::remains::{Left, close_whole};
 use plant_store::{StoreFault, Tables, note_settled};
 use plant_types::{Fault, Person};
 use sqlite::{
-    Alter, Connection, Error, ErrorCode, File, FileFrom, FileStore, Leftover, Start, Unknown,
+    Alter, Connection, Error, ErrorCode, File, FileFrom, FileStore, Start, Unknown,
 };
 use sqlite_disk::{Disk, Files};
 use sqlite_trees::error::StoreError;
 use std::alloc::Global;
 use std::fs;
-use std::io::ErrorKind;
 
 /// A fault of the store.
 pub const STORE: StoreFault = StoreFault::Fault(Fault::Store);
 
 /// Memory ran out.
-const MEMORY: StoreFault = StoreFault::Fault(Fault::Memory);
+pub const MEMORY: StoreFault = StoreFault::Fault(Fault::Memory);
 
 /// The fault that an error of the engine is reported as.
 fn fault_of(error: &Error) -> StoreFault
@@ -48,11 +49,8 @@ fn fault_of(error: &Error) -> StoreFault
     }
 }
 
-/// Why no database was opened, and what the engine left of the file and its log, if it got as far as opening them.
-pub type NotConnected<S> = (StoreFault, Option<Leftover<FileFrom<S>>>);
-
 /// Why no books were opened, and what is left of the file and its log.
-pub type NotOpened<S> = (StoreFault, Left<FileFrom<S>, File>);
+pub type NotOpened<S> = (StoreFault, Left<FileFrom<S>, File, S>);
 
 /// Opens the database at this path. If there is none, a new one is made, with a checksum in each page, in the form of
 /// SQLite's extension cksumvfs; an existing database keeps its form. If opening fails, the files are not overwritten: a
@@ -61,16 +59,16 @@ pub fn connect<S: Start + Located>(
     rt: &HostRuntime,
     path: &str,
     start: S,
-) -> Result<Connection<FileStore<FileFrom<S>>>, NotConnected<S>>
+) -> Result<Connection<FileStore<FileFrom<S>>>, NotOpened<S>>
     ensures mode { IfOk result (λ conn. HasNoTransaction conn) }
     ensures opened { IfOk result (λ conn. HasCleanDisk (file_state conn) → IsOpened conn) }
     ensures found { IfOk result (λ conn. path.now ≡ S.Located.path → HasCleanDisk (file_state conn)
         → FindsIn (image_at S.Start) (file_state conn)) }
     ensures sums { IfOk result (λ conn. path.now ≡ S.Located.path → HasCleanDisk (file_state conn)
         → IsBlankAs true (image_at S.Start) → (view conn.store).has_sums ≡ true) }
-    ensures left { IfErr result (λ e. IfSome e.1 (IsUnopened
+    ensures left { (admin : Name) → IfErr result (λ e. IsRefusal
         (place_of S.Located.path (image_at S.Start) (λ files. IsFresh true files.log × IsFresh false files.db))
-        path.now e.0)) }
+        path.now admin e.0 e.1) }
 {
     match open_at(rt, path, start) {
         Ok(conn) => Ok(conn),
@@ -126,61 +124,11 @@ fn open_file<S: Start + Located>(
 {
     let conn = match connect(rt, path, start) {
         Ok(conn) => conn,
-        Err((fault, None)) => return Err((fault, Left::Nothing)),
-        Err((fault, Some(rest))) => return Err((fault, Left::Unopened(rest))),
+        Err((fault, left)) => return Err((fault, left)),
     };
     match open_books(rt.alloc(), conn, admin) {
         Ok(books) => Ok(books),
         Err((fault, conn)) => Err((fault, Left::Refused(conn))),
-    }
-}
-
-/// Whether anything has this name, even a link to a missing file.
-fn is_named(rt: &HostRuntime, path: &str) -> Result<bool, StoreFault> {
-    match fs::symlink_metadata(rt, path) {
-        Ok(_) => Ok(true),
-        Err(error) if error.kind() == ErrorKind::NotFound => Ok(false),
-        Err(_) => Err(STORE),
-    }
-}
-
-/// The length in bytes of the file of this name, following links, or `None` if nothing has the name. A link to a
-/// missing file counts as an empty file.
-pub fn length_of(rt: &HostRuntime, path: &str) -> Result<Option<u64>, StoreFault> {
-    match fs::metadata(rt, path) {
-        Ok(found) => Ok(Some(found.len())),
-        Err(error) if error.kind() == ErrorKind::NotFound => {
-            Ok(if is_named(rt, path)? { Some(0) } else { None })
-        }
-        Err(_) => Err(STORE),
-    }
-}
-
-/// Whether a file of this name exists. An empty file, or a log without its file, keeps no books: this is reported
-/// before the engine would write to it. An empty name is an error.
-pub fn is_there(rt: &HostRuntime, path: &str) -> Result<bool, StoreFault> {
-    if path.is_empty() {
-        return Err(STORE);
-    }
-    let log = beside(rt, path, "-wal")?;
-    match (length_of(rt, path)?, length_of(rt, &log)?) {
-        (None, None) => Ok(false),
-        (Some(0), _) | (None, Some(_)) => Err(StoreFault::NotThisStore),
-        (Some(_), _) => Ok(true),
-    }
-}
-
-/// The name of a file beside this one, with this ending added.
-pub fn beside(rt: &HostRuntime, path: &str, ending: &str) -> Result<String, StoreFault> {
-    format!(in rt.alloc(); "{path}{ending}").map_err(|_| MEMORY)
-}
-
-/// Removes a file, if it exists.
-pub fn remove(rt: &HostRuntime, path: &str) -> Result<(), StoreFault> {
-    match fs::remove_file(rt, path) {
-        Ok(()) => Ok(()),
-        Err(error) if error.kind() == ErrorKind::NotFound => Ok(()),
-        Err(_) => Err(STORE),
     }
 }
 
@@ -208,8 +156,9 @@ fn make_over<D: Disk + Drop>(
     admin: Person,
 ) -> Result<Files<D>, StoreFault>
     requires { HasNoTransaction conn }
-    ensures { IfOk result (λ files. AreClean D.Disk files.log files.db
+    ensures whole { IfOk result (λ files. AreClean D.Disk files.log files.db
         → HoldWholeBooks D.Disk files (no_units admin)) }
+    ensures named { IfErr result (λ e. e ≢ StoreFault.NotThisStore) }
 {
     match create_books(alloc, conn, admin) {
         Ok(books) => close_new(books),
@@ -220,20 +169,23 @@ fn make_over<D: Disk + Drop>(
 /// Makes new books in a file that does not exist, and closes it: whatever a crash leaves of it from then on holds the
 /// books, also without the log.
 fn make_whole(rt: &HostRuntime, path: &str, admin: Person) -> Result<Files<File>, StoreFault>
-    ensures { IfOk result (λ files. AreClean ⟦<File as Disk>⟧ files.log files.db
+    ensures whole { IfOk result (λ files. AreClean ⟦<File as Disk>⟧ files.log files.db
         → HoldWholeBooks ⟦<File as Disk>⟧ files (no_units admin)) }
+    ensures named { IfErr result (λ e. e ≢ StoreFault.NotThisStore) }
 {
     match connect(rt, path, Unknown) {
         Ok(conn) => make_over(rt.alloc(), conn, admin),
+        Err((StoreFault::NotThisStore, _)) => Err(STORE),
         Err((fault, _)) => Err(fault),
     }
 }
 
 /// Closes a new file, which then holds the books also without its log.
 pub fn close_new<D: Disk + Drop>(books: Tables<FileStore<D>>) -> Result<Files<D>, StoreFault>
-    ensures { (m : Content) → Represents (file_state books.0.0) m
+    ensures whole { (m : Content) → Represents (file_state books.0.0) m
         → IfOk result (λ files. AreClean D.Disk files.log files.db
         → HoldWholeBooks D.Disk files m) }
+    ensures named { IfErr result (λ e. e ≢ StoreFault.NotThisStore) }
 {
     match close_whole(books) {
         Ok(files) => Ok(files),
@@ -262,7 +214,9 @@ pub struct NewNames {
 }
 
 /// The names for a new file at this path.
-pub fn new_names(rt: &HostRuntime, path: &str) -> Result<NewNames, StoreFault> {
+pub fn new_names(rt: &HostRuntime, path: &str) -> Result<NewNames, StoreFault>
+    ensures { IfErr result (λ e. e ≢ StoreFault.NotThisStore) }
+{
     Ok(NewNames {
         file: beside(rt, path, ".new")?,
         log: beside(rt, path, ".new-wal")?,
@@ -271,17 +225,24 @@ pub fn new_names(rt: &HostRuntime, path: &str) -> Result<NewNames, StoreFault> {
 
 /// Renames a new file, which is whole and closed, to its final name. An existing file of that name is not replaced,
 /// unless it appears between the check and the renaming.
-pub fn put_in_place(rt: &HostRuntime, new: &NewNames, path: &str) -> Result<(), StoreFault> {
+pub fn put_in_place(rt: &HostRuntime, new: &NewNames, path: &str) -> Result<(), StoreFault>
+    ensures { IfErr result (λ e. e ≢ StoreFault.NotThisStore) }
+{
     remove(rt, &new.log)?;
     if length_of(rt, path)?.is_some() {
         return Err(STORE);
     }
-    fs::rename(rt, &new.file, path).map_err(|_| STORE)
+    match fs::rename(rt, &new.file, path) {
+        Ok(()) => Ok(()),
+        Err(_) => Err(STORE),
+    }
 }
 
 /// Makes new books in a file of this name: first whole under a temporary name, then renamed. What an interrupted start
 /// left under the temporary name is removed first.
-fn make_file(rt: &HostRuntime, path: &str, admin: Person) -> Result<(), StoreFault> {
+fn make_file(rt: &HostRuntime, path: &str, admin: Person) -> Result<(), StoreFault>
+    ensures { IfErr result (λ e. e ≢ StoreFault.NotThisStore) }
+{
     let new = new_names(rt, path)?;
     remove(rt, &new.file)?;
     remove(rt, &new.log)?;
@@ -289,13 +250,23 @@ fn make_file(rt: &HostRuntime, path: &str, admin: Person) -> Result<(), StoreFau
     put_in_place(rt, &new, path)
 }
 
-/// Makes new books in a file of this name, if neither it nor its log exists.
-fn make_if_missing(rt: &HostRuntime, path: &str, admin: &Person) -> Result<(), StoreFault> {
-    if !is_there(rt, path)? {
-        let founder = admin.copy(rt.alloc()).map_err(|_| MEMORY)?;
-        make_file(rt, path, founder)?;
+/// Makes new books in a file of this name, if neither it nor its log exists. If the file is empty, or only its log
+/// exists, it returns that.
+fn make_if_missing(rt: &HostRuntime, path: &str, admin: &Person) -> Result<Option<Empty>, StoreFault>
+    ensures named { IfErr result (λ e. e ≢ StoreFault.NotThisStore) }
+    ensures empty { IfOk result (λ found. IfSome found (λ it. string_bytes it.path ≡ path.now)) }
+{
+    match is_there(rt, path)? {
+        Found::Nothing => {
+            let Ok(founder) = admin.copy(rt.alloc()) else {
+                return Err(MEMORY);
+            };
+            make_file(rt, path, founder)?;
+            Ok(None)
+        }
+        Found::Empty(it) => Ok(Some(it)),
+        Found::File => Ok(None),
     }
-    Ok(())
 }
 
 /// Opens the books of the file at this path, which is created if neither it nor its log exists. An interrupted start
@@ -320,7 +291,8 @@ pub fn in_file<S: Start + Located>(
         path.now admin e.0 e.1) }
 {
     match make_if_missing(rt, path, &admin) {
-        Ok(()) => open_file(rt, path, admin, start),
-        Err(fault) => Err((fault, Left::Nothing)),
+        Ok(None) => open_file(rt, path, admin, start),
+        Ok(Some(found)) => Err((StoreFault::NotThisStore, Left::Empty(start, found))),
+        Err(fault) => Err((fault, Left::Nothing(start))),
     }
 }

@@ -5,7 +5,10 @@
 mod books;
 mod commands;
 mod files;
+mod laws;
 mod migrations;
+mod names;
+mod nets;
 mod openings;
 mod places;
 mod remains;
@@ -15,7 +18,9 @@ mod sockets;
 mod statuses;
 
 pub use commands::{FileOffice, command, serve_file};
+pub use laws::promises_are_kept;
 pub use migrations::{Migrated, migrate_file};
+pub use nets::{HostNet, Net, Standing};
 pub use places::Located;
 pub use plant_server_listener::{Listener, serve_connections};
 pub use remains::Left;

@@ -10,10 +10,8 @@ ghost use Rattle.plant_store_statements.specs.{Changes.{IsHonest}, Keeping.{Repr
 ghost use Rattle.plant_store_statements.specs.Reading.{HasNoTransaction};
 ghost use Rattle.plant_store_migration.specs.Upgrading.{HaveOldRows};
 
-use crate::files::{
-    NewNames, STORE, beside, close_new, connect, is_there, length_of, new_names, put_in_place,
-    remove,
-};
+use crate::files::{NewNames, STORE, close_new, connect, new_names, put_in_place};
+use crate::names::{Found, beside, is_there, length_of, remove};
 use crate::places::Located;
 use plant_store::{StoreFault, Tables, migrate, note_settled};
 use plant_types::Person;
@@ -252,9 +250,9 @@ fn sync_folder(rt: &HostRuntime, path: &str) -> Result<(), StoreFault> {
 
 /// The names under which the new file is made. Fails if the older file does not exist, or the new file's name is taken.
 fn names_for(rt: &HostRuntime, old_path: &str, new_path: &str) -> Result<NewNames, StoreFault> {
-    if !is_there(rt, old_path)? {
+    let Found::File = is_there(rt, old_path)? else {
         return Err(StoreFault::NotThisStore);
-    }
+    };
     if is_taken(rt, new_path)? {
         return Err(STORE);
     }

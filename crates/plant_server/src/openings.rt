@@ -1,18 +1,22 @@
 //! Opens the database engine over the file at a path and its write-ahead log, with a limit of the log's length.
 
-ghost use Rattle.std.specs.Prelude.{◌≡◌, false, true, IfErr, IfOk, IfSome, IsTrue};
-ghost use Rattle.sqlite.specs.Files.{FailsToOpenFiles, file_state, IsBlankAs, IsCleanLeft, IsOpened, LeavesFiles};
+ghost use Rattle.std.specs.Prelude.{◌≡◌, ◌≢◌, false, true, IfErr, IfOk, IsTrue};
+ghost use Rattle.sqlite.specs.Files.{file_state, IsBlankAs, IsOpened};
+ghost use Rattle.plant_server.specs.{Files.{fault_by_error}, OverFiles.{IsNoDatabase, place_of}};
+ghost use Rattle.plant_store.specs.declared.tables.StoreFault.TheVariants.{NotThisStore};
 ghost use Rattle.sqlite.specs.{Held.{IsNew}, Opening.{is_open_error}, Start.{FindsIn}, State.{HasCleanDisk}};
 ghost use Rattle.sqlite_std_file.specs.File.{file_is_usable, IsFresh};
 ghost use Rattle.sqlite_store.specs.FileStore.{view};
 ghost use Rattle.sqlite_wal.specs.Files.{image_at};
 
 use crate::places::Located;
-use sqlite::{Connection, Error, ErrorCode, FileFrom, FileStore, Leftover, Options, Start};
+use crate::remains::Left;
+use sqlite::{Connection, Error, ErrorCode, File, FileFrom, FileStore, Options, Start};
 use sqlite_disk::Files;
 use sqlite_std_file::OpenError;
 use std::hash::{BuildHasher, RandomState};
 use std::io::ErrorKind;
+use std::marker::PhantomData;
 
 /// After how many pages the log is copied into the file: it stays below 256 KiB, unless a single call writes more.
 pub(crate) const PAGES_IN_LOG: usize = 56;
@@ -21,7 +25,8 @@ const CANNOT_OPEN: Error = Error::SqliteFailure(ErrorCode::CannotOpen);
 
 /// The engine's error for a failure to open the files.
 fn error_of(error: &OpenError) -> Error
-    ensures { IsTrue (is_open_error result) }
+    ensures named { IsTrue (is_open_error result) }
+    ensures fault { fault_by_error result ≢ NotThisStore }
 {
     match error {
         OpenError::OutOfMemory => Error::SqliteFailure(ErrorCode::OutOfMemory),
@@ -33,6 +38,17 @@ fn error_of(error: &OpenError) -> Error
     }
 }
 
+/// That it was tried to open files with a start of this type, and failed. Only this module makes it, only where that is
+/// so; and as there is but one start of a type that the code does not know, no files were opened with it.
+#[derive(Drop)]
+pub struct Unreached<S> {
+    error: Error,
+    start: PhantomData<S>,
+}
+
+/// What is left where no database was opened.
+pub type NoDatabase<S> = (Error, Left<FileFrom<S>, File, S>);
+
 /// Opens the file at this path and its log, each created if missing. The engine's names for a database in memory and
 /// for a URI are not paths, and are refused.
 fn open_pair<S: Start + Located>(
@@ -41,6 +57,7 @@ fn open_pair<S: Start + Located>(
     start: S,
 ) -> Result<Files<FileFrom<S>>, Error>
     ensures named { IfErr result (λ e. IsTrue (is_open_error e)) }
+    ensures fault { IfErr result (λ e. fault_by_error e ≢ NotThisStore) }
     ensures usable { IfOk result (λ files. IsTrue (file_is_usable S.Start files.log)
         × IsTrue (file_is_usable S.Start files.db)) }
     ensures fresh { IfOk result (λ files. path.now ≡ S.Located.path
@@ -57,7 +74,8 @@ fn open_pair<S: Start + Located>(
 
 /// The engine's options: a random number for the log, and the limit of the log's length.
 fn options(rt: &HostRuntime) -> Result<Options, Error>
-    ensures { IfErr result (λ e. IsTrue (is_open_error e)) }
+    ensures named { IfErr result (λ e. IsTrue (is_open_error e)) }
+    ensures fault { IfErr result (λ e. fault_by_error e ≢ NotThisStore) }
 {
     let Ok(state) = RandomState::new(rt) else {
         return Err(CANNOT_OPEN);
@@ -68,13 +86,13 @@ fn options(rt: &HostRuntime) -> Result<Options, Error>
 }
 
 /// Opens the database at this path. If there is none, a new one is made, with a checksum in each page, in the form of
-/// SQLite's extension cksumvfs. If opening fails, the error has what is left of the files, if it got as far as opening
-/// them.
+/// SQLite's extension cksumvfs. If opening fails, what is left of the files is handed back, or the start if it was not
+/// used.
 pub fn open_at<S: Start + Located>(
     rt: &HostRuntime,
     path: &str,
     start: S,
-) -> Result<Connection<FileStore<FileFrom<S>>>, (Error, Option<Leftover<FileFrom<S>>>)>
+) -> Result<Connection<FileStore<FileFrom<S>>>, NoDatabase<S>>
     ensures fresh { IfOk result IsNew }
     ensures opened { IfOk result (λ conn. HasCleanDisk (file_state conn) → IsOpened conn) }
     ensures found { IfOk result (λ conn. path.now ≡ S.Located.path → HasCleanDisk (file_state conn)
@@ -82,20 +100,23 @@ pub fn open_at<S: Start + Located>(
     ensures sums { IfOk result (λ conn. path.now ≡ S.Located.path → HasCleanDisk (file_state conn)
         → IsBlankAs true (image_at S.Start) → (view conn.store).has_sums ≡ true) }
     ensures named { IfErr result (λ e. IsTrue (is_open_error e.0)) }
-    ensures left { IfErr result (λ e. IfSome e.1 (λ left. (opened : _)
-        × (path.now ≡ S.Located.path → IsFresh true opened.log × IsFresh false opened.db)
-        × (IsCleanLeft left → LeavesFiles opened left × FailsToOpenFiles opened left e.0))) }
+    ensures left { IfErr result (λ e. IsNoDatabase
+        (place_of S.Located.path (image_at S.Start) (λ files. IsFresh true files.log × IsFresh false files.db))
+        path.now e.0 e.1) }
 {
-    let files = match open_pair(rt, path, start) {
-        Ok(files) => files,
-        Err(error) => return Err((error, None)),
-    };
     let options = match options(rt) {
         Ok(options) => options,
-        Err(error) => return Err((error, None)),
+        Err(error) => return Err((error, Left::Nothing(start))),
+    };
+    let files = match open_pair(rt, path, start) {
+        Ok(files) => files,
+        Err(error) => {
+            let start = PhantomData;
+            return Err((error, Left::Unreached(Unreached { error, start })));
+        }
     };
     match Connection::open_files_with(rt.alloc(), files, options, true) {
         Ok(conn) => Ok(conn),
-        Err((error, left)) => Err((error, Some(left))),
+        Err((error, left)) => Err((error, Left::Unopened(left))),
     }
 }

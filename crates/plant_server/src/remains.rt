@@ -13,6 +13,8 @@ ghost use Rattle.plant_office.specs.Outcomes.{IsOutcome};
 ghost use Rattle.plant_server.specs.Crashes.{HoldCommitted, HoldWholeBooks, HoldWholeOutcome, IsWhole, LeavesOutcomes};
 ghost use Rattle.plant_store_statements.specs.Keeping.{LeavesBooks, LeavesContent, Represents};
 
+use crate::names::Empty;
+use crate::openings::Unreached;
 use plant_store::{StoreFault, Tables};
 use plant_store_memory::MemoryFile;
 use sqlite::{Alter, Connection, FileStore, Leftover};
@@ -21,9 +23,14 @@ use sqlite_trees::error::StoreError;
 use sqlite_trees::store::Store;
 
 /// What the command leaves of the files, for its contract to refer to.
-pub enum Left<D: Disk, N: Disk> {
-    /// No files were opened.
-    Nothing,
+pub enum Left<D: Disk, N: Disk, F> {
+    /// No files were opened: the start that came, unused. Nothing else can stand here, since no code can make a start of
+    /// a type that it does not know.
+    Nothing(F),
+    /// No files were opened: a file of this name is empty, or only its log exists.
+    Empty(F, Empty),
+    /// No files were opened: it was tried, and failed.
+    Unreached(Unreached<F>),
     /// Files that were not opened as a database: what the engine left of them.
     Unopened(Leftover<D>),
     /// A database that was refused as books.
@@ -32,22 +39,24 @@ pub enum Left<D: Disk, N: Disk> {
     Closed(Files<D>),
     /// Files that were served, but whose log could not be copied.
     Unclosed(FileStore<D>),
-    /// The store of books in memory that were served.
-    InMemory(FileStore<MemoryFile>),
+    /// No files were opened: the start, and the store of books in memory that were served.
+    InMemory(F, FileStore<MemoryFile>),
     /// The older file, if it was opened, and the closed files of the new one, or why there are none.
     Migrated(Option<Connection<FileStore<D>>>, Result<Files<N>, StoreFault>),
 }
 
 // Written by hand, so that callers need not prove again how each part is dropped.
-impl<D: Disk + Drop, N: Disk + Drop> Drop for Left<D, N> {
+impl<D: Disk + Drop, N: Disk + Drop, F: Drop> Drop for Left<D, N, F> {
     fn drop(self) {
         match self {
-            Left::Nothing => {}
+            Left::Nothing(_start) => {}
+            Left::Empty(_start, _found) => {}
+            Left::Unreached(_it) => {}
             Left::Unopened(_files) => {}
             Left::Refused(_database) => {}
             Left::Closed(_files) => {}
             Left::Unclosed(_store) => {}
-            Left::InMemory(_store) => {}
+            Left::InMemory(_start, _store) => {}
             Left::Migrated(_old, _made) => {}
         }
     }

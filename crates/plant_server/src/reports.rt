@@ -1,20 +1,20 @@
 //! What the program writes of itself on its output and on standard error, and the exit status that goes with it.
 
-ghost use Rattle.std.specs.Prelude.{◌≡◌, IfSome, List, ℕ};
+ghost use Rattle.std.specs.Prelude.{◌≡◌, IfOk};
 ghost use Rattle.plant_server.specs.Streams.{IsSaid};
 ghost use Rattle.plant_server.specs.declared.statuses.ExitStatus.TheVariants.{NoBooks};
 ghost use Rattle.plant_server.specs.Statuses as statuses;
 
 use crate::statuses::ExitStatus;
+use itoa::Buffer;
 use plant_server_clients::Halted;
 use plant_server_listener::Stopped;
 use plant_server_log::say;
 use plant_server_options::CommandLineError;
 use plant_store::StoreFault;
 use plant_wire::End;
-use std::alloc::Global;
+use std::alloc::{AllocError, Global};
 use std::io::Write;
-use std::net::SocketAddr;
 
 /// The status for the end of a session.
 fn status_of(end: End) -> ExitStatus
@@ -100,25 +100,22 @@ pub(crate) fn report_halted<E: Write>(errors: &mut E, outcome: Result<(), Halted
     }
 }
 
-/// The line that says on which address a port listens. `None` if memory runs out.
-fn listening_line(alloc: Global, address: SocketAddr) -> Option<Vec<u8>>
-    ensures { IfSome result (λ line. (address : List ℕ) × (line.items ≡ statuses.listening_text address)) }
+/// The line that says at which port of 127.0.0.1 the program listens.
+fn listening_line(alloc: Global, number: u16) -> Result<Vec<u8>, AllocError>
+    ensures { IfOk result (λ line. line.items ≡ statuses.listening_text number) }
 {
-    let Ok(text) = format!(in alloc; "{address}") else {
-        return None;
-    };
-    let mut line = Vec::from_slice(alloc, b"listening on ").ok()?;
-    line.extend_from_slice(text.as_bytes()).ok()?;
-    line.extend_from_slice(b"\n").ok()?;
-    Some(line)
+    let mut buffer = Buffer::new();
+    let mut line = Vec::from_slice(alloc, b"listening on 127.0.0.1:")?;
+    line.extend_from_slice(buffer.format(number).as_bytes())?;
+    line.extend_from_slice(b"\n")?;
+    Ok(line)
 }
 
-/// Prints the address on which a port listens. A failed write is ignored.
-pub(crate) fn say_address<W: Write>(alloc: Global, output: &mut W, address: SocketAddr)
-    ensures { (address : List ℕ)
-        × IsSaid (W.contents output.old) (W.contents output.new) (statuses.listening_text address) }
+/// Prints at which port the program listens. A failed write is ignored.
+pub(crate) fn say_address<W: Write>(alloc: Global, output: &mut W, number: u16)
+    ensures { IsSaid (W.contents output.old) (W.contents output.new) (statuses.listening_text number) }
 {
-    if let Some(line) = listening_line(alloc, address) {
+    if let Ok(line) = listening_line(alloc, number) {
         say(output, &line);
     }
 }
@@ -187,6 +184,10 @@ pub(crate) fn report_command_line_error<W: Write, E: Write>(
         }
         CommandLineError::NoDb => {
             say(errors, b"migrate: no db\n");
+            ExitStatus::WrongCommandLine
+        }
+        CommandLineError::Forever => {
+            say(errors, b"forever: no port, or connections\n");
             ExitStatus::WrongCommandLine
         }
         CommandLineError::Memory => ExitStatus::NoMemory,

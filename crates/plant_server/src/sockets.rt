@@ -49,8 +49,8 @@ fn linger(mut stream: TcpStream) {
 pub struct Port {
     listener: TcpListener,
     idle: Option<Duration>,
-    accepted: u64,
-    failed: bool,
+    pub(crate) accepted: u64,
+    pub(crate) failed: bool,
 }
 
 impl Port {

@@ -1,1 +1,3 @@
 mod Read
+mod Lines
+mod Plant

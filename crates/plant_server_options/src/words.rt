@@ -1,9 +1,9 @@
 //! Reads the command line with clap: the administrator, the file, and the port with its options or the migration of an
 //! older file.
 
-ghost use Rattle.std.specs.Prelude.{◌≡◌, [], None, Some, Err, IfOk, IfErr, IfSome, IsSome, List, Option, codes, false, map, ℕ};
+ghost use Rattle.std.specs.Prelude.{◌≡◌, ◌⊎◌, not, [], None, Some, Err, IfOk, IfErr, IfSome, IsSome, List, Option, codes, false, map, ℕ};
 ghost use Rattle.std.specs.Prelude.{option_copied, option_map, string_bytes, unwrap_or};
-ghost use Rattle.plant_server_options.specs.CommandLines.{IsCommandLineOf, IsNoCommandLine, IsNoCommandLineOf, IsReadAs, IsServiceOf, IsTaskOf, IsTold, said};
+ghost use Rattle.plant_server_options.specs.CommandLines.{IsCommandLineOf, IsForeverWrong, IsNoCommandLine, IsNoCommandLineOf, IsReadAs, IsServiceOf, IsTaskOf, IsTold, said};
 ghost use Rattle.clap.specs.Words.{app_of, rule_of};
 ghost use Rattle.plant_server_options.specs.CommandLines as lines;
 ghost use Rattle.plant_types.specs.Text as names;
@@ -25,8 +25,17 @@ pub enum CommandLineError {
     NotAPerson,
     /// A file is to be migrated, but the new file is not named.
     NoDb,
+    /// Connections are to be served forever, but the port is not named, or the number of connections is.
+    Forever,
     /// Memory ran out.
     Memory,
+}
+
+/// Whether an error of this kind is one, and does not only ask for help or the version.
+fn is_mistake(kind: ErrorKind) -> bool
+    ensures { result ≡ not (lines.asks_help kind) }
+{
+    !matches!(kind, ErrorKind::DisplayHelp | ErrorKind::DisplayVersion)
 }
 
 fn text_of(alloc: Global, error: &Error) -> CommandLineError
@@ -38,7 +47,7 @@ fn text_of(alloc: Global, error: &Error) -> CommandLineError
     match error.to_string(alloc) {
         Ok(text) => CommandLineError::Text {
             text,
-            is_error: error.use_stderr(),
+            is_error: is_mistake(error.kind()),
         },
         Err(_) => CommandLineError::Memory,
     }
@@ -171,18 +180,30 @@ fn service_from(
     })
 }
 
-/// How a port is served, from the options that were read.
-fn service_of(matches: &ArgMatches<'_>) -> Option<Service>
-    ensures { IsServiceOf ⟦<u16 as FromStr>⟧.from_str_gives ⟦<u64 as FromStr>⟧.from_str_gives
-        matches.now result }
+/// Whether `--forever` stands where it may not.
+fn is_forever_wrong(port: Option<u16>, connections: Option<u64>, forever: bool) -> bool
+    ensures { result ≡ lines.is_forever_wrong port connections forever }
 {
-    service_from(
-        matches.get_one("port"),
-        matches.get_one("connections"),
-        matches.get_one("clients"),
-        matches.get_flag("forever"),
-        matches.get_one("idle"),
-    )
+    forever && (port.is_none() || connections.is_some())
+}
+
+/// How a port is served, from the options that were read. `--forever` has rules about two others, which are looked at
+/// here: clap's definitions say nothing of a command with such rules.
+fn service_of(matches: &ArgMatches<'_>) -> Result<Option<Service>, CommandLineError>
+    ensures service { IfOk result (IsServiceOf ⟦<u16 as FromStr>⟧.from_str_gives ⟦<u64 as FromStr>⟧.from_str_gives
+        matches.now) }
+    ensures refused { IfErr result (λ e. (e ≡ CommandLineError.Forever)
+        × IsForeverWrong ⟦<u16 as FromStr>⟧.from_str_gives ⟦<u64 as FromStr>⟧.from_str_gives matches.now) }
+{
+    let port = matches.get_one("port");
+    let connections = matches.get_one("connections");
+    let clients = matches.get_one("clients");
+    let forever = matches.get_flag("forever");
+    let idle = matches.get_one("idle");
+    if is_forever_wrong(port, connections, forever) {
+        return Err(CommandLineError::Forever);
+    }
+    Ok(service_from(port, connections, clients, forever, idle))
 }
 
 fn number_arg<'a>(
@@ -241,16 +262,14 @@ fn store_args<'a>(alloc: Global, command: Command<'a>) -> Result<Command<'a>, Al
         ))
 }
 
-fn forever_arg<'a>(alloc: Global) -> Result<Arg<'a>, AllocError>
-    ensures rule { IfOk result (λ r. rule_of r ≡ lines.forever_rule) }
-    ensures local { IfOk result (λ r. r.global ≡ false) }
+fn forever_arg<'a>(alloc: Global) -> Arg<'a>
+    ensures rule { rule_of result ≡ lines.forever_rule }
+    ensures local { result.global ≡ false }
 {
     Arg::new(alloc, "forever")
         .long("forever")
-        .help("Serves connections until the program is stopped or its store fails")
+        .help("Serves connections to --port until the program is stopped or its store fails")
         .action(ArgAction::SetTrue)
-        .requires_arg("port")?
-        .conflicts_with("connections")
 }
 
 fn service_args<'a>(alloc: Global, command: Command<'a>) -> Result<Command<'a>, AllocError>
@@ -278,7 +297,7 @@ fn service_args<'a>(alloc: Global, command: Command<'a>) -> Result<Command<'a>, 
             1_000,
             "Serves N connections at once [default: 1; 256 with --forever]",
         ))?;
-    command.arg(forever_arg(alloc)?)?.arg(number_arg(
+    command.arg(forever_arg(alloc))?.arg(number_arg(
         alloc,
         "idle",
         "SECONDS",
@@ -341,16 +360,18 @@ fn command_line_from(
 fn asked_of(alloc: Global, matches: &ArgMatches<'_>) -> Result<CommandLine, CommandLineError>
     ensures asked { IfOk result (IsCommandLineOf ⟦<u16 as FromStr>⟧.from_str_gives
         ⟦<u64 as FromStr>⟧.from_str_gives matches.now) }
-    ensures refused { IfErr result (IsNoCommandLine matches.now) }
+    ensures refused { IfErr result (IsNoCommandLine ⟦<u16 as FromStr>⟧.from_str_gives
+        ⟦<u64 as FromStr>⟧.from_str_gives matches.now) }
     ensures outside { names.person_of (unwrap_or (said matches.now (codes "admin")) []) ≡ None
-        → result ≡ Err CommandLineError.NotAPerson }
+        → (result ≡ Err CommandLineError.NotAPerson) ⊎ (result ≡ Err CommandLineError.Forever) }
 {
+    let service = service_of(matches)?;
     command_line_from(
         alloc,
         matches.get_str("admin").unwrap_or("").as_bytes(),
         matches.get_str("migrate"),
         matches.get_str("db"),
-        service_of(matches),
+        service,
     )
 }
 

@@ -28,9 +28,9 @@ after_both : (w : World) (cs ds : List Call) → after_calls (after_calls w cs) 
 after_both w [] ds = refl
 after_both w (c ∷ cs) ds = after_both (next w c) cs ds
 
-module _ {D N : Type 0} {g : Ghosts D} where
+module _ {D N F : Type 0} {g : Ghosts D} where
   -- whatever the next start finds is books that the crash may leave
-  outcome : (store : FileStore D g) (after : Left D N g) (w : World) (calls : List Call) (answers : List Answer) (found : Image)
+  outcome : (store : FileStore D g) (after : Left D N F g) (w : World) (calls : List Call) (answers : List Answer) (found : Image)
       → LeavesOutcomes store w calls answers → LeavesAfter after w calls answers → MayFind store after found
       → ∥ HoldOutcome w calls answers found ∥₁
   outcome store (left.Closed files) w calls answers found within closed (inl may) = within.files found may
@@ -38,16 +38,18 @@ module _ {D N : Type 0} {g : Ghosts D} where
       subst (λ i. ∥ HoldOutcome w calls answers i ∥₁) (sym is) (closed image may).0
   outcome store (left.Closed files) w calls answers found within closed (inr (image, may, inr is)) =
       subst (λ i. ∥ HoldOutcome w calls answers i ∥₁) (sym is) (closed image may).1
-  outcome store left.Nothing w calls answers found within closed may = absurd closed
+  outcome store (left.Nothing start) w calls answers found within closed may = absurd closed
+  outcome store (left.Empty start it) w calls answers found within closed may = absurd closed
+  outcome store (left.Unreached it) w calls answers found within closed may = absurd closed
   outcome store (left.Unopened rest) w calls answers found within closed may = absurd closed
   outcome store (left.Refused conn) w calls answers found within closed may = absurd closed
   outcome store (left.Unclosed it) w calls answers found within closed may = within.files found may
-  outcome store (left.InMemory it) w calls answers found within closed may = absurd closed
+  outcome store (left.InMemory start it) w calls answers found within closed may = absurd closed
   outcome store (left.Migrated old made) w calls answers found within closed may = absurd closed
 
-module _ {D N : Type 0} (g : Ghosts D) (h : Ghosts N) where
+module _ {D N : Type 0} (F : Type 0) (g : Ghosts D) (h : Ghosts N) where
   joined : (admin : Name) (lives : List Life) (first last : Image) (w : World) → w.admin ≡ admin → HoldRows first w
-      → AreStarts g h admin first lives last → ∥ AreOneRun w lives last ∥₁
+      → AreStarts F g h admin first lives last → ∥ AreOneRun w lives last ∥₁
   joined admin [] first last w own rows starts =
       let none : AreOneRun w [] last = record { made = []; in_turn = tt; rows = subst (λ i. HoldRows i w) (sym starts) rows } in ∣ none ∣₁
   joined admin (life ∷ lives) first last w own rows (found, start, later) =
@@ -64,5 +66,5 @@ module _ {D N : Type 0} (g : Ghosts D) (h : Ghosts N) where
         rows = subst (HoldRows last) (after_both w made (in_all rest.made)) rest.rows;
       }))
 
-pub starts_are_one_run : {D N : Type 0} (g : Ghosts D) (h : Ghosts N) → StartsAreOneRun g h
-starts_are_one_run g h first last lives w rows starts = joined g h w.admin lives first last w refl rows starts
+pub starts_are_one_run : {D N : Type 0} (F : Type 0) (g : Ghosts D) (h : Ghosts N) → StartsAreOneRun F g h
+starts_are_one_run F g h first last lives w rows starts = joined F g h w.admin lives first last w refl rows starts

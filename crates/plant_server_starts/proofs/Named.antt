@@ -84,8 +84,8 @@ module _ (ran : List Call → List Answer → Type 0) where
   )
 
   module _ (lost : Type 0) (s : Streams) where
-    at_port : (many : Bool) (service : Service) (n : ExitStatus) → AreOfPort many ran lost service s.lines n
-        → Named (λ life. AreOfPort many (AreOfLife life) lost service s.lines n)
+    at_port : (many : Bool) (service : Service) (n : ExitStatus) → AreOfPort many ran lost service s.nets s.lines n
+        → Named (λ life. AreOfPort many (AreOfLife life) lost service s.nets s.lines n)
     at_port false service n it = (
       life_of _ _,
       it.made,
@@ -98,6 +98,9 @@ module _ (ran : List Call → List Answer → Type 0) where
         status = it.status;
         said = it.said;
         shut = it.shut;
+        listened = it.listened;
+        over = it.over;
+        failed = it.failed;
       },
     )
     at_port true service n it = (
@@ -109,17 +112,20 @@ module _ (ran : List Call → List Answer → Type 0) where
         status = it.status;
         said = it.said;
         shut = it.shut;
+        listened = it.listened;
+        shown = it.shown;
+        halts = it.halts;
       },
     )
 
     named : (service : Option Service) (n : ExitStatus) → HasServed ran lost service s n → Named (λ life. HasServed (AreOfLife life) lost service s n)
     named None n it =
         let found = at_end it.session.0 s.unread_after s.written s.written_after it.ended it.end it.session.2 in
-        (found.0, found.1, record { end = it.end; ended = it.ended; session = (it.session.0, it.session.1, found.2); said = it.said; status = it.status })
+        (found.0, found.1, record { end = it.end; ended = it.ended; session = (it.session.0, it.session.1, found.2); said = it.said; status = it.status; stops = it.stops; still = it.still })
     named (Some service) n it = at_port (is_at_once service) service n it
 
-module _ {D N : Type 0} {g : Ghosts D} where
-  from_rows : (place : Place D) (admin : Name) (store : FileStore D g) (after : Left D N g) (calls : List Call) (answers : List Answer)
+module _ {D N F : Type 0} {g : Ghosts D} where
+  from_rows : (place : Place D) (admin : Name) (store : FileStore D g) (after : Left D N F g) (calls : List Call) (answers : List Answer)
       → RanOnFiles (Begins place place.path) admin store after calls answers → RanOnFiles (HoldRows place.files) admin store after calls answers
   from_rows place admin store after calls answers ran = record {
     answered = λ w rows. ran.answered w (record { here = refl; rows = rows });
@@ -128,8 +134,8 @@ module _ {D N : Type 0} {g : Ghosts D} where
     afterwards = λ w rows. ran.afterwards w (record { here = refl; rows = rows });
   }
 
-pub is_a_start : {D N : Type 0} (g : Ghosts D) (h : Ghosts N) (place : Place D) → IsAStart g h place
-is_a_start g h place admin service s n after to it clean found =
+pub is_a_start : {D N : Type 0} (F : Type 0) (g : Ghosts D) (h : Ghosts N) (place : Place D) → IsAStart F g h place
+is_a_start F g h place admin service s n after to it clean found =
     let by_name = named _ _ _ service n it.served in (
       by_name.0,
       record { store = it.store; after = after; ran = from_rows place admin it.store after _ _ by_name.1; clean = clean; found = found },

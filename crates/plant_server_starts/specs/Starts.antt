@@ -32,34 +32,34 @@ pub record AreOneRun (w : World) (lives : List Life) (files : Image) : Type 0 wh
   pub in_turn : AreMadeInTurn w lives made
   pub rows : HoldRows files (after_calls w (in_all made))
 
-module _ {D N : Type 0} {g : Ghosts D} where
+module _ {D N F : Type 0} {g : Ghosts D} where
   -- the next start may find these files: what a crash within the serving leaves, or one after the closing, also without
   -- the log
-  abbrev pub MayFind : FileStore D g → Left D N g → Image → Type 0
+  abbrev pub MayFind : FileStore D g → Left D N F g → Image → Type 0
   MayFind store (left.Closed files) found = (state store).may_leave found
       ⊎ ((image : Image) × outcomes g files.log files.db image × ((found ≡ image) ⊎ (found ≡ record image { log = [] })))
   MayFind store _ found = (state store).may_leave found
 
 -- A start of the program from files that hold `from`: these calls were made on them, as `FilesServed` states for the
 -- files at the path that its command line names, and the next start may find `to`.
-pub record IsStart {D N : Type 0} (g : Ghosts D) (h : Ghosts N) (admin : Name) (from to : Image) (life : Life) : Type 0 where
+pub record IsStart {D N : Type 0} (F : Type 0) (g : Ghosts D) (h : Ghosts N) (admin : Name) (from to : Image) (life : Life) : Type 0 where
   pub store : FileStore D g
-  pub after : Left D N g
+  pub after : Left D N F g
   pub ran : RanOnFiles (HoldRows from) admin store after life.calls life.answers
   pub clean : IsCleanAfter after
   pub found : MayFind store after to
 
 -- one start after the other, each from what the one before left
-abbrev pub AreStarts : {D N : Type 0} → Ghosts D → Ghosts N → Name → Image → List Life → Image → Type 0
-AreStarts g h admin first [] last = last ≡ first
-AreStarts g h admin first (life ∷ lives) last =
-    (found : Image) × IsStart g h admin first found life × AreStarts g h admin found lives last
+abbrev pub AreStarts : {D N : Type 0} → Type 0 → Ghosts D → Ghosts N → Name → Image → List Life → Image → Type 0
+AreStarts F g h admin first [] last = last ≡ first
+AreStarts F g h admin first (life ∷ lives) last =
+    (found : Image) × IsStart F g h admin first found life × AreStarts F g h admin found lives last
 
 -- Any number of starts of the program over the file of an administrator, each ended, killed or cut off, are one list of
 -- calls of one world, with at most one call in doubt for each start.
-abbrev pub StartsAreOneRun : {D N : Type 0} → Ghosts D → Ghosts N → Type 0
-StartsAreOneRun g h = (first last : Image) (lives : List Life) (w : World) → HoldRows first w
-    → AreStarts g h w.admin first lives last → ∥ AreOneRun w lives last ∥₁
+abbrev pub StartsAreOneRun : {D N : Type 0} → Type 0 → Ghosts D → Ghosts N → Type 0
+StartsAreOneRun F g h = (first last : Image) (lives : List Life) (w : World) → HoldRows first w
+    → AreStarts F g h w.admin first lives last → ∥ AreOneRun w lives last ∥₁
 
 -- these are the calls of a start, and its answers
 abbrev pub AreOfLife : Life → List Call → List Answer → Type 0
@@ -67,9 +67,9 @@ AreOfLife life calls answers = (calls ≡ life.calls) × (answers ≡ life.answe
 
 -- What `FilesServed` states of a command is such a start from what the files at its path held: of whatever the next
 -- start may then find. The same streams or connections were served, with the calls and the answers of this start.
-abbrev pub IsAStart : {D N : Type 0} → Ghosts D → Ghosts N → Place D → Type 0
-IsAStart {D} {N} g h place =
-    (admin : Name) (service : Option Service) (s : Streams) (n : ExitStatus) (after : Left D N g) (to : Image)
+abbrev pub IsAStart : {D N : Type 0} → Type 0 → Ghosts D → Ghosts N → Place D → Type 0
+IsAStart {D} {N} F g h place =
+    (admin : Name) (service : Option Service) (s : Streams) (n : ExitStatus) (after : Left D N F g) (to : Image)
     → (it : FilesServed place place.path admin service s n after) → IsCleanAfter after → MayFind it.store after to
-    → (life : Life) × IsStart g h admin place.files to life
+    → (life : Life) × IsStart F g h admin place.files to life
     × HasServed (AreOfLife life) (¬ IsHonestAfter after) service (within s it.first it.last) n

@@ -17,13 +17,13 @@ use sqlite_disk::Disk;
 /// start at most one more, which was answered by a fault or was being served. The file holds the rows of the world
 /// after them, and each start answered its calls, up to the last confirmed one, as the world answers them that the
 /// earlier starts left.
-pub fn starts_are_one_run<D: Disk, N: Disk>()
-    ensures { StartsAreOneRun D.Disk N.Disk }
+pub fn starts_are_one_run<D: Disk, N: Disk, F>()
+    ensures { StartsAreOneRun F D.Disk N.Disk }
 {}
 
 /// What the command's contract states about the files that it served is such a start, from what they held as they were
 /// opened: the same streams or connections were served, with the calls and the answers of the start.
 pub fn served_files_are_a_start<F: Start + Located>()
-    ensures { IsAStart ⟦<FileFrom<F> as Disk>⟧ ⟦<File as Disk>⟧
+    ensures { IsAStart F ⟦<FileFrom<F> as Disk>⟧ ⟦<File as Disk>⟧
         (place_of F.Located.path (image_at F.Start) (λ files. IsFresh true files.log × IsFresh false files.db)) }
 {}

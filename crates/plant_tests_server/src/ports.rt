@@ -3,7 +3,7 @@
 
 use crate::sockets::is_text;
 use plant_office::Office;
-use plant_server::{Port, command, serve_port};
+use plant_server::{HostNet, Port, command, serve_port};
 use plant_server_options::Service;
 use plant_tests_clients::Failing;
 use plant_tests_examples::{BASE, Exchanges, LOOKED_AT, SHELVED, numbered};
@@ -102,8 +102,10 @@ fn served<'a>(
     let nothing: &[u8] = b"";
     let mut input = FromRead::new(nothing);
     let mut output = ToWrite::new(&mut clients);
+    let mut net = HostNet::new(rt);
     let (status, _) = command(
         rt,
+        &mut net,
         words.as_slice(),
         &mut input,
         &mut output,
@@ -215,7 +217,8 @@ fn served_until_shut<'a>(
         streams: Vec::new(alloc),
     };
     let mut errors = Vec::new(alloc);
-    let status = serve_port(rt, &mut office, service, &mut clients, &mut errors);
+    let mut net = HostNet::new(rt);
+    let status = serve_port(alloc, &mut net, &mut office, service, &mut clients, &mut errors);
     drop(office.into_books());
     (status.code(), clients, errors)
 }

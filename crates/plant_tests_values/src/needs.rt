@@ -23,7 +23,7 @@ const KEPT: [(u64, &[u8]); 4] = [
     (40, b"LT-2"),
 ];
 
-/// How many of the kept events a file of these rows needs: the last ones.
+/// How many of the kept events a file of these rows needs.
 fn count(rt: &(impl Abort + AllocGlobal), rows: &[(u64, &[u8])]) -> usize {
     let kept = sorted(rt, events(rt, rt.alloc(), &KEPT));
     let rows = events(rt, rt.alloc(), rows);
@@ -54,7 +54,8 @@ fn needs_no_more_for_repeated_rows(rt: HostRuntime) {
 }
 
 #[test]
-fn needs_all_events_for_a_late_row(rt: HostRuntime) {
-    assert_eq!(rt; count(&rt, &[(35, b"LT-2")]), 4);
+fn needs_the_events_of_its_alarms_for_a_late_row(rt: HostRuntime) {
+    assert_eq!(rt; count(&rt, &[(35, b"LT-2")]), 3);
     assert_eq!(rt; count(&rt, &[(41, b"PT-101"), (29, b"PT-101")]), 4);
+    assert_eq!(rt; count(&rt, &[(15, b"PT-101")]), 3);
 }

@@ -1,17 +1,14 @@
 -- The alarms that events name, and states that go on from those in the alarms' rows.
-use Rattle.std.proofs.Common.{List, ap, arith, drop, false, length, map, refl, suc, sym, true, zero, ◌++◌, ◌∙◌, ◌∷◌, ◌≡◌, [], Bool, if◌then◌else◌, ℕ}
-use Rattle.std.proofs.lemmas.List.{length-drop, nil_from_length, Elements.{filter-append}}
+use Rattle.std.proofs.Common.{List, ap, false, filter, map, refl, sym, true, ◌++◌, ◌∙◌, ◌∷◌, ◌≡◌, [], Bool, if◌then◌else◌}
+use Rattle.std.proofs.lemmas.List.{Elements.{filter-append}}
 use Rattle.plant_alarm.specs.{States.{summary}, declared.{event.Event.{Event}}}
 use Rattle.plant_floods.specs.Activations.{of_alarm}
-use Rattle.plant_import.specs.{Needed.{from_last_before, has_late, needed}, Numbers.{with_events}}
-use Rattle.plant_import.proofs.public.{Counted.{any_rising, put_twice}, LaterLaws.{fresh_after}, Risings.{in_number_order}}
+use Rattle.plant_import.specs.{Needed.{has_late, needed}, Numbers.{with_events}}
+use Rattle.plant_import.proofs.public.{Counted.{any_rising, put_twice}, LaterLaws.{fresh_after}, NeededLaws.{needed_rises}, OwnLaws.{own_needed}, Risings.{in_number_order}}
 use Rattle.plant_types.specs.Names.{same_name}
-use Rattle.plant_model.specs.declared.rows.AlarmRow.{AlarmRow}
-use Rattle.plant_unit.specs.{Additions.{AreAdded}, Alarms.{brought, in_columns}, Summaries.{HaveSummaries, has_event_of, summaries}}
-
-late_in_none : (rows : List Event) → has_late [] rows ≡ false
-late_in_none [] = refl
-late_in_none (r ∷ rows) = late_in_none rows
+use Rattle.plant_model.specs.declared.rows.{AlarmRow.{AlarmRow}, Row.TheVariants.{Alarm as AlarmPut}, RowEdit.TheVariants.{Put}}
+use Rattle.plant_model.specs.steps.RowChanges.{state_put, with_state}
+use Rattle.plant_unit.specs.{Additions.{AreAdded}, Alarms.{brought, in_columns, states_after, states_put}, Summaries.{HaveSummaries, has_event_of, summaries}}
 
 -- where no row is late, the kept events of an alarm with its new ones behind them are all its events
 pub go_on : (alarms : List AlarmRow) (es rows fresh : List Event) → AreAdded es rows fresh → has_late es rows ≡ false
@@ -43,37 +40,34 @@ brought_on alarms es rows fresh added late = λ i. record {
   named = named_rising alarms es rows fresh added i;
 }
 
-pub brought_anew : (alarms : List AlarmRow) (es rows fresh : List Event) → AreAdded es rows fresh
-    → brought alarms (with_events es (with_events [] fresh)) (with_events [] fresh) ≡ brought alarms (with_events es fresh) fresh
-brought_anew alarms es rows fresh added = λ i. record {
-  summaries = summaries alarms (put_twice es fresh (in_number_order es added.rise) i);
+-- the summaries by the needed events and the new ones
+pub brought_needed : (alarms : List AlarmRow) (es rows fresh : List Event) → AreAdded es rows fresh
+    → brought alarms (with_events (needed es rows) (with_events [] fresh)) (with_events [] fresh)
+    ≡ brought alarms (with_events (needed es rows) fresh) fresh
+brought_needed alarms es rows fresh added = λ i. record {
+  summaries = summaries alarms (put_twice (needed es rows) fresh (in_number_order (needed es rows) (needed_rises es rows added.rise)) i);
   named = named_rising alarms es rows fresh added i;
 }
+
+-- where a row is late, the alarms that the new events name have by the needed events the states that they have by all
+pub states_anew : (alarms : List AlarmRow) (es rows fresh : List Event) → AreAdded es rows fresh → has_late es rows ≡ true
+    → states_put (with_events (needed es rows) fresh) fresh alarms ≡ states_after es fresh alarms
+states_anew [] es rows fresh added late = refl
+states_anew (r ∷ alarms) es rows fresh added late = by (states_anew alarms es rows fresh added late) (has_event_of fresh r) refl
+  where
+    some : Bool → List AlarmRow
+    some b = if b then r ∷ filter (has_event_of fresh) alarms else filter (has_event_of fresh) alarms
+
+    by : states_put (with_events (needed es rows) fresh) fresh alarms ≡ states_after es fresh alarms → (b : Bool) → has_event_of fresh r ≡ b
+        → map (state_put (with_events (needed es rows) fresh)) (some b) ≡ map (state_put (with_events es fresh)) (some b)
+    by rest false e = rest
+    by rest true e =
+        let own : of_alarm r.tag (with_events (needed es rows) fresh) ≡ of_alarm r.tag (with_events es fresh) =
+        ap (λ l. of_alarm r.tag (with_events (needed es rows) l)) added.fresh_are
+        ∙ own_needed r.tag es rows added.tags added.now added.rise added.no_fault late (ap (λ l. has_event_of l r) (sym added.fresh_are) ∙ e)
+        ∙ ap (λ l. of_alarm r.tag (with_events es l)) (sym added.fresh_are) in
+        λ i. Put (AlarmPut (with_state (own i) r)) ∷ rest i
 
 -- the rows' columns are those of some events
 pub columns_are : (alarms : List AlarmRow) (es : List Event) → HaveSummaries alarms es → in_columns alarms ≡ brought alarms es []
 columns_are alarms es so = λ i. record { summaries = so i; named = map (has_event_of []) alarms }
-
--- the needed events are all where they are as many, and then no row is late but among them
-drop_none : (n : ℕ) (es : List Event) → length (drop n es) ≡ length es → drop n es ≡ es
-drop_none zero es h = refl
-drop_none (suc n) [] h = refl
-drop_none (suc n) (e ∷ es) h = absurd (omega (arith, h, length-drop n es))
-
-pub all_kept : (kept es rows : List Event) (count : ℕ) → kept ≡ needed es rows → count ≡ length es → length kept ≡ count → kept ≡ es
-all_kept kept es rows count is many same =
-    is ∙ elim (has_late es rows) as (λ b. length (if b then es else from_last_before es rows) ≡ length es → (if b then es else from_last_before es rows) ≡ es) [
-      | true ↦ λ h. refl
-      | false ↦ λ h. drop_none _ es h
-    ] (ap length (sym is) ∙ same ∙ many)
-
-pub none_late : (kept es rows : List Event) (count : ℕ) → kept ≡ needed es rows → count ≡ length es → (length kept ≡ count → count ≡ 0)
-    → has_late es rows ≡ false
-none_late kept es rows count is many fewer = by (has_late es rows) refl
-  where
-    by : (b : Bool) → has_late es rows ≡ b → has_late es rows ≡ false
-    by false e = e
-    by true e =
-        let all : kept ≡ es = is ∙ ap (λ b. if b then es else from_last_before es rows) e in
-        let empty : length es ≡ 0 = sym many ∙ fewer (ap length all ∙ sym many) in
-        ap (λ l. has_late l rows) (nil_from_length es empty) ∙ late_in_none rows

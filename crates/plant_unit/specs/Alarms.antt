@@ -48,12 +48,19 @@ abbrev pub PushesNamed : {A E : Type 0} → List AlarmRow → Brought → List R
 PushesNamed alarms all before after said = (es fresh : List Event) → all ≡ brought alarms es fresh
     → OnOk said (after ≡ before ++ states_put es fresh alarms)
 
--- the fact holds for all events before the import, of which `count` gives the number, and for those that its file adds,
--- here ordered by number: `kept` are those that the file needs, and the columns of the alarms are computed from all
-abbrev pub ForImport : List AlarmRow → List Event → ℕ → List Event → (List Event → List Event → Type 0) → Type 0
-ForImport alarms kept count fresh fact = (es rows added : List Event) → kept ≡ needed es rows → count ≡ length es
-    → AreAdded es rows added → fresh ≡ with_events [] added → HaveSummaries alarms es → fact es added
+-- the fact holds for all events before the import of these rows, and for those that the file adds, here ordered by
+-- number: `kept` are those that the file needs, and the columns of the alarms are computed from all
+abbrev pub ForImport : List AlarmRow → List Event → List Event → List Event → (List Event → List Event → Type 0) → Type 0
+ForImport alarms kept rows fresh fact = (es added : List Event) → kept ≡ needed es rows → AreAdded es rows added
+    → fresh ≡ with_events [] added → HaveSummaries alarms es → fact es added
 
 -- the states that the alarms have after the import
 abbrev pub states_after : List Event → List Event → List AlarmRow → List RowEdit
 states_after es fresh alarms = states_put (with_events es fresh) fresh alarms
+
+-- the summaries of alarms by some events, which give the alarms that the new events name the states that they have after
+-- the import
+pub record HaveStates (alarms : List AlarmRow) (es added : List Event) (all : Brought) : Type 0 where
+  pub seen : List Event
+  pub told : all ≡ brought alarms seen added
+  pub states : states_put seen added alarms ≡ states_after es added alarms

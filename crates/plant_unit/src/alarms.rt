@@ -1,14 +1,14 @@
-//! Computes the states of alarms after an import: from all events, or continued from the alarms' rows if no new event
-//! comes late.
+//! Computes the states of alarms after an import: from the events of the alarms that the file names, or continued from
+//! the alarms' rows if no new event comes late.
 
 ghost use Rattle.std.specs.Prelude.{◌≡◌, ◌++◌, ◌∷◌, [], IfOk, OnOk, length, map};
 ghost use Rattle.plant_types.specs.Results.{Gives, OnlyMemory};
-ghost use Rattle.plant_unit.specs.Alarms.{AddsAt, AddsEvents, ForImport, GivesAnew, GivesNamed, GivesOn, PushesNamed, brought, in_columns, states_after};
+ghost use Rattle.plant_unit.specs.Alarms.{AddsAt, AddsEvents, ForImport, GivesAnew, GivesNamed, GivesOn, HaveStates, PushesNamed, brought, in_columns, states_after};
 ghost use Rattle.plant_import.specs.Numbers.{with_events};
 ghost use Rattle.plant_unit.specs.Summaries as states;
 
 use plant_alarm::{Event, Summary};
-use plant_import::events_after;
+use plant_import::{events_after, has_late};
 use plant_model::{AlarmRow, Row, RowEdit};
 use plant_types::{Fault, List, Sorted, TryCopy};
 use std::alloc::Global;
@@ -92,7 +92,7 @@ fn from_columns(alloc: Global, alarms: &[AlarmRow]) -> Result<Brought, Fault>
     Ok(Brought { summaries, named })
 }
 
-/// The summaries after new events, computed from all kept and new events.
+/// The summaries after new events, computed from kept and new events.
 fn from_events(
     alloc: Global,
     alarms: &Sorted<AlarmRow>,
@@ -182,42 +182,42 @@ fn push_named(
     Ok(())
 }
 
-/// The summaries after a file's new rows. `count` is the number of events before. The summaries are continued from the
-/// alarms' rows, unless `kept` has all events, as it does if a row of the file comes late.
+/// The summaries after the new ones of these rows of a file, `fresh`. They are continued from the alarms' rows; or, if a
+/// row comes late, computed from `kept`, which then has all events of the alarms that the file names.
 fn after_file(
     alloc: Global,
     alarms: &Sorted<AlarmRow>,
     kept: &Sorted<Event>,
-    count: u32,
+    rows: &[Event],
     fresh: &Sorted<Event>,
 ) -> Result<Brought, Fault>
     ensures summaries { IfOk result (λ all. length all.summaries ≡ length alarms.now) }
     ensures named { IfOk result (λ all. length all.named ≡ length alarms.now) }
-    ensures value { ForImport alarms.now kept.now count fresh.now
-        (λ es added. Gives result (brought alarms.now (with_events es added) added)) }
+    ensures value { ForImport alarms.now kept.now rows.now fresh.now
+        (λ es added. IfOk result (HaveStates alarms.now es added)) }
     ensures err { OnlyMemory result }
 {
-    if count > 0 && kept.len() == count as usize {
+    if has_late(alloc, kept, rows)? {
         from_events(alloc, alarms, kept, fresh)
     } else {
         from_rows(alloc, alarms, fresh)
     }
 }
 
-/// Appends the changes of the alarms that a file's new rows name; these rows are ordered by number here. `kept` are the
-/// events that the file needs, out of `count`.
+/// Appends the changes of the alarms that the new ones of these rows of a file name; the new ones are ordered by number
+/// here. `kept` are the events that the file needs.
 pub fn push_alarms(
     alloc: Global,
     changes: &mut List<RowEdit>,
     alarms: &Sorted<AlarmRow>,
     kept: &Sorted<Event>,
-    count: u32,
+    rows: &[Event],
     fresh: &Sorted<Event>,
 ) -> Result<(), Fault>
-    ensures value { ForImport alarms.now kept.now count fresh.now
+    ensures value { ForImport alarms.now kept.now rows.now fresh.now
         (λ es added. OnOk result (changes.new ≡ changes.old ++ states_after es added alarms.now)) }
     ensures err { OnlyMemory result }
 {
-    let all = after_file(alloc, alarms, kept, count, fresh)?;
+    let all = after_file(alloc, alarms, kept, rows, fresh)?;
     push_named(alloc, changes, alarms.as_slice(), &all)
 }

@@ -87,7 +87,7 @@ fn import_changes(
     changes.push(RowEdit::Put(Row::Unit(row)))?;
     let (alarms, kept) = (&part.rows.alarms, &part.rows.events);
     let rising = in_rising_number(alloc, added)?;
-    push_alarms(alloc, &mut changes, alarms, kept, part.count, &rising)?;
+    push_alarms(alloc, &mut changes, alarms, kept, rows, &rising)?;
     changes.push(RowEdit::PutEvents(rising.into_list()))?;
     Ok(changes)
 }

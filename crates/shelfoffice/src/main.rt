@@ -2,7 +2,7 @@
 //! status.
 #![tactic(auto)]
 
-use plant_server::ExitStatus;
+use plant_server::{ExitStatus, HostNet};
 use plant_wire::{FromRead, ToWrite};
 use sqlite::Unknown;
 use std::env;
@@ -22,8 +22,10 @@ fn main(rt: HostRuntime) -> ExitCode {
     let mut input = FromRead::new(rt.stdin());
     let mut output = ToWrite::new(rt.stdout());
     let mut errors = rt.stderr();
+    let mut net = HostNet::new(&rt);
     let (status, _) = plant_server::command(
         &rt,
+        &mut net,
         words.as_slice(),
         &mut input,
         &mut output,

@@ -65,7 +65,7 @@ own_after a (r ∷ rs) es order rises h =
     ++ own a rs ≡ (if b then r ∷ own a rs else own a rs)) [ true ↦ refl | false ↦ refl ])
 
 -- what holds of each of some events holds of each of them in rising number
-each_puts : (P : Event → Type 0) (rs es : List Event) → Each P rs → Each P es → Each P (with_events es rs)
+pub each_puts : (P : Event → Type 0) (rs es : List Event) → Each P rs → Each P es → Each P (with_events es rs)
 each_puts P [] es h k = k
 each_puts P (r ∷ rs) es h k = each_puts P rs (put_row nat_cmp event_number r es) h.1 (each_put P r es h.0 k)
 

@@ -1,21 +1,21 @@
 -- The events that a file needs give the same result as all events.
-use Rattle.std.specs.BTreeMap.{BTreeMap, Updates, get}
-use Rattle.std.specs.{Cmp.{eq_by_cmp_equiv, Lexicographic.{nat_list_cmp_total}}, List.{list_any, Sorted.{IsPartitionPoint}}}
-use Rattle.std.{specs.{Ordering.{eq_by_cmp}, Set.{unique_keys}}, proofs.lemmas.Bool.{le-ltb, lt-ltb, ltb-false, ltb-true}}
+use Rattle.std.specs.{Cmp.{unsigned_tied}, List.{list_any, Sorted.{IsPartitionPoint}}}
+use Rattle.std.{specs.{Ordering.{eq_by_cmp}, Set.{unique_keys}}, proofs.lemmas.Bool.{eq-eqb, le-ltb, lt-ltb, ltb-true}}
 use Rattle.std.proofs.lemmas.{Bool.Decides.{nat_tests}, List.{length-drop, length-take-le, append-nil, drop_more, take-append-drop, take_more}}
-use Rattle.std.proofs.{lemmas.List.{Filters.{length-filter_both}, Folds.{list_any-append}}, Math.Bool.{and-false, or-false, or-true}}
-use Rattle.std.proofs.Common.{add-one, ap, arith, drop, get_or, refl, subst, suc, sym, take, zero, ◌∙◌, ◌⊎◌, inl, inr, Bool, List, None, Option, [], cond, false, filter, if◌then◌else◌, length, nat_lt, not, option_map, true, ℕ, ◌&&◌, ◌++◌, ◌+◌, ◌-◌, ◌<◌, ◌∷◌, ◌≡◌, ◌≤◌, ◌||◌, Ok, Result, Some, unwrap_or, nat_cmp}
+use Rattle.std.proofs.{lemmas.{List.{Filters.{length-filter_both}, Folds.{list_any-append}}, Map.Views.{any-filter_same}}, Math.Bool.{and-false, or-true}}
+use Rattle.std.proofs.Common.{add-one, ap, arith, drop, get_or, refl, subst, suc, sym, take, zero, ◌∙◌, ◌⊎◌, inl, inr, Bool, List, None, Option, [], false, filter, if◌then◌else◌, length, nat_lt, not, option_map, true, ℕ, ◌&&◌, ◌++◌, ◌+◌, ◌-◌, ◌<◌, ◌∷◌, ◌≡◌, ◌≤◌, ◌||◌, Ok, Result, Some, nat_cmp}
 use Rattle.plant_alarm.specs.declared.event.Event.{Event}
 use Rattle.plant_import.specs.declared.{bad_file.BadFile.{BadFile}, merging.Merged.{Merged}}
 use Rattle.plant_import.specs.Merging.{IsRising, clashes, first_fault, fresh, merge, merged_or, out_of_order, same_event}
-use Rattle.plant_import.specs.Needed.{from_last_before, has_late, is_before_all, is_late, is_overtaken, needed}
+use Rattle.plant_import.specs.Needed.{around, beside, from_last_before, has_late, is_around, is_before_all, is_beside, is_late, is_overtaken, names, needed}
 use Rattle.plant_import.specs.Numbers.{event_number, has_number, is_other, new_numbers, numbers_of, with_events}
-use Rattle.plant_import.{specs.{Reached.{AreReached}, Reading.{bad}}, proofs.public.Counted.{same_fault}}
-use Rattle.plant_import.proofs.public.{Nearest.{order_below, other_number}, Placed.{EachBehind, Rises, other, puts_after, puts_none, rises_of}}
+use Rattle.plant_import.{specs.{Reached.{is_passed}, Reading.{bad}}, proofs.public.{Counted.{same_fault}, FirstLaws.{passed_near}}}
+use Rattle.plant_import.proofs.public.AroundLaws.{Surrounds, pairs_kept, same_around, same_numbered, surrounds}
+use Rattle.plant_import.proofs.public.{Nearest.{order_below, other_number}, Placed.{EachBehind, Rises, other, other_above, puts_after, puts_none, rises_of}}
 use Rattle.plant_import.proofs.public.Risings.{Before, Rising, in_number_order, is_rising, rising_of}
 use Rattle.plant_import.proofs.public.EachLaws.{Each, any_led, any_none, any_same, each_back, each_both, each_filter, each_from_all, each_front}
 use Rattle.plant_import.proofs.public.EachLaws.{each_of, each_weaker, filter_front, filter_parts, pairs_before, pairs_drop, pairs_weaker, parted_each}
-use Rattle.plant_types.specs.{KeyedRows.{IsInOrder}, Names.{Name, same_name, name_cmp}, Options.{or_else}}
+use Rattle.plant_types.{specs.{KeyedRows.{IsInOrder}, Names.{Name, same_name}, Options.{or_else}}, proofs.public.Halves.{left}}
 
 -- as many pass as stand before the place where they end
 pub parted_count : {X : Type 0} (q : X → Bool) (xs : List X) (p : ℕ) → IsPartitionPoint (λ x. q x ≡ true) (λ x. q x ≡ false) xs p → p ≤ length xs
@@ -175,14 +175,72 @@ fresh_same kept near [] h = refl
 fresh_same kept near (e ∷ rows) h =
     λ i. (if not (sym h.0.same i) then e ∷ [] else []) ++ fresh_same (kept ++ e ∷ []) (near ++ e ∷ []) rows (each_seen_more kept near e rows h.1) i
 
--- the events that a file needs
-needed_cut : (kept rows : List Event) → IsInOrder nat_cmp event_number kept → AreCut rows kept (needed kept rows)
-needed_cut kept rows h =
-    elim (has_late kept rows) as (λ b. AreCut rows kept (if b then
-    kept else from_last_before kept rows)) [ true ↦ inl refl | false ↦ cut rows kept h ]
+-- a row that finds around it events that are among others
+seen_around : (q : Event → Bool) (kept : List Event) (e : Event) (mid : List Event) → Surrounds kept e mid → Each (λ k. q k ≡ true) mid
+    → SeenSame kept (filter q kept) e
+seen_around q kept e mid s all =
+    record {
+      same =
+          same_numbered q (same_event e) kept e mid s all (λ k lt. (other_number e k (λ t. absurd (omega (arith, t, lt)))).0)
+          (λ k lt. (other_number e k (λ t. absurd (omega (arith, t, lt)))).0);
+      clash =
+          same_numbered q (clashes e) kept e mid s all (λ k lt. (other_number e k (λ t. absurd (omega (arith, t, lt)))).1)
+          (λ k lt. (other_number e k (λ t. absurd (omega (arith, t, lt)))).1);
+      order = same_around q (out_of_order e) kept e mid s all s.away.before s.away.behind;
+    }
 
+number_around : (q : Event → Bool) (kept : List Event) (e : Event) (mid : List Event) → Surrounds kept e mid → Each (λ k. q k ≡ true) mid
+    → list_any (has_number e.seq) kept ≡ list_any (has_number e.seq) (filter q kept)
+number_around q kept e mid s all =
+    same_numbered q (has_number e.seq) kept e mid s all (λ k. other e.seq k.seq) (λ k. other_above e.seq k.seq)
+
+-- the events around a row, and those of its alarm, are beside the rows
+all_there : (xs : List Event) → Each (λ k. list_any (has_number k.seq) xs ≡ true) xs
+all_there [] = tt
+all_there (x ∷ xs) = (
+  ap (λ b. b || list_any (has_number x.seq) xs) (unsigned_tied x.seq x.seq ∙ eq-eqb x.seq x.seq refl),
+  each_weaker (λ k. list_any (has_number k.seq) xs ≡ true) (λ k. list_any (has_number k.seq) (x ∷ xs) ≡ true)
+      (λ k t. ap (λ b. has_number k.seq x || b) t ∙ or-true (has_number k.seq x)) xs (all_there xs),
+)
+
+each_some : (f : Event → Event → Bool) (rows : List Event) → Each (λ e. (k : Event) → f e k ≡ true → list_any (λ r. f r k) rows ≡ true) rows
+each_some f [] = tt
+each_some f (e ∷ rows) = (
+  λ k t. ap (λ b. b || list_any (λ r. f r k) rows) t,
+  each_weaker (λ r. (k : Event) → f r k ≡ true → list_any (λ x. f x k) rows ≡ true)
+      (λ r. (k : Event) → f r k ≡ true → list_any (λ x. f x k) (e ∷ rows) ≡ true)
+      (λ r h k t. ap (λ b. f e k || b) (h k t) ∙ or-true (f e k)) rows (each_some f rows),
+)
+
+-- what a row of the file says of the events beside all its rows
+record IsOfFile (kept rows : List Event) (e : Event) : Type 0 where
+  pub named : (k : Event) → same_name e.tag k.tag ≡ true → is_beside kept rows k ≡ true
+  pub close : Each (λ k. is_beside kept rows k ≡ true) (around kept e.seq)
+
+of_file : (kept rows : List Event) → Each (IsOfFile kept rows) rows
+of_file kept rows =
+    each_both (λ e. (k : Event) → same_name e.tag k.tag ≡ true → names rows k.tag ≡ true)
+    (λ e. (k : Event) → list_any (has_number k.seq) (around kept e.seq) ≡ true → is_around kept rows k.seq ≡ true) (IsOfFile kept rows)
+    (λ e tags places. record {
+      named = λ k t. ap (λ b. b || is_around kept rows k.seq) (tags k t);
+      close =
+          each_weaker (λ k. list_any (has_number k.seq) (around kept e.seq) ≡ true) (λ k. is_beside kept rows k ≡ true)
+          (λ k t. ap (λ b. names rows k.tag || b) (places k t) ∙ or-true (names rows k.tag)) (around kept e.seq) (all_there (around kept e.seq));
+    })
+    rows (each_some (λ e k. same_name e.tag k.tag) rows) (each_some (λ e k. list_any (has_number k.seq) (around kept e.seq)) rows)
+
+beside_seen : (kept rows : List Event) → IsRising kept → Each (SeenSame kept (beside kept rows)) rows
+beside_seen kept rows h =
+    each_weaker (IsOfFile kept rows) (SeenSame kept (beside kept rows))
+    (λ e of. seen_around (is_beside kept rows) kept e (around kept e.seq) (surrounds kept e h) of.close) rows (of_file kept rows)
+
+-- the events that a file needs
 needed_seen : (kept rows : List Event) → IsRising kept → Each (SeenSame kept (needed kept rows)) rows
-needed_seen kept rows h = all_seen rows kept (needed kept rows) (rising_of kept h) (needed_cut kept rows (in_number_order kept h))
+needed_seen kept rows h =
+    elim (has_late kept rows) as (λ b. Each (SeenSame kept (if b then beside kept rows else from_last_before kept rows)) rows) [
+      | true ↦ beside_seen kept rows h
+      | false ↦ all_seen rows kept (from_last_before kept rows) (rising_of kept h) (cut rows kept (in_number_order kept h))
+    ]
 
 -- with them a file has the same first fault, new rows, new numbers and late rows as with all kept events
 pub needed_merge : (kept rows : List Event) (tags : List Name) (now : ℕ) → IsRising kept
@@ -225,19 +283,33 @@ others_same : (kept near rows : List Event) → Each (SameNumbers kept near) row
 others_same kept near [] h = refl
 others_same kept near (e ∷ rows) h = λ i. if not (h.0.number i) then e ∷ others_same kept near rows h.1 i else others_same kept near rows h.1 i
 
-late_same : (rows kept near : List Event) → AreCut rows kept near → has_late near rows ≡ has_late kept rows
-late_same rows kept near h =
-    any_same (is_late near)
-    (is_late kept) rows (each_weaker (SameNumbers kept near) (λ e. is_late near e ≡ is_late kept e) (λ e s i. s.overtaken i
-    && not (s.number i)) rows (same_numbers rows kept near h))
+beside_numbers : (kept rows : List Event) → IsRising kept → Each (SameNumbers kept (beside kept rows)) rows
+beside_numbers kept rows h =
+    each_weaker (IsOfFile kept rows) (SameNumbers kept (beside kept rows))
+    (λ e of. record {
+      number = sym (number_around (is_beside kept rows) kept e (around kept e.seq) (surrounds kept e h) of.close);
+      overtaken =
+          any-filter_same (λ k. same_name e.tag k.tag && nat_lt e.seq k.seq) (is_beside kept rows) true
+          (λ k t. of.named k (left (same_name e.tag k.tag) (nat_lt e.seq k.seq) t)) kept;
+    })
+    rows (of_file kept rows)
+
+needed_same : (kept rows : List Event) → IsRising kept → Each (SameNumbers kept (needed kept rows)) rows
+needed_same kept rows h =
+    elim (has_late kept rows) as (λ b. Each (SameNumbers kept (if b then beside kept rows else from_last_before kept rows)) rows) [
+      | true ↦ beside_numbers kept rows h
+      | false ↦ same_numbers rows kept (from_last_before kept rows) (cut rows kept (in_number_order kept h))
+    ]
 
 pub needed_numbers : (kept rows : List Event) → IsRising kept → new_numbers (needed kept rows) rows ≡ new_numbers kept rows
 needed_numbers kept rows h =
-    ap (λ l. unique_keys (eq_by_cmp nat_cmp) (numbers_of l))
-    (others_same kept (needed kept rows) rows (same_numbers rows kept (needed kept rows) (needed_cut kept rows (in_number_order kept h))))
+    ap (λ l. unique_keys (eq_by_cmp nat_cmp) (numbers_of l)) (others_same kept (needed kept rows) rows (needed_same kept rows h))
 
 pub needed_late : (kept rows : List Event) → IsRising kept → has_late (needed kept rows) rows ≡ has_late kept rows
-needed_late kept rows h = late_same rows kept (needed kept rows) (needed_cut kept rows (in_number_order kept h))
+needed_late kept rows h =
+    any_same (is_late (needed kept rows))
+    (is_late kept) rows (each_weaker (SameNumbers kept (needed kept rows)) (λ e. is_late (needed kept rows) e ≡ is_late kept e) (λ e s i. s.overtaken i
+    && not (s.number i)) rows (needed_same kept rows h))
 
 -- a row is late if it is overtaken among the near events, and new among all
 abbrev pub late_near : List Event → List Event → Event → Bool
@@ -249,63 +321,22 @@ near_late kept rows h =
     (is_late kept) rows (each_weaker (SameNumbers kept (from_last_before kept rows)) (λ e. late_near kept rows e ≡ is_late kept e) (λ e s i. s.overtaken i
     && is_other kept e) rows (same_numbers rows kept (from_last_before kept rows) (cut rows kept h)))
 
+pub late_told : (kept rows near : List Event) → IsInOrder nat_cmp event_number kept → near ≡ from_last_before kept rows
+    → list_any (λ k. is_passed kept rows k.tag k.seq) near ≡ has_late kept rows
+late_told kept rows near h is =
+    ap (list_any (λ k. is_passed kept rows k.tag k.seq)) is ∙ passed_near kept rows (from_last_before kept rows) ∙ near_late kept rows h
+
 -- they rise as the kept ones do, and are no more
 pub needed_rises : (kept rows : List Event) → IsRising kept → IsRising (needed kept rows)
 needed_rises kept rows h =
-    elim (has_late kept rows) as (λ b. IsRising (if b then kept else from_last_before kept rows)) [
-      | true ↦ h
+    elim (has_late kept rows) as (λ b. IsRising (if b then beside kept rows else from_last_before kept rows)) [
+      | true ↦ is_rising (beside kept rows) (pairs_kept Before (is_beside kept rows) kept (rising_of kept h))
       | false ↦ is_rising (from_last_before kept rows) (pairs_drop Before (length (filter (is_before_all rows) kept) - 1) kept (rising_of kept h))
     ]
 
 pub needed_few : (kept rows : List Event) → IsRising kept → length (needed kept rows) ≤ length kept
 needed_few kept rows h =
-    elim (has_late kept rows) as (λ b. length (if b then kept else from_last_before kept rows) ≤ length kept) [
-      | true ↦ omega arith
+    elim (has_late kept rows) as (λ b. length (if b then beside kept rows else from_last_before kept rows) ≤ length kept) [
+      | true ↦ omega (arith, length-filter_both (is_beside kept rows) (λ x. not (is_beside kept rows x)) (λ x. refl) kept)
       | false ↦ omega (arith, length-drop (length (filter (is_before_all rows) kept) - 1) kept)
     ]
-
--- the last number of each alarm, one event after another
-overtaken_more : (a : Name) (n : ℕ) (es : List Event) (e : Event)
-    → list_any (λ k. same_name a k.tag && nat_lt n k.seq)
-    (es ++ e ∷ []) ≡ (list_any (λ k. same_name a k.tag && nat_lt n k.seq) es || (same_name a e.tag && nat_lt n e.seq))
-overtaken_more a n es e = list_any-append (λ k. same_name a k.tag && nat_lt n k.seq) es (e ∷ [])
-    ∙ ap (λ b. list_any (λ k. same_name a k.tag && nat_lt n k.seq) es || b) (or-false (same_name a e.tag && nat_lt n e.seq))
-
--- of the alarm's own events the last has the greatest number
-lt_last : (a : Name) (n : ℕ) (es : List Event) (e : Event) → Each (λ k. k.seq < e.seq) es
-    → (list_any (λ k. same_name a k.tag && nat_lt n k.seq) es || nat_lt n e.seq) ≡ nat_lt n e.seq
-lt_last a n es e h = by (nat_lt n e.seq) refl where
-  by : (b : Bool) → nat_lt n e.seq ≡ b → (list_any (λ k. same_name a k.tag && nat_lt n k.seq) es || b) ≡ b
-  by true t = or-true (list_any (λ k. same_name a k.tag && nat_lt n k.seq) es)
-  by false f =
-      let le = ltb-false n e.seq f in
-      ap (λ b. b || false)
-      (any_none (λ k. same_name a k.tag
-      && nat_lt n k.seq) es (each_weaker (λ k. k.seq < e.seq) (λ k. (same_name a k.tag && nat_lt n k.seq) ≡ false)
-      (λ k lt. ap (λ b. same_name a k.tag && b) (le-ltb n k.seq (omega (arith, lt, le))) ∙ and-false _) es h))
-
-reached_more : (old new : BTreeMap Name ℕ) (es : List Event) (e : Event) (t : Name) → t ≡ e.tag → Each (λ k. k.seq < e.seq) es
-    → Updates name_cmp old new t (Some e.seq) → AreReached old es → AreReached new (es ++ e ∷ [])
-reached_more old new es e t own h put are a n =
-    ap (λ o. unwrap_or (option_map (nat_lt n) o) false) (put.0 a)
-    ∙ (λ i. unwrap_or
-    (option_map (nat_lt n) (cond ((ap (λ x. same_name x a) own
-    ∙ (eq_by_cmp_equiv nat_list_cmp_total).symm e.tag a) i) (Some e.seq) (get name_cmp old a))) false)
-    ∙ elim (same_name a e.tag) as (λ b. unwrap_or (option_map (nat_lt n) (cond b (Some e.seq) (get name_cmp old a))) false
-    ≡ (list_any (λ k. same_name a k.tag && nat_lt n k.seq) es || (b && nat_lt n e.seq))) [
-      | true ↦ sym (lt_last a n es e h)
-      | false ↦ are a n ∙ sym (or-false (list_any (λ k. same_name a k.tag && nat_lt n k.seq) es))
-    ]
-    ∙ sym (overtaken_more a n es e)
-
-pub reached_next : (events : List Event) (i : ℕ) (e : Event) (t : Name) (old new : BTreeMap Name ℕ) → IsInOrder nat_cmp event_number events
-    → i < length events → e ≡ get_or events i e → t ≡ e.tag → Updates name_cmp old new t (Some e.seq) → AreReached old (take i events)
-    → AreReached new (take (i + 1) events)
-reached_next events i e t old new h lt is own put are =
-    let whole : events ≡ take i events ++ e ∷ drop (i + 1) events = sym (take-append-drop i events)
-    ∙ ap (λ l. take i events ++ l) (drop_more events i e lt ∙ ap (λ x. x ∷ drop (i + 1) events) (sym is)) in
-    let low : Each (λ k. k.seq < e.seq) (take i events) =
-    pairs_before (λ (x y : Event). x.seq < y.seq) (take i events)
-    (drop (i + 1) events) e (subst (λ (l : List Event). Rises event_number l) whole (rises_of event_number events h)) in
-    subst (AreReached new) (sym (take_more events i e lt ∙ ap (λ x. take i events ++ x ∷ []) (sym is)))
-    (reached_more old new (take i events) e t own low put are)

@@ -34,6 +34,7 @@ returns-in-Err g c = inl (
     unread = refl;
     written = refl;
     printed = refl;
+    unlistened = refl;
     said = c.report_unopened.ensures.said;
   },
   c.in-Err.ensures.left,

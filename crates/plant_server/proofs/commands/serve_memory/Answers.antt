@@ -25,6 +25,7 @@ returns-in-Err g c = (
     unread = refl;
     written = refl;
     printed = refl;
+    unlistened = refl;
     said = c.report_unopened.ensures.said;
   },
   c.in-Err.ensures.named,

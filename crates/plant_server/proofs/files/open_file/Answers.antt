@@ -23,26 +23,26 @@ returns-in-Ok-open_books-clause-crash g c here m held clean =
     c.in-Ok-open_books.ensures.crash m (kept (image_at g.S.Start) conn c.in-Ok.ensures.opened (c.in-Ok.ensures.found here) m held) clean
     (λ early. (c.in-Ok.ensures.opened early).0.is_open)
 
-pub returns-in-Err-default-Some-clause-left : goal.returns-in-Err-default-Some-clause-left
-returns-in-Err-default-Some-clause-left g c = rw c.in-Err-default-Some.field-0-1-is at c.in-Err-default-Some.ensures.left
-
 pub returns-in-Err-clause-left : goal.returns-in-Err-clause-left
-returns-in-Err-clause-left g c =
+returns-in-Err-clause-left g c = c.in-Err.ensures.left c.args.admin
+
+pub returns-in-Err-open_books-clause-left : goal.returns-in-Err-open_books-clause-left
+returns-in-Err-open_books-clause-left g c =
     let was = file_state c.in-Ok.conn in
     let opened = c.in-Ok.ensures in
-    let read = c.in-Err.ensures.read in
+    let read = c.in-Err-open_books.ensures.read in
     record {
       still = λ here db held. record {
         shown = λ honest. read.same honest ∙ same_now (image_at g.S.Start) was opened.opened (opened.found here) (read.honest honest) db held;
         left = λ clean trees may.
             let early : HasCleanDisk was = omega (arith, clean, read.quiet.clean) in
             elim (read.quiet.crash clean trees may) [
-              | inl left ↦ c.in-Err.ensures.settled trees (opened.opened early).0.is_open left ∙ (opened.found here early).holds db.trees held.trees
+              | inl left ↦ c.in-Err-open_books.ensures.settled trees (opened.opened early).0.is_open left ∙ (opened.found here early).holds db.trees held.trees
               | inr none ↦ absurd none
             ];
       };
       cause = λ here db held not_this honest own.
-          c.in-Err.ensures.other not_this honest
+          c.in-Err-open_books.ensures.other not_this honest
           (subst (λ (d : Database). IsThisOffice c.args.admin d)
           (sym (same_now (image_at g.S.Start) was opened.opened (opened.found here) (read.honest honest) db held)) own);
     }

@@ -13,5 +13,5 @@ returns c =
     let first = c.in_ok-arg.ensures.shape c.number_arg.ensures.local ∙ ap₂ with_rule refl port in
     let second = c.in_ok-arg-2.ensures.shape c.number_arg-2.ensures.local ∙ ap₂ with_rule first connections in
     let third = c.in_ok-command.ensures.shape c.number_arg-3.ensures.local ∙ ap₂ with_rule second clients in
-    let fourth = c.in_ok-arg-3.ensures.shape c.in_ok-forever_arg.ensures.local ∙ ap₂ with_rule third c.in_ok-forever_arg.ensures.rule in
+    let fourth = c.in_ok-arg-3.ensures.shape c.forever_arg.ensures.local ∙ ap₂ with_rule third c.forever_arg.ensures.rule in
     IfOk-weaker c.arg-5.result _ _ (λ r it. it.shape c.number_arg-4.ensures.local ∙ ap₂ with_rule fourth idle) c.arg-5.ensures

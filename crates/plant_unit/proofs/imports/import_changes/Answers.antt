@@ -11,7 +11,7 @@ returns-clause-value c u es of new =
     let put = Put (UnitPut (record c.args.unit.now { last_s = c.args.now })) in
     let first : c.push.new.self ≡ put ∷ [] = search rules in
     let rising = c.in_ok-rising.ensures.value in
-    let states = c.in_ok-push_alarms.ensures.value es c.args.rows.now c.args.added of.needed_are of.count_is new rising of.summaries in
+    let states = c.in_ok-push_alarms.ensures.value es c.args.added of.needed_are new rising of.summaries in
     let own : put ≡ Put (UnitPut (record (unit_read c.args.part.now.rows) { last_s = c.args.now })) =
     ap (λ (r : UnitRow). Put (UnitPut (record r { last_s = c.args.now }))) (sym c.requires) in
     c.in_ok-push-2.ensures.ok
