@@ -1,8 +1,8 @@
 //! The simplest keeper of books: lists in memory, with no store behind them. Nothing of it survives a crash.
 
 ghost use Rattle.std.specs.Prelude.{◌≡◌, ⊤};
+ghost use Rattle.std.proofs.Props.{props};
 ghost use Rattle.plant_books.specs.{Contents.{no_units}, Counting.{CountsFault}, Listed.{AreCountable, IsListed}};
-ghost use Rattle.plant_books.specs.declared.plain.Plain.{Plain as TheBooks};
 
 use crate::books::{Books, MineRow, MineUnit};
 use crate::opened::{
@@ -31,10 +31,12 @@ pub struct Plain {
     administrator: Person,
     units: Sorted<OpenedUnit>,
     alloc: Global,
-    ghost countable: { AreCountable units },
+    ghost countable: { AreCountable units } by { Prim.hlevel props },
 }
 
 impl Plain {
+    ghost use Rattle.plant_books.specs.declared.plain.Plain.{Plain as TheBooks};
+
     /// Books without units. It takes no memory. No books of this kind have ever failed with `Fault::Store`.
     pub fn new(alloc: Global, administrator: Person) -> Plain
         ensures represents { ⟦<Plain as Books>⟧.represents result (no_units administrator) }
