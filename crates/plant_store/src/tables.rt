@@ -296,42 +296,90 @@ impl<S: Alter> Books for Tables<S> {
 
     fn taken(&mut self, unit: &UnitCode) -> Result<bool, Fault> {
         let outcome = unit::taken(self.alloc, &mut self.conn, unit);
-        conclude(&mut self.conn, &mut self.stores, &mut self.shut, self.in_memory, outcome)
+        conclude(
+            &mut self.conn,
+            &mut self.stores,
+            &mut self.shut,
+            self.in_memory,
+            outcome,
+        )
     }
 
     fn rows(&mut self, unit: &UnitCode) -> Result<Option<UnitRows>, Fault> {
         let outcome = unit::rows_of(self.alloc, &mut self.conn, unit);
-        conclude(&mut self.conn, &mut self.stores, &mut self.shut, self.in_memory, outcome)
+        conclude(
+            &mut self.conn,
+            &mut self.stores,
+            &mut self.shut,
+            self.in_memory,
+            outcome,
+        )
     }
 
     fn rows_but_history(&mut self, unit: &UnitCode) -> Result<Option<UnitRows>, Fault> {
         let outcome = unit::rows_but_history(self.alloc, &mut self.conn, unit);
-        conclude(&mut self.conn, &mut self.stores, &mut self.shut, self.in_memory, outcome)
+        conclude(
+            &mut self.conn,
+            &mut self.stores,
+            &mut self.shut,
+            self.in_memory,
+            outcome,
+        )
     }
 
     fn events(&mut self, unit: &UnitCode) -> Result<Sorted<Event>, Fault> {
         let outcome = unit::events(self.alloc, &mut self.conn, unit);
-        conclude(&mut self.conn, &mut self.stores, &mut self.shut, self.in_memory, outcome)
+        conclude(
+            &mut self.conn,
+            &mut self.stores,
+            &mut self.shut,
+            self.in_memory,
+            outcome,
+        )
     }
 
     fn part(&mut self, call: &Call) -> Result<Option<UnitPart>, Fault> {
         let outcome = part::part_of(self.alloc, &mut self.conn, call);
-        conclude(&mut self.conn, &mut self.stores, &mut self.shut, self.in_memory, outcome)
+        conclude(
+            &mut self.conn,
+            &mut self.stores,
+            &mut self.shut,
+            self.in_memory,
+            outcome,
+        )
     }
 
     fn held(&mut self, person: &Person, now: Moment) -> Result<List<UnitCode>, Fault> {
         let outcome = mine::held(self.alloc, &mut self.conn, person, now);
-        conclude(&mut self.conn, &mut self.stores, &mut self.shut, self.in_memory, outcome)
+        conclude(
+            &mut self.conn,
+            &mut self.stores,
+            &mut self.shut,
+            self.in_memory,
+            outcome,
+        )
     }
 
     fn mine_units(&mut self, person: &Person, now: Moment) -> Result<List<MineUnit>, Fault> {
         let outcome = mine::mine_units(self.alloc, &mut self.conn, person, now);
-        conclude(&mut self.conn, &mut self.stores, &mut self.shut, self.in_memory, outcome)
+        conclude(
+            &mut self.conn,
+            &mut self.stores,
+            &mut self.shut,
+            self.in_memory,
+            outcome,
+        )
     }
 
     fn mine_shelves(&mut self, person: &Person, now: Moment) -> Result<List<MineRow>, Fault> {
         let outcome = shelves::mine_shelves(self.alloc, &mut self.conn, person, now);
-        conclude(&mut self.conn, &mut self.stores, &mut self.shut, self.in_memory, outcome)
+        conclude(
+            &mut self.conn,
+            &mut self.stores,
+            &mut self.shut,
+            self.in_memory,
+            outcome,
+        )
     }
 
     fn apply(
@@ -341,6 +389,12 @@ impl<S: Alter> Books for Tables<S> {
         seen: Option<&UnitRows>,
     ) -> Result<(), Fault> {
         let outcome = write::apply(&mut self.conn, unit, changes.as_slice(), seen);
-        conclude(&mut self.conn, &mut self.stores, &mut self.shut, self.in_memory, outcome)
+        conclude(
+            &mut self.conn,
+            &mut self.stores,
+            &mut self.shut,
+            self.in_memory,
+            outcome,
+        )
     }
 }

@@ -8,7 +8,7 @@ use Rattle.sqlite_schema.specs.declared.schema.Column.{Column}
 use Rattle.sqlite_sql.specs.declared.ops.{BinaryOp.TheVariants.{Compare}, CompareOp.TheVariants.{Eq}}
 use Rattle.sqlite_tied.specs.Compute.{everything}
 use Rattle.sqlite_value.specs.{Keys.{ascending}, declared.{keys.Key.{Key}, value.Value.TheVariants.{Null, Int}}}
-use Rattle.plant_store_statements.specs.{Texts.{put_text, rows_text, table_text}, declared.texts.TheConstants.{CREATE_OFFICE, CREATE_GRANTS_BY_PERSON, INSERT_OFFICE, SELECT_OFFICE, UPDATE_UNIT, UPDATE_ALARM, UPDATE_RECORD, UPDATE_CHANGE, DELETE_GRANT, DELETE_SHELF, SELECT_OWN_GRANTS, SELECT_ALARM, SELECT_SHELF, SELECT_SHELF_TAGS, SELECT_HOLDINGS, SELECT_RECORD, SELECT_MATRIX_BANDS, SELECT_MATRIX_CELLS, SELECT_CHANGE, SELECT_LAST_CHANGE}}
+use Rattle.plant_store_statements.specs.{Texts.{put_text, rows_text, table_text}, declared.texts.TheConstants.{CREATE_OFFICE, CREATE_GRANTS_BY_PERSON, INSERT_OFFICE, SELECT_OFFICE, UPDATE_UNIT, UPDATE_ALARM, UPDATE_RECORD, UPDATE_CHANGE, DELETE_GRANT, DELETE_SHELF, SELECT_OWN_GRANTS, SELECT_ALARM, SELECT_SHELF, SELECT_SHELF_TAGS, SELECT_RECORD, SELECT_MATRIX_BANDS, SELECT_MATRIX_CELLS, SELECT_CHANGE, SELECT_LAST_CHANGE}}
 use Rattle.plant_store_columns.specs.{Kept.{plain_query}, Shape.{Shape, table_in}, declared.tables.TableKind.{TableKind, TheVariants.{Units}}}
 use Rattle.plant_store_columns.specs.Tables.{shape, office_table, unit_shape, grant_shape, alarm_shape, shelf_shape, band_shape, cell_shape, by_person}
 use Rattle.plant_store_columns.specs.Tables.{no_schema, books_schema, record_shape, change_shape, schema_with, table_count}
@@ -210,11 +210,3 @@ pub last_change : Asks books_schema SELECT_LAST_CHANGE.now (record (plain_query 
     ∷ []) falling_2) { limit = lit (Int (pos 1)) }) (codes "number" ∷ [])
 unfolding understood everything
 last_change = record { is = refl; unlisted = refl; plain = (refl, refl) }
-
-abbrev pub by_holder : List Term
-by_holder = op2 (Compare Eq Binary) (col 1 2) (col 0 0) ∷ []
-
-pub holdings : Asks books_schema SELECT_HOLDINGS.now (plain_query (inner 3 end) by_holder (col 1 1 ∷ col 1 4 ∷ []) (by_key grant_shape))
-    (codes "unit" ∷ codes "end_s" ∷ [])
-unfolding understood everything
-holdings = record { is = refl; unlisted = refl; plain = (refl, refl) }
