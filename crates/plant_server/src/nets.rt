@@ -80,10 +80,12 @@ fn idle_time(service: Service) -> Option<Duration>
 
 /// The limits of a port of many connections at once.
 fn limits_of(service: Service) -> Limits
+    ensures connections { result.connections ≡ service.connections }
     ensures clients { result.clients ≡ service.clients }
     ensures idle { option_map as_nanos result.idle ≡ option_map (λ s. s * 1_000_000_000) service.idle }
 {
     Limits {
+        connections: service.connections,
         clients: service.clients as usize,
         idle: idle_time(service),
     }
