@@ -1,14 +1,23 @@
--- A person's grants in all units: with the last moment of their unit, and with the shelves of their unit and the last
--- return of the shelves' alarms.
-use Rattle.std.specs.{FinMap.{keys}, Ordering.{nat_cmp, ordering_then}, declared.cmp.Ordering.{Ordering}}
+-- A person's grants in all units: alone, with the last moment of their unit, and with the shelves of their unit and the
+-- last return of the shelves' alarms.
+use Rattle.std.specs.{BTreeSet.{IsFromIterResult}, FinMap.{keys}, Ordering.{nat_cmp, ordering_then}, declared.cmp.Ordering.{Ordering}}
 use Rattle.std.specs.Prelude.{flat_map, Bool, List, None, Option, Some, [], filter, if◌then◌else◌, map, not, ℕ, ◌&&◌, ◌++◌, ◌∷◌, ◌≡◌}
 use Rattle.sqlite_value.specs.{Order.{Row}, declared.value.Value.TheVariants.{Text}}
 use Rattle.plant_books.specs.{Contents.{Content, rows_in}, declared.books.{MineRow.{MineRow}, MineUnit.{MineUnit}}}
 use Rattle.plant_store_columns.specs.{Codes.{number, open_number, role}, Tables.{shelf_shape}}
 use Rattle.plant_model.specs.{Grants.{is_before}, declared.rows.{GrantRow.{GrantRow}, ShelfRow.{ShelfRow}, UnitRow.{UnitRow}, UnitRows.{UnitRows}}}
 use Rattle.plant_model.specs.steps.RowFacts.{last_return_in}
-use Rattle.plant_store.specs.declared.{mine.{UnitGrant.{UnitGrant}}, shelves.ShelfGrant.{ShelfGrant}}
+use Rattle.plant_store.specs.declared.{mine.{Holding.{Holding}, UnitGrant.{UnitGrant}}, shelves.ShelfGrant.{ShelfGrant}}
 use Rattle.plant_types.specs.{Names.{Name, name_cmp, same_name}, Roles.{role_no, same_role}}
+
+-- as the query shows a grant
+abbrev pub holding_cells : Holding → Row
+holding_cells h = Text h.unit ∷ open_number h.end_s ∷ []
+
+-- the codes are those of the units of the grants that have not ended, each once, rising
+abbrev pub AreCodes : ℕ → List Holding → List Name → Type 0
+AreCodes t holdings codes =
+    IsFromIterResult name_cmp (map (λ h. h.unit) (filter (λ h. is_before t h.end_s) holdings)) (record { keys = codes })
 
 -- each of these rows of a unit, with each grant of the person there: unit by unit, and grant by grant
 abbrev pub lines_of : {X L : Type 0} → (Name → GrantRow → X → L) → (UnitRows → List X) → Content → Name → List L

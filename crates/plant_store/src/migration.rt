@@ -56,7 +56,7 @@ fn take_into_blank<O: Alter, N: Alter>(
     }
     match take_over(alloc, from, into, admin) {
         Ok(()) => Ok(()),
-        Err(error) => Err(fault_of(&error, false)),
+        Err(error) => Err(fault_of(&error)),
     }
 }
 
@@ -106,7 +106,7 @@ pub fn migrate<O: Alter, N: Alter>(
             Err(fault) => StoreFault::Fault(fault),
         },
         Ok(false) => StoreFault::NotThisStore,
-        Err(error) => StoreFault::Fault(fault_of(&error, false)),
+        Err(error) => StoreFault::Fault(fault_of(&error)),
     };
     Err(MigrateRefused {
         old,

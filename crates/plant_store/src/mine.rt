@@ -1,8 +1,8 @@
 //! Reads the units in which a person holds roles, with these roles, by queries over all units.
 
-ghost use Rattle.std.specs.Prelude.{◌≡◌, ◌∷◌, [], IfOk, map};
+ghost use Rattle.std.specs.Prelude.{◌≡◌, ◌∷◌, [], IfOk};
 ghost use Rattle.plant_books.specs.Contents.{codes_held, mine_units as units_held};
-ghost use Rattle.plant_store.specs.Mine.{JoinsLine, runs_of, standing_units, started};
+ghost use Rattle.plant_store.specs.Mine.{AreCodes, JoinsLine, holding_cells, runs_of, standing_units, started};
 ghost use Rattle.plant_store.specs.Mine.{unit_line_cells, own_unit_lines};
 ghost use Rattle.plant_store_statements.specs.Reading.{HasNoTransaction, IsOnlyRead, ReadsContent};
 
@@ -13,9 +13,66 @@ use plant_store_columns::decode::{Shown, coded, moment, open_moment, text};
 use plant_store_columns::encode::single;
 use plant_store_statements::memory::{copy_of, push};
 use plant_store_statements::read::read_rows;
+use plant_store_statements::texts::SELECT_HOLDINGS;
 use plant_types::{List, Moment, Person, Role, UnitCode};
 use sqlite::{Alter, Connection, Error, Row};
 use std::alloc::Global;
+use std::collections::BTreeSet;
+
+/// A person's grant: its unit, and its end if any.
+#[derive(Drop)]
+pub struct Holding {
+    pub unit: UnitCode,
+    pub end_s: Option<Moment>,
+}
+
+impl Shown for Holding {
+    ghost width = { 2 };
+
+    ghost cells = { holding_cells };
+
+    fn from_row(alloc: Global, row: &Row) -> Result<Holding, Error> {
+        Ok(Holding {
+            unit: text(alloc, row, 0)?,
+            end_s: open_moment(row, 1)?,
+        })
+    }
+}
+
+/// The units of the grants that have not ended, in order, each once.
+fn standing_codes(
+    alloc: Global,
+    holdings: List<Holding>,
+    now: Moment,
+) -> Result<List<UnitCode>, Error>
+    ensures { IfOk result (λ codes. AreCodes now holdings codes) }
+{
+    let codes: BTreeSet<UnitCode> = holdings
+        .into_vec()
+        .into_iter()
+        .filter(|holding| is_before(now, holding.end_s))
+        .map(|holding| holding.unit)
+        .collect(alloc)?;
+    Ok(List::from_vec(codes.into_iter().collect(alloc)?))
+}
+
+/// The codes of the units in which the person holds a role at the moment.
+#[tactic(auto, using(plant_store_statements::proofs::public::Meanings::holdings, plant_store_statements::proofs::public::ReadsOnly::reads_plain))]
+pub fn held<S: Alter>(
+    alloc: Global,
+    conn: &mut Connection<S>,
+    person: &Person,
+    now: Moment,
+) -> Result<List<UnitCode>, Error>
+    requires { HasNoTransaction conn.old }
+    ensures mode { HasNoTransaction conn.new }
+    ensures found { ReadsContent S.Store conn.old conn.new result
+        (λ m. codes_held m now person.now) }
+    ensures reads { IsOnlyRead S.Store conn.old conn.new }
+{
+    let holdings = read_rows(alloc, conn, SELECT_HOLDINGS, &single(person))?;
+    standing_codes(alloc, holdings, now)
+}
 
 /// A grant of the person, with its unit's last moment.
 #[derive(Drop)]
@@ -131,32 +188,4 @@ pub fn mine_units<S: Alter>(
 {
     let lines = unit_lines(alloc, conn, person)?;
     group(alloc, lines.as_slice(), now)
-}
-
-/// The codes of the units.
-fn codes_of(alloc: Global, units: List<MineUnit>) -> Result<List<UnitCode>, Error>
-    ensures { IfOk result (λ codes. codes ≡ map (λ mine. mine.unit) units) }
-{
-    let mut codes = List::new(alloc);
-    for mine in units.into_vec() {
-        push(&mut codes, mine.unit)?;
-    }
-    Ok(codes)
-}
-
-/// The codes of the units in which the person holds a role at the moment.
-pub fn held<S: Alter>(
-    alloc: Global,
-    conn: &mut Connection<S>,
-    person: &Person,
-    now: Moment,
-) -> Result<List<UnitCode>, Error>
-    requires { HasNoTransaction conn.old }
-    ensures mode { HasNoTransaction conn.new }
-    ensures found { ReadsContent S.Store conn.old conn.new result
-        (λ m. codes_held m now person.now) }
-    ensures reads { IsOnlyRead S.Store conn.old conn.new }
-{
-    let units = mine_units(alloc, conn, person, now)?;
-    codes_of(alloc, units)
 }

@@ -4,7 +4,7 @@ ghost use Rattle.std.specs.Prelude.{◌≡◌, ◌≢◌, ◌↔◌, ℕ, false,
 ghost use Rattle.sqlite.specs.{Held.{state}, State.{HasCleanDisk, Survives}};
 ghost use Rattle.plant_books.specs.{Books.{WasHonest}, Contents.{Content, no_units}, Counting.{Counts}};
 ghost use Rattle.plant_store_statements.specs.{Changes.{IsHonest}, Keeping.{LeavesAlike, LeavesBooks, LeavesContent, Represents}};
-ghost use Rattle.plant_store.specs.Counting.{IsWantOfMemory, Names, NamesAgain, SaysAgain};
+ghost use Rattle.plant_store.specs.Counting.{Names, SaysAgain};
 ghost use Rattle.plant_store_statements.specs.Making.{AreNewTrees};
 ghost use Rattle.plant_store.specs.Opened.{HasNoOffice, IsAnothers, KeepsAll, KeepsIfErr, KeepsIfOk, WasOffice};
 ghost use Rattle.plant_store_statements.specs.{Reading.{HasNoTransaction, IsHonestIn, IsOnlyRead}, Writing.{SameDatabase}};
@@ -27,25 +27,12 @@ use std::alloc::Global;
 use std::marker::Model;
 use thiserror::Error;
 
-/// Whether memory ran out. Files in memory then have no room.
-fn is_want_of_memory(error: &SqlError, in_memory: bool) -> bool
-    ensures { IsTrue result ↔ IsWantOfMemory in_memory error.now }
+pub fn fault_of(error: &SqlError) -> Fault
+    ensures { Names error.now result }
 {
     match error {
-        SqlError::SqliteFailure(ErrorCode::OutOfMemory) => true,
-        SqlError::SqliteFailure(ErrorCode::DiskFull) => in_memory,
-        _ => false,
-    }
-}
-
-/// The error as a fault. `in_memory` is whether the store's files lie in memory.
-pub fn fault_of(error: &SqlError, in_memory: bool) -> Fault
-    ensures { Names in_memory error.now result }
-{
-    if is_want_of_memory(error, in_memory) {
-        Fault::Memory
-    } else {
-        Fault::Store
+        SqlError::SqliteFailure(ErrorCode::OutOfMemory) => Fault::Memory,
+        _ => Fault::Store,
     }
 }
 
@@ -80,7 +67,6 @@ fn conclude<T: Drop, S: Alter>(
     conn: &mut Connection<S>,
     stores: &mut u64,
     shut: &mut bool,
-    in_memory: bool,
     outcome: Result<T, SqlError>,
 ) -> Result<T, Fault>
     requires mode { HasNoTransaction conn.old }
@@ -90,14 +76,13 @@ fn conclude<T: Drop, S: Alter>(
     ensures reads { IsOnlyRead S.Store conn.old conn.new }
     ensures same { OnOk result (conn.new ≡ conn.old) }
     ensures outcome { SaysAgain outcome result }
-    ensures named { NamesAgain in_memory outcome result }
     ensures count { Counts stores.old stores.new result }
 {
     match outcome {
         Ok(found) => Ok(found),
         Err(error) => {
             note_shut(conn, shut);
-            let fault = fault_of(&error, in_memory);
+            let fault = fault_of(&error);
             *stores = count_after(*stores, &fault);
             Err(fault)
         }
@@ -130,7 +115,6 @@ pub struct Tables<S: Alter> {
     admin: Person,
     stores: u64,
     shut: bool,
-    in_memory: bool,
     alloc: Global,
 }
 
@@ -183,7 +167,7 @@ impl<S: Alter> Tables<S> {
             Err(error) => Err(Unopened {
                 conn,
                 admin,
-                fault: StoreFault::Fault(fault_of(&error, false)),
+                fault: StoreFault::Fault(fault_of(&error)),
             }),
         }
     }
@@ -219,7 +203,7 @@ impl<S: Alter> Tables<S> {
         let fault = match is_office_of(&mut conn, SCHEMA, &admin) {
             Ok(true) => return Ok(Tables::of(alloc, conn, admin)),
             Ok(false) => StoreFault::NotThisStore,
-            Err(error) => StoreFault::Fault(fault_of(&error, false)),
+            Err(error) => StoreFault::Fault(fault_of(&error)),
         };
         Err(Unopened { conn, admin, fault })
     }
@@ -236,7 +220,6 @@ impl<S: Alter> Tables<S> {
             admin,
             stores: 0,
             shut: false,
-            in_memory: false,
             alloc,
         }
     }
@@ -258,13 +241,6 @@ impl<S: Alter> Tables<S> {
         ensures kept { KeepsAll S.Store self.old.0.0 self.new.0.0 }
     {
         self.conn.set_step_limit(steps);
-    }
-
-    /// Says that the store's files lie in memory: a call for which they have no room is then answered `Fault::Memory`.
-    pub fn set_in_memory(&mut self)
-        ensures { self.new ≡ self.old }
-    {
-        self.in_memory = true;
     }
 }
 
@@ -296,42 +272,42 @@ impl<S: Alter> Books for Tables<S> {
 
     fn taken(&mut self, unit: &UnitCode) -> Result<bool, Fault> {
         let outcome = unit::taken(self.alloc, &mut self.conn, unit);
-        conclude(&mut self.conn, &mut self.stores, &mut self.shut, self.in_memory, outcome)
+        conclude(&mut self.conn, &mut self.stores, &mut self.shut, outcome)
     }
 
     fn rows(&mut self, unit: &UnitCode) -> Result<Option<UnitRows>, Fault> {
         let outcome = unit::rows_of(self.alloc, &mut self.conn, unit);
-        conclude(&mut self.conn, &mut self.stores, &mut self.shut, self.in_memory, outcome)
+        conclude(&mut self.conn, &mut self.stores, &mut self.shut, outcome)
     }
 
     fn rows_but_history(&mut self, unit: &UnitCode) -> Result<Option<UnitRows>, Fault> {
         let outcome = unit::rows_but_history(self.alloc, &mut self.conn, unit);
-        conclude(&mut self.conn, &mut self.stores, &mut self.shut, self.in_memory, outcome)
+        conclude(&mut self.conn, &mut self.stores, &mut self.shut, outcome)
     }
 
     fn events(&mut self, unit: &UnitCode) -> Result<Sorted<Event>, Fault> {
         let outcome = unit::events(self.alloc, &mut self.conn, unit);
-        conclude(&mut self.conn, &mut self.stores, &mut self.shut, self.in_memory, outcome)
+        conclude(&mut self.conn, &mut self.stores, &mut self.shut, outcome)
     }
 
     fn part(&mut self, call: &Call) -> Result<Option<UnitPart>, Fault> {
         let outcome = part::part_of(self.alloc, &mut self.conn, call);
-        conclude(&mut self.conn, &mut self.stores, &mut self.shut, self.in_memory, outcome)
+        conclude(&mut self.conn, &mut self.stores, &mut self.shut, outcome)
     }
 
     fn held(&mut self, person: &Person, now: Moment) -> Result<List<UnitCode>, Fault> {
         let outcome = mine::held(self.alloc, &mut self.conn, person, now);
-        conclude(&mut self.conn, &mut self.stores, &mut self.shut, self.in_memory, outcome)
+        conclude(&mut self.conn, &mut self.stores, &mut self.shut, outcome)
     }
 
     fn mine_units(&mut self, person: &Person, now: Moment) -> Result<List<MineUnit>, Fault> {
         let outcome = mine::mine_units(self.alloc, &mut self.conn, person, now);
-        conclude(&mut self.conn, &mut self.stores, &mut self.shut, self.in_memory, outcome)
+        conclude(&mut self.conn, &mut self.stores, &mut self.shut, outcome)
     }
 
     fn mine_shelves(&mut self, person: &Person, now: Moment) -> Result<List<MineRow>, Fault> {
         let outcome = shelves::mine_shelves(self.alloc, &mut self.conn, person, now);
-        conclude(&mut self.conn, &mut self.stores, &mut self.shut, self.in_memory, outcome)
+        conclude(&mut self.conn, &mut self.stores, &mut self.shut, outcome)
     }
 
     fn apply(
@@ -341,6 +317,6 @@ impl<S: Alter> Books for Tables<S> {
         seen: Option<&UnitRows>,
     ) -> Result<(), Fault> {
         let outcome = write::apply(&mut self.conn, unit, changes.as_slice(), seen);
-        conclude(&mut self.conn, &mut self.stores, &mut self.shut, self.in_memory, outcome)
+        conclude(&mut self.conn, &mut self.stores, &mut self.shut, outcome)
     }
 }

@@ -149,6 +149,11 @@ pub const SELECT_SHELF_TAGS: &str = "SELECT tag FROM shelves WHERE unit = ?1 ORD
 pub const SELECT_LAST_CHANGE: &str =
     "SELECT number FROM changes WHERE unit = ?1 ORDER BY unit DESC, number DESC LIMIT 1";
 
+// A person's grants in all units.
+
+pub const SELECT_HOLDINGS: &str =
+    "SELECT unit, end_s FROM grants WHERE person = ?1 ORDER BY unit, person, role_no";
+
 // What is read of schema 1 alone: the codes of all units, and a unit's own row and its grants.
 
 pub const SELECT_OLD_CODES: &str = "SELECT unit FROM units ORDER BY unit";
