@@ -4,7 +4,7 @@ use Rattle.std.specs.{FinMap.{entries, entries-insert, entries_sorted, get, get-
 use Rattle.std.specs.Ordering.{eq_by_cmp}
 use Rattle.std.proofs.Common.{List, Some, T, [], ap, cond, false, map, refl, subst, sym, true, ◌++◌, ◌∙◌, ◌∷◌, ◌≡◌, flat_map, is_eq, is_lt, Err, Ok, OnOk, Option, Result, filter_map, option_map, unwrap_or, Equal, Greater, Less, option_to_list, None}
 use Rattle.plant_books.specs.Contents.{Content, after_changes, no_units, part_in, rows_in, with_rows}
-use Rattle.plant_books.specs.{Listed.{IsListed, rows_at}, declared.opened.OpenedUnit.{OpenedUnit}}
+use Rattle.plant_books.specs.{Listed.{AreCountable, IsCountable, IsListed, rows_at}, declared.opened.OpenedUnit.{OpenedUnit}}
 use Rattle.plant_model.specs.{Worlds.{unit_named}, declared.call.Call.{Call}}
 use Rattle.plant_model.specs.steps.{Parts.{part_of}, RowChanges.{changed_by, no_rows}}
 use Rattle.plant_model.{specs.declared.rows.{RowEdit.{RowEdit}, UnitRows.{UnitRows}}, proofs.public.RowsFound.{less, turned}}
@@ -109,6 +109,25 @@ pub told_listed : {A : Type 0} (f : Name → Option UnitRows → Option A) (admi
 told_listed f admin opened m h =
     told_by_lists (λ o. f o.unit (Some o.rows)) opened ∙ all_listed (λ u o. option_to_list (f u o)) admin opened m h
     ∙ sym (told_by_lists (λ u. f u (get m.units u)) (keys m.units))
+
+-- the rows of a unit that can be counted, before and after a put
+pub found_countable : (u : Name) (opened : List OpenedUnit) (rows : UnitRows) → AreCountable opened → rows_at opened u ≡ Some rows → IsCountable rows
+found_countable u [] rows all at = cc
+found_countable u (o ∷ os) rows all at =
+    elim (eq_by_cmp name_cmp u o.unit) as (λ b. option_map (λ o. o.rows) (cond b (Some o) (row_at name_cmp (λ o. o.unit) u os)) ≡ Some rows
+    → IsCountable rows) [
+      | true ↦ λ same. let is : o.rows ≡ rows = cc in subst (λ (r : UnitRows). IsCountable r) is all.0
+      | false ↦ λ later. found_countable u os rows all.1 later
+    ] at
+
+pub put_countable : (o : OpenedUnit) (os : List OpenedUnit) → IsCountable o.rows → AreCountable os → AreCountable (put_row name_cmp (λ o. o.unit) o os)
+put_countable o [] one all = (one, tt)
+put_countable o (e ∷ es) one all =
+    elim (name_cmp o.unit e.unit) as (λ v. AreCountable (by_order v (o ∷ e ∷ es) (o ∷ es) (e ∷ put_row name_cmp (λ o. o.unit) o es))) [
+      | Less ↦ (one, all)
+      | Equal ↦ (one, all.1)
+      | Greater ↦ (all.0, put_countable o es one all.1)
+    ]
 
 -- what the keeper answers and leaves, stated about the content
 pub part_listed : (admin u v : Name) (opened : List OpenedUnit) (m : Content) (c : Call) → IsListed admin opened m → Some v ≡ unit_named c.request

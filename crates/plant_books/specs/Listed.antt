@@ -1,5 +1,5 @@
 -- Books in a list of units.
-use Rattle.std.specs.{FinMap.{entries}, Prelude.{List, Option, Some, filter_map, flat_map, map, option_map, unwrap_or, ℕ, ◌≡◌}}
+use Rattle.std.specs.{FinMap.{entries}, List.{AllByRecursion}, Prelude.{List, Option, Some, filter_map, flat_map, length, map, option_map, unwrap_or, ℕ, ◌<◌, ◌^◌, ◌≡◌}}
 use Rattle.plant_books.specs.{Contents.{Content, is_held_in, mine_unit, shelves_mine}, declared.books.{MineRow.{MineRow}, MineUnit.{MineUnit}}}
 use Rattle.plant_books.specs.declared.opened.OpenedUnit.{OpenedUnit}
 use Rattle.plant_model.specs.declared.rows.{RowEdit.{RowEdit}, UnitRows.{UnitRows}}
@@ -9,6 +9,14 @@ use Rattle.plant_types.specs.{KeyedRows.{put_row, row_at}, Names.{Name, name_cmp
 -- the rows of the unit with a code
 abbrev pub rows_at : List OpenedUnit → Name → Option UnitRows
 rows_at opened u = option_map (λ o. o.rows) (row_at name_cmp (λ o. o.unit) u opened)
+
+-- a part can count the alarms and the events of a unit with these rows: 32 bits hold either number
+abbrev pub IsCountable : UnitRows → Type 0
+IsCountable rows = (length rows.alarms < 2 ^ 32) × (length rows.events < 2 ^ 32)
+
+-- this is so for each unit of the list
+abbrev pub AreCountable : List OpenedUnit → Type 0
+AreCountable opened = AllByRecursion (λ o. IsCountable o.rows) opened
 
 -- the codes of the units in which the person holds a role at the moment
 abbrev pub listed_codes : List OpenedUnit → ℕ → Name → List Name

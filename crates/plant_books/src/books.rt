@@ -10,7 +10,7 @@ ghost use Rattle.std.specs.FinMap as fin;
 
 use plant_alarm::Event;
 use plant_model::{Call, Changes, ShelfRow, UnitPart, UnitRows};
-use plant_types::{Fault, List, Moment, Person, Role, Sorted, UnitCode};
+use plant_types::{Fault, List, Moment, Person, Role, Sorted, Tag, UnitCode};
 
 /// A unit in which a person holds roles, with its last moment.
 #[derive(Drop)]
@@ -26,6 +26,15 @@ pub struct MineRow {
     pub unit: UnitCode,
     pub shelf: ShelfRow,
     pub last_return: Option<Moment>,
+}
+
+impl MineRow {
+    /// The tag of the shelved alarm.
+    pub fn tag(&self) -> &Tag
+        ensures { result.now ≡ self.now.shelf.tag }
+    {
+        &self.shelf.tag
+    }
 }
 
 /// Where the rows of all units are kept. A fault leaves them as they were.

@@ -1,9 +1,9 @@
 //! A list of opened units with their rows: reading from it, the units and shelves of one person, and changing the
 //! rows of a unit. `Plain` is built on it.
 
-ghost use Rattle.std.specs.Prelude.{◌≡◌, IfOk, OnErr, OnOk, is_some, option_map, unwrap_or};
+ghost use Rattle.std.specs.Prelude.{◌≡◌, ◌↔◌, IfOk, IsTrue, OnErr, OnOk, is_some, option_map, unwrap_or};
 ghost use Rattle.plant_books.specs.Contents.{AddsShelves, without_history};
-ghost use Rattle.plant_books.specs.Listed.{listed_after, listed_codes, listed_shelves, listed_units, rows_at};
+ghost use Rattle.plant_books.specs.Listed.{AreCountable, IsCountable, listed_after, listed_codes, listed_shelves, listed_units, rows_at};
 ghost use Rattle.plant_model.specs.steps.{Parts.{part_of as the_part}, RowChanges.{no_rows}, RowFacts.{unit_read}};
 ghost use Rattle.plant_types.specs.Results.{Gives, OnlyMemory};
 ghost use Rattle.plant_model.specs.steps.RowFacts as facts;
@@ -118,6 +118,7 @@ pub fn part_at(
     call: &Call,
 ) -> Result<Option<UnitPart>, Fault>
     ensures value { Gives result (option_map (the_part call.now) (rows_at units.now unit.now)) }
+    ensures memory { AreCountable units.now → OnlyMemory result }
 {
     match rows_of(units, unit) {
         None => Ok(None),
@@ -223,6 +224,26 @@ pub fn shelves_held(
     Ok(mine)
 }
 
+/// Whether a part can count the rows.
+fn is_countable(rows: &UnitRows) -> bool
+    ensures { IsTrue result ↔ IsCountable rows.now }
+{
+    u32::try_from(rows.alarms.len()).is_ok() && u32::try_from(rows.events.len()).is_ok()
+}
+
+/// The rows, if a part can count them. To keep more than that is refused, as if memory had run out.
+fn if_countable(rows: UnitRows) -> Result<UnitRows, Fault>
+    ensures value { Gives result rows }
+    ensures countable { IfOk result IsCountable }
+    ensures memory { OnlyMemory result }
+{
+    if is_countable(&rows) {
+        Ok(rows)
+    } else {
+        Err(Fault::Memory)
+    }
+}
+
 /// Makes the changes to the rows of a unit. If it was never opened, it is added to the list. If
 /// memory runs out, nothing changes.
 pub fn change_unit(
@@ -233,12 +254,13 @@ pub fn change_unit(
 ) -> Result<(), Fault>
     ensures made { OnOk result (units.new ≡ listed_after units.old unit.now changes.now) }
     ensures unchanged { OnErr result (units.new ≡ units.old) }
+    ensures countable { AreCountable units.old → AreCountable units.new }
     ensures memory { OnlyMemory result }
 {
     let rows = copy_of(alloc, units, unit)?.unwrap_or(UnitRows::none(alloc));
     let opened = OpenedUnit {
         unit: unit.copy(alloc)?,
-        rows: after_changes(alloc, rows, changes.copy(alloc)?)?,
+        rows: if_countable(after_changes(alloc, rows, changes.copy(alloc)?)?)?,
     };
     units.put(opened)
 }

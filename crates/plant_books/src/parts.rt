@@ -1,7 +1,7 @@
 //! Picks the part that a call looks at out of all rows of a unit, with the count that the call needs.
 
 ghost use Rattle.std.specs.Prelude.{◌≡◌, ◌<◌, ◌^◌, IfOk, OnOk, false, filter, option_copied, true};
-ghost use Rattle.plant_books.specs.{Asking.{alarms_wanted, IsApprovedBy, changes_by, events_wanted, grants_by, rows_by}, Contents.{without_history}};
+ghost use Rattle.plant_books.specs.{Asking.{alarms_wanted, IsApprovedBy, changes_by, events_wanted, grants_by, rows_by}, Contents.{without_history}, Listed.{IsCountable}};
 ghost use Rattle.plant_model.specs.steps.Parts.{counted_for, is_crowded as is_crowded_in, part_of as the_part, part_of_holder as holders_part, selected};
 ghost use Rattle.plant_model.specs.steps.{RowChanges.{no_rows}, RowFacts.{last_number as last_number_of}};
 ghost use Rattle.plant_model.specs.steps.Scopes.{is_shelving as is_shelving_by, selection_by};
@@ -219,6 +219,7 @@ fn count_of(rows: usize) -> Result<u32, Fault>
 fn count_asked(rows: &UnitRows, call: &Call) -> Result<u32, Fault>
     ensures value { Gives result (counted_for rows.now call.now.request) }
     ensures memory { counted_for rows.now call.now.request < 2 ^ 32 → OnlyMemory result }
+    ensures countable { IsCountable rows.now → OnlyMemory result }
 {
     match call.request.counted() {
         Counted::Nothing => Ok(0),
@@ -232,6 +233,7 @@ fn count_asked(rows: &UnitRows, call: &Call) -> Result<u32, Fault>
 fn part_of_holder(alloc: Global, rows: &UnitRows, call: &Call) -> Result<UnitPart, Fault>
     ensures value { Gives result (holders_part call.now rows.now) }
     ensures memory { counted_for rows.now call.now.request < 2 ^ 32 → OnlyMemory result }
+    ensures countable { IsCountable rows.now → OnlyMemory result }
 {
     let count = count_asked(rows, call)?;
     Ok(UnitPart {
@@ -281,6 +283,7 @@ pub fn part_of_grants(alloc: Global, units: List<UnitRow>, grants: Sorted<GrantR
 pub fn part_of(alloc: Global, rows: &UnitRows, call: &Call) -> Result<UnitPart, Fault>
     ensures value { Gives result (the_part call.now rows.now) }
     ensures memory { counted_for rows.now call.now.request < 2 ^ 32 → OnlyMemory result }
+    ensures countable { IsCountable rows.now → OnlyMemory result }
 {
     if holds_some_by(&rows.grants, &call.person, call.moment) {
         return part_of_holder(alloc, rows, call);

@@ -1,7 +1,8 @@
 //! The simplest keeper of books: lists in memory, with no store behind them. Nothing of it survives a crash.
 
 ghost use Rattle.std.specs.Prelude.{◌≡◌, ⊤};
-ghost use Rattle.plant_books.specs.{Contents.{no_units}, Counting.{Counts, CountsFault}, Listed.{IsListed}};
+ghost use Rattle.std.proofs.Props.{props};
+ghost use Rattle.plant_books.specs.{Contents.{no_units}, Counting.{CountsFault}, Listed.{AreCountable, IsListed}};
 
 use crate::books::{Books, MineRow, MineUnit};
 use crate::opened::{
@@ -23,40 +24,27 @@ pub fn count_after(stores: u64, fault: &Fault) -> u64
     }
 }
 
-/// Returns the result as it is, and counts a fault of the store.
-fn counted<T: Drop>(stores: &mut u64, outcome: Result<T, Fault>) -> Result<T, Fault>
-    ensures same { result ≡ outcome }
-    ensures count { Counts stores.old stores.new result }
-{
-    match outcome {
-        Ok(found) => Ok(found),
-        Err(fault) => {
-            *stores = count_after(*stores, &fault);
-            Err(fault)
-        }
-    }
-}
-
-/// A keeper of books in lists, in the order of the units' codes. It fails with `Fault::Store` only if a unit has more
-/// rows than a part can count.
+/// A keeper of books in lists, in the order of the units' codes. It never fails with `Fault::Store`: a unit has no more
+/// rows than a part can count, and what would add more is refused as if memory had run out.
 #[derive(Drop)]
 pub struct Plain {
     administrator: Person,
     units: Sorted<OpenedUnit>,
-    stores: u64,
     alloc: Global,
+    ghost countable: { AreCountable units } by { Prim.hlevel props },
 }
 
 impl Plain {
-    /// Books without units. It takes no memory.
+    ghost use Rattle.plant_books.specs.declared.plain.Plain.{Plain as TheBooks};
+
+    /// Books without units. It takes no memory. No books of this kind have ever failed with `Fault::Store`.
     pub fn new(alloc: Global, administrator: Person) -> Plain
         ensures represents { ⟦<Plain as Books>⟧.represents result (no_units administrator) }
-        ensures stores { ⟦<Plain as Books>⟧.stores result ≡ 0 }
+        ensures stores { (books : TheBooks) → ⟦<Plain as Books>⟧.stores books ≡ 0 }
     {
         Plain {
             administrator,
             units: Sorted::new(alloc),
-            stores: 0,
             alloc,
         }
     }
@@ -67,7 +55,7 @@ impl Books for Plain {
 
     ghost is_honest = { λ _. ⊤ };
 
-    ghost stores = { λ t. t.stores };
+    ghost stores = { λ _. 0 };
 
     ghost is_clean = { λ _. ⊤ };
 
@@ -106,8 +94,7 @@ impl Books for Plain {
         let Some(unit) = call.request.unit() else {
             return Ok(None);
         };
-        let part = part_at(self.alloc, &self.units, unit, call);
-        counted(&mut self.stores, part)
+        part_at(self.alloc, &self.units, unit, call)
     }
 
     fn held(&mut self, person: &Person, now: Moment) -> Result<List<UnitCode>, Fault> {

@@ -21,7 +21,7 @@ use plant_model::{
 };
 use plant_ration::ChangeKind;
 use plant_types::{Fault, List, Moment, UnitCode};
-use plant_unit::{is_read, judge, judge_open, shelf_line};
+use plant_unit::{is_read, judge_open, judge_taking, shelf_line};
 use std::alloc::Global;
 
 /// The rows that the call looked at, if it looked at a unit.
@@ -226,7 +226,7 @@ impl<B: Books> Office<B> {
             → Serves B.Books call.now result before self.new.books }
     {
         note_matrix(&call.request);
-        match judge(self.alloc, part, call)? {
+        match judge_taking(self.alloc, part, call)? {
             Verdict::Refused(refused) => Ok(Err(refused)),
             Verdict::Accepted(reply, mut changes) => {
                 if is_read(&call.request) {

@@ -10,7 +10,7 @@ memory = record {
   may_leave = λ file bytes. bytes ≡ file.bytes.items;
   is_usable = λ _. true;
   faults = λ file. file.faults;
-  tally_of = λ file. record { caught = file.caught; refused = 0 };
+  tally_of = λ file. record { caught = file.caught; refused = file.refused };
   is_clean = λ _. true;
   key_of = λ _. 0;
   is_fair = λ _ _. true;

@@ -1,10 +1,11 @@
 //! Judges a call on a unit from the part of the unit's rows that the call looks at: a refusal, or the reply and the
 //! changes to make. Each kind of call has its rules in another file; here a call is passed to them.
 
-ghost use Rattle.std.specs.Prelude.{◌≡◌, List, IfOk, true, false};
+ghost use Rattle.std.specs.Prelude.{◌≡◌, List, IfOk, option_copied, true, false};
 ghost use Rattle.plant_types.specs.Results.{OnlyMemory};
 ghost use Rattle.plant_alarm.specs.declared.event.Event.{Event as TheEvent};
 ghost use Rattle.plant_model.specs.{Verdicts.{is_opening, is_read}, declared.call.Call.{Call}};
+ghost use Rattle.plant_model.specs.declared.call.Request.TheVariants.{Shelves as ShelvesCall};
 ghost use Rattle.plant_model.specs.steps.RowFacts.{facts_among, facts_in, unit_read};
 ghost use Rattle.plant_unit.specs.{Additions.{AreKept}, FromFacts.{Answers}};
 ghost use Rattle.plant_unit.specs.Judged.{AreEventsSeen, IsJudged, IsJudgedOwn, IsOpeningFor, IsPartOf, IsVerdictOn, SaysHeld, is_import};
@@ -14,12 +15,12 @@ use crate::decisions::{approve, propose, reject, withdraw_change};
 use crate::grants::{grant, withdraw};
 use crate::imports::judge_import;
 use crate::refusals::holder_refusal;
-use crate::replies::{alarms, change, floods, record, shelves, standing, status};
+use crate::replies::{alarms, change, floods, record, shelves, standing, status, take_shelves};
 use crate::service::{place_in_service, register, remove_from_service};
 use crate::shelving::{Shelving, end_shelf, shelve_for, shelve_once};
 use crate::verdicts::{answer, verdict_of};
 use plant_model::{Call, Refused, Reply, Request, UnitPart, UnitRow, Verdict};
-use plant_types::{Fault, Person};
+use plant_types::{Fault, Person, UnitCode};
 use std::alloc::Global;
 
 /// Judges a call that changes something and is not an import. The caller is allowed to make it.
@@ -110,13 +111,9 @@ fn judge_change(
 }
 
 /// The answer to a read. The caller is allowed to make it.
-fn answer_to(
-    alloc: Global,
-    part: &mut UnitPart,
-    call: &Call,
-) -> Result<Result<Reply, Refused>, Fault>
+fn answer_to(alloc: Global, part: &UnitPart, call: &Call) -> Result<Result<Reply, Refused>, Fault>
     requires reads { is_read call.now.request ≡ true }
-    ensures value { AreKept part.old → Answers part.old call.now.person call.now.moment call.now.request result }
+    ensures value { AreKept part.now → Answers part.now call.now.person call.now.moment call.now.request result }
     ensures err { OnlyMemory result }
 {
     let now = call.moment;
@@ -149,17 +146,11 @@ fn answer_to(
 }
 
 /// Judges a call that is not an import. The caller is allowed to make it.
-fn judge_own(
-    alloc: Global,
-    unit: &UnitRow,
-    part: &mut UnitPart,
-    call: &Call,
-) -> Result<Verdict, Fault>
-    requires row { unit_read part.old.rows ≡ unit.now }
+fn judge_own(alloc: Global, unit: &UnitRow, part: &UnitPart, call: &Call) -> Result<Verdict, Fault>
+    requires row { unit_read part.now.rows ≡ unit.now }
     requires plain { is_opening call.now.request ≡ false }
     requires no_import { is_import call.now.request ≡ false }
-    ensures value { AreKept part.old → IfOk result (IsJudgedOwn (facts_in part.old) call.now) }
-    ensures part { is_read call.now.request ≡ false → part.new ≡ part.old }
+    ensures value { AreKept part.now → IfOk result (IsJudgedOwn (facts_in part.now) call.now) }
     ensures err { OnlyMemory result }
 {
     if is_read(&call.request) {
@@ -169,17 +160,11 @@ fn judge_own(
     }
 }
 
-fn judge_part(
-    alloc: Global,
-    unit: &UnitRow,
-    part: &mut UnitPart,
-    call: &Call,
-) -> Result<Verdict, Fault>
-    requires row { unit_read part.old.rows ≡ unit.now }
+fn judge_part(alloc: Global, unit: &UnitRow, part: &UnitPart, call: &Call) -> Result<Verdict, Fault>
+    requires row { unit_read part.now.rows ≡ unit.now }
     requires plain { is_opening call.now.request ≡ false }
-    ensures value { SaysHeld part.old call.now → AreKept part.old → (es : List TheEvent)
-        → AreEventsSeen part.old call.now es → IfOk result (IsJudged (facts_among part.old es) call.now) }
-    ensures part { is_read call.now.request ≡ false → part.new ≡ part.old }
+    ensures value { SaysHeld part.now call.now → AreKept part.now → (es : List TheEvent)
+        → AreEventsSeen part.now call.now es → IfOk result (IsJudged (facts_among part.now es) call.now) }
     ensures err { OnlyMemory result }
 {
     if let Some(refused) = holder_refusal(unit, part, call) {
@@ -196,14 +181,10 @@ fn judge_part(
 ///
 /// For every legal history to whose rows the part belongs: the verdict is that of the history, and its changes turn the
 /// rows of the history into those of the history followed by the call (no changes for a refusal or a read).
-///
-/// A call for the unit's shelves takes them out of the part, so that their words need not be copied again. A call that
-/// changes something leaves the part as it is.
-pub fn judge(alloc: Global, given: &mut Option<UnitPart>, call: &Call) -> Result<Verdict, Fault>
+pub fn judge(alloc: Global, given: Option<&UnitPart>, call: &Call) -> Result<Verdict, Fault>
     requires { is_opening call.now.request ≡ false }
-    ensures value { (h : List Call) → IsPartOf given.old h call.now
+    ensures value { (h : List Call) → IsPartOf (option_copied given.entry) h call.now
         → IfOk result (IsVerdictOn h call.now) }
-    ensures part { is_read call.now.request ≡ false → given.new ≡ given.old }
     ensures err { OnlyMemory result }
 {
     let Some(part) = given else {
@@ -212,8 +193,53 @@ pub fn judge(alloc: Global, given: &mut Option<UnitPart>, call: &Call) -> Result
     let Some(unit) = part.rows.units.as_slice().first() else {
         return Ok(Verdict::Refused(Refused::NotGranted));
     };
+    judge_part(alloc, unit, part, call)
+}
+
+/// Judges a call for the unit's shelves, and takes them out of the part.
+fn judge_shelves(
+    alloc: Global,
+    unit: &UnitRow,
+    part: &mut UnitPart,
+    call: &Call,
+    code: &UnitCode,
+) -> Result<Verdict, Fault>
+    requires row { unit_read part.old.rows ≡ unit.now }
+    requires asked { call.now.request ≡ ShelvesCall code.now }
+    ensures value { SaysHeld part.old call.now → AreKept part.old → (es : List TheEvent)
+        → AreEventsSeen part.old call.now es → IfOk result (IsJudged (facts_among part.old es) call.now) }
+    ensures err { OnlyMemory result }
+{
+    match holder_refusal(unit, part, call) {
+        Some(refused) => Ok(Verdict::Refused(refused)),
+        None => answer(alloc, take_shelves(alloc, part, call.moment, code)),
+    }
+}
+
+/// The verdict of `judge`, from a part that is not needed after a read: a call for the unit's shelves takes them out of
+/// it, so that their words need not be copied again. Any other call leaves the part as it is.
+pub fn judge_taking(
+    alloc: Global,
+    given: &mut Option<UnitPart>,
+    call: &Call,
+) -> Result<Verdict, Fault>
+    requires { is_opening call.now.request ≡ false }
+    ensures value { (h : List Call) → IsPartOf given.old h call.now
+        → IfOk result (IsVerdictOn h call.now) }
+    ensures part { is_read call.now.request ≡ false → given.new ≡ given.old }
+    ensures err { OnlyMemory result }
+{
+    let Request::Shelves { unit: code } = &call.request else {
+        return judge(alloc, given.as_ref(), call);
+    };
+    let Some(from) = given else {
+        return Ok(Verdict::Refused(Refused::NotGranted));
+    };
+    let Some(unit) = from.rows.units.as_slice().first() else {
+        return Ok(Verdict::Refused(Refused::NotGranted));
+    };
     let unit = *unit;
-    judge_part(alloc, &unit, part, call)
+    judge_shelves(alloc, &unit, from, call, code)
 }
 
 /// The verdict on an opening. `taken` is whether a unit with this code exists already.

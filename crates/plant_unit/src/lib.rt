@@ -20,10 +20,16 @@ mod shelving;
 mod verdicts;
 
 pub use changes::is_read;
-pub use judgement::{judge, judge_open};
+pub use judgement::{judge, judge_open, judge_taking};
 pub use plant_alarm::{AlarmState, Event, EventKind, Shelf, ShelfState};
+pub use plant_books::{Books, MineRow, MineUnit, Plain};
 pub use plant_floods::{Run, floods};
 pub use plant_import::{BadFile, FileRead};
-pub use plant_model::{Call, Changes, Refused, Reply, Request, UnitPart, UnitRows, Verdict};
+pub use plant_model::{
+    AlarmLine, AlarmRow, BandRow, Call, CellRow, ChangeEntry, ChangeRow, ChangeTopic, Changes,
+    FloodLine, Full, GrantRow, Key, MineLine, RecordEntry, RecordRow, Refused, Reply, Request, Row,
+    RowEdit, ShelfLine, ShelfRow, StandingLine, StatusRow, UnitLine, UnitPart, UnitRow, UnitRows,
+    Verdict,
+};
 pub use plant_ration::{Cell, ChangeKind, ChangeState, Matrix, Proposal, Sheet};
 pub use replies::shelf_line;

@@ -4,6 +4,7 @@ ghost use Rattle.std.specs.Prelude.{◌≡◌, IfOk, Ok, ℕ};
 ghost use Rattle.plant_types.specs.{Names.{Name}, Results.{Gives, OnlyMemory}};
 ghost use Rattle.plant_model.specs.steps.RowFacts.{facts_in};
 ghost use Rattle.plant_model.specs.declared.call.Request.TheVariants.{Alarms as AlarmsCall, ChangeOf as ChangeCall, Floods as FloodsCall, RecordOf as RecordCall, Shelves as ShelvesCall, Standing as StandingCall, Status as StatusCall};
+ghost use Rattle.plant_model.specs.declared.reply.Reply.TheVariants.{Shelves as ShelvesReply};
 ghost use Rattle.plant_unit.specs.{Additions.{AreCountable, AreKept}, FromFacts.{Answers, AnswersAlways, AnswersAnyone, GivesFrom}};
 ghost use Rattle.plant_unit.specs.Shelving.{is_shelved, line_at, lines_among};
 ghost use Rattle.plant_model.specs.Replies as replies;
@@ -95,8 +96,40 @@ fn lines(
     Ok(lines)
 }
 
-/// The shelves that hold at the moment. It takes them out of the part, so that their words need not be copied again.
+/// The list of those shelves that hold at the moment.
+fn shelves_reply(
+    alloc: Global,
+    alarms: &Sorted<AlarmRow>,
+    shelves: Sorted<ShelfRow>,
+    now: Moment,
+    unit: &UnitCode,
+) -> Result<Reply, Fault>
+    ensures value { Gives result (ShelvesReply unit.now now (lines_among alarms.now shelves now)) }
+    ensures err { OnlyMemory result }
+{
+    Ok(Reply::Shelves {
+        unit: unit.copy(alloc)?,
+        at: now,
+        lines: lines(alloc, alarms, shelves, now)?,
+    })
+}
+
+/// The shelves that hold at the moment.
 pub fn shelves(
+    alloc: Global,
+    part: &UnitPart,
+    now: Moment,
+    unit: &UnitCode,
+) -> Result<Result<Reply, Refused>, Fault>
+    ensures value { AnswersAnyone part.now now (ShelvesCall unit.now) result }
+    ensures err { OnlyMemory result }
+{
+    let shelves = part.rows.shelves.copy(alloc)?;
+    Ok(Ok(shelves_reply(alloc, &part.rows.alarms, shelves, now, unit)?))
+}
+
+/// The same, but takes the shelves out of the part, so that their words need not be copied again.
+pub fn take_shelves(
     alloc: Global,
     part: &mut UnitPart,
     now: Moment,
@@ -105,13 +138,8 @@ pub fn shelves(
     ensures value { AnswersAnyone part.old now (ShelvesCall unit.now) result }
     ensures err { OnlyMemory result }
 {
-    let unit = unit.copy(alloc)?;
     let shelves = mem::replace(&mut part.rows.shelves, Sorted::new(alloc));
-    Ok(Ok(Reply::Shelves {
-        unit,
-        at: now,
-        lines: lines(alloc, &part.rows.alarms, shelves, now)?,
-    }))
+    Ok(Ok(shelves_reply(alloc, &part.rows.alarms, shelves, now, unit)?))
 }
 
 /// The places at which the shelf and the record of the next alarm are looked for first.

@@ -25,7 +25,7 @@ IsRead from to old new read.Finished = Consumes from.unread to.unread [] × (new
 IsRead from to old new read.Failed = Consumes from.unread to.unread [] × (new ≡ old) × (to.failures ≡ 1)
     × (from.reads ≤ to.reads) × (to.reads ≤ from.reads + 1) × (to.ended ≡ from.ended)
 IsRead from to old new read.Fault = (bytes : List ℕ) × Consumes from.unread to.unread bytes
-    × (to.failures ≡ from.failures) × (to.reads ≡ from.reads + 1)
+    × (to.failures ≡ from.failures) × (to.reads ≡ from.reads + 1) × (to.ended ≡ from.ended)
 
 -- after this end the client may still be sending: the office ended the session, and not because of a failed read or
 -- write
@@ -73,16 +73,18 @@ IsSession unread unread_after ended written written_after ran end =
     (bytes : List ℕ) × Consumes unread unread_after bytes
     × EndsAs bytes unread_after ended written written_after ran end
 
--- which reads and writes failed, by the end: at ReadFailed one read did, or 1,000,000 reads were made, of which none
--- saw the input's end; at WriteFailed one write did; otherwise none. `lost` counts failed writes.
+-- which reads and writes failed, by the end: at ReadFailed one read did, or 1,000,000 reads were made; at WriteFailed
+-- one write did; otherwise none. At these two and at Fault no read saw the input's end. `lost` counts failed writes.
 abbrev pub StopsAs : Reader → Reader → ℕ → ℕ → End → Type 0
 StopsAs from to lost lost_after Closed = (to.failures ≡ from.failures) × (lost_after ≡ lost)
 StopsAs from to lost lost_after BrokenInput = (to.failures ≡ from.failures) × (lost_after ≡ lost)
 StopsAs from to lost lost_after ReadFailed =
     ((to.failures ≡ 1) ⊎ ((to.failures ≡ from.failures) × (to.reads ≡ from.reads + max_reads)))
     × (lost_after ≡ lost) × (to.ended ≡ from.ended)
-StopsAs from to lost lost_after WriteFailed = (to.failures ≡ from.failures) × (lost_after ≡ 1)
-StopsAs from to lost lost_after Fault = (to.failures ≡ from.failures) × (lost_after ≡ lost)
+StopsAs from to lost lost_after WriteFailed =
+    (to.failures ≡ from.failures) × (lost_after ≡ 1) × (to.ended ≡ from.ended)
+StopsAs from to lost lost_after Fault =
+    (to.failures ≡ from.failures) × (lost_after ≡ lost) × (to.ended ≡ from.ended)
 
 -- how many reads were made, whatever the end
 abbrev pub IsFewReads : ℕ → ℕ → Type 0

@@ -2,7 +2,7 @@ use Rattle.std.proofs.Common.{ap, refl, rules, sym, ◌++◌, ◌∙◌, ◌≡�
 use Rattle.std.proofs.lemmas.Result.{IfOk-weaker}
 use Rattle.plant_import.{specs.{Needed.{has_late, needed}, Numbers.{with_events}}, proofs.public.NeededLaws.{needed_late}}
 use Rattle.plant_unit.proofs.NamedLaws.{brought_needed, brought_on, states_anew}
-use Rattle.plant_unit.specs.{Alarms.{HaveStates, brought}, declared.alarms.Brought.{Brought}}
+use Rattle.plant_unit.specs.{Alarms.{HaveStates, brought}}
 use Rattle.plant_unit.proofs.alarms.after_file.Goals as goal
 
 pub returns-then-branch-clause-value : goal.returns-then-branch-clause-value

@@ -1,24 +1,23 @@
-use Rattle.std.proofs.Common.{Some, ap, option_copied, slice_get, sym, ◌∙◌}
+use Rattle.std.proofs.Common.{ap, option_copied, slice_get, sym, ◌∙◌}
 use Rattle.plant_unit.proofs.JudgedLaws.{has_unit, judged_some, judged_none, part_kept, part_seen, says_held}
 use Rattle.plant_model.specs.Events.{events}
 use Rattle.plant_unit.proofs.judgement.judge.Goals as goal
 
 pub returns-in_default-clause-value : goal.returns-in_default-clause-value
-returns-in_default-clause-value c = λ h left. judged_none h c.args.call.now c.args.given.now c.in_default.is left
+returns-in_default-clause-value c = λ h left.
+    judged_none h c.args.call.now (option_copied c.args.given) (ap option_copied c.in_default.is) left
 
 pub returns-clause-value : goal.returns-clause-value
 returns-clause-value c = λ h left.
-    let part = c.in-Some.part in
+    let part = c.in-Some.part.now in
     let call = c.args.call.now in
-    let given = c.args.given.now in
-    judged_some h part call given c.judge_part.result c.requires c.in-Some.is left
-    (c.judge_part.ensures.value (says_held h part call given c.in-Some.is left) (part_kept h part call given c.in-Some.is left) (events h)
-    (part_seen h part call given c.in-Some.is left))
+    let given = option_copied c.args.given in
+    let is = ap option_copied c.in-Some.is in
+    judged_some h part call given c.judge_part.result c.requires is left
+    (c.judge_part.ensures.value (says_held h part call given is left) (part_kept h part call given is left) (events h)
+    (part_seen h part call given is left))
 
 pub returns-in_default-first-clause-value : goal.returns-in_default-first-clause-value
 returns-in_default-first-clause-value c = λ h left.
-    absurd (has_unit h c.in-Some.part c.args.call.now c.args.given.now c.in-Some.is left
+    absurd (has_unit h c.in-Some.part.now c.args.call.now (option_copied c.args.given) (ap option_copied c.in-Some.is) left
     (ap (λ us. slice_get us 0) (sym c.as_slice.ensures) ∙ sym c.first.ensures.value ∙ ap option_copied c.in_default-first.is))
-
-pub returns-clause-part : goal.returns-clause-part
-returns-clause-part c = λ changes. ap (λ x. Some x) (c.judge_part.ensures.part changes) ∙ sym c.in-Some.is

@@ -27,6 +27,5 @@ returns-in_default-request c =
           (seen (holder_holds (facts_in c.args.part.now) c.args.call.now c.holder_refusal.result (c.holder_refusal.ensures held) none))
           (own_result (facts_in c.args.part.now) c.args.call.now c.judge_own.result c.holder_refusal.result (c.holder_refusal.ensures held) none
           (c.judge_own.ensures.value kept));
-      part = c.judge_own.ensures.part;
       err = c.judge_own.ensures.err;
     }

@@ -3,6 +3,5 @@ use Rattle.plant_books.proofs.plain.PlainBooks.part.Goals as goal
 
 pub returns-clause-found : goal.returns-clause-found
 returns-clause-found c = λ m h _ u named.
-    rw c.counted.ensures.same
-    (rw (← part_listed c.args.self.now.administrator u c.in-Some.unit.now c.args.self.now.units m c.args.call.now h c.in-Some.ensures named)
-    c.part_at-part.ensures.value)
+    rw (← part_listed c.args.self.now.administrator u c.in-Some.unit.now c.args.self.now.units m c.args.call.now h c.in-Some.ensures named)
+    c.part_at.ensures.value
