@@ -322,7 +322,16 @@ fn run<F: Start + Located, P: Net, I: Inlet, O: Outlet + Write, E: Write>(
     let CommandLine { admin, task } = line;
     match task {
         Task::Serve { db, service } => match db {
-            None => serve_memory(rt.alloc(), net, admin, service, inlet, outlet, errors, start),
+            None => serve_memory(
+                rt.alloc(),
+                net,
+                admin,
+                service,
+                inlet,
+                outlet,
+                errors,
+                start,
+            ),
             Some(path) => {
                 let office = FileOffice {
                     path: path.as_str(),

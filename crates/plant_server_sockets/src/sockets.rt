@@ -662,11 +662,7 @@ impl Sockets<'_> {
     }
 
     /// What can be done next. Turns alternate: one accepts first, the next reads or writes first.
-    fn next_of_all(
-        &mut self,
-        connections: &[Connection],
-        clients: &mut [Client],
-    ) -> Option<Ready>
+    fn next_of_all(&mut self, connections: &[Connection], clients: &mut [Client]) -> Option<Ready>
         ensures { numbers clients.new ≡ numbers clients.old }
     {
         self.accepts_first = !self.accepts_first;
