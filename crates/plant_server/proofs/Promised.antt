@@ -7,10 +7,12 @@ use Rattle.plant_office.specs.{Outcomes.{AreMade, IsInDoubt, confirmed, confirms
 use Rattle.plant_server_clients.specs.Events.{all_answers, all_calls}
 use Rattle.plant_server_options.specs.declared.words.{CommandLine.{CommandLine}, CommandLineError.{CommandLineError}, Service.{Service}, Task.{TheVariants.{Serve}}}
 use Rattle.plant_server.specs.{OverFiles.{AreServed, Place, RanOnFiles, Begins, IsHonestAfter}, Promise.{FilesServed, IsDoneOnFile, IsKept, IsObeyed}}
-use Rattle.plant_server.specs.{Promises.{AreMadeFor, AreOn, IsMadeFor, KeepsPromises, Promises}, Services.{AreAtOnce, AreOfPort, is_at_once}, Streams.{Streams, within}}
+use Rattle.plant_server.specs.{Promises.{AllPromises, AreMadeFor, AreOn, CallPromises, IsMadeFor, KeepsPromises, PortPromises, StreamPromises}, Services.{AreAtOnce, AreOfPort, is_at_once}, Streams.{Streams, within}}
 use Rattle.plant_server.specs.declared.{remains.Left.{Left}, statuses.ExitStatus.{ExitStatus}}
 use Rattle.plant_server.specs.declared.remains.Left.TheVariants as left
 use Rattle.plant_types.specs.Names.{Name}
+use Rattle.sqlite_store.specs.declared.store.FileStore.{FileStore}
+use Rattle.plant_server.proofs.Streamed.{streamed}
 
 -- ---- 3
 
@@ -89,30 +91,57 @@ module _ {D N F : Type 0} {g : Ghosts D} (h : Ghosts N) (parts : PartsAnswerThei
   files_of place path admin service s n (left.InMemory start store) were it = absurd were
   files_of place path admin service s n (left.Migrated old made) were it = absurd were
 
-  -- what was served over files to many connections at once
-  of_files : (place : Place D) (path : List ℕ) (admin : Name) (service : Service) (s : Streams) (n : ExitStatus) (after : Left D N F g)
-      → is_at_once service ≡ true → FilesServed place path admin (Some service) s n after → Promises place path admin after
-  of_files place path admin service s n after many it =
+  -- the calls that were served over files
+  of_calls : (place : Place D) (path : List ℕ) (admin : Name) (after : Left D N F g) (store : FileStore D g) (calls : List Call) (answers : List Answer)
+      → RanOnFiles (Begins place path) admin store after calls answers → CallPromises place path admin after store calls answers
+  of_calls place path admin after store calls answers ran = record {
+    answered = λ w begins honest. (ran.answered w begins honest).answered;
+    apart = λ w begins honest. (ran.answered w begins honest).isolated;
+    unchanged = unchanged calls answers;
+    lasting = λ w begins own clean. (ran.meanwhile w begins own clean, ran.afterwards w begins own clean);
+    split = λ units v begins honest on.
+        split parts units v (only units v) refl calls answers on (ran.answered (only units v) begins honest).answered;
+  }
+
+  -- over a port, to many connections at once
+  of_port : (place : Place D) (path : List ℕ) (admin : Name) (service : Service) (s : Streams) (n : ExitStatus) (after : Left D N F g)
+      → FilesServed place path admin (Some service) s n after → is_at_once service ≡ true → PortPromises place path admin service s.nets after
+  of_port place path admin service s n after it many =
       let at : AreAtOnce (RanOnFiles (Begins place path) admin it.store after) (¬ IsHonestAfter after) service (within s it.first it.last).nets (within s it.first it.last).lines n =
       subst (λ b. AreOfPort b (RanOnFiles (Begins place path) admin it.store after) (¬ IsHonestAfter after) service (within s it.first it.last).nets (within s it.first it.last).lines n) many it.served in
-      let ran = at.sent.made in
       record {
         events = at.sent.events;
+        listened = at.listened;
+        shown = at.shown;
         store = it.store;
-        answered = λ w begins honest. (ran.answered w begins honest).answered;
+        calls = of_calls place path admin after it.store (all_calls at.sent.events) (all_answers at.sent.events) at.sent.made;
         sent = at.sent.answered;
-        apart = λ w begins honest. (ran.answered w begins honest).isolated;
-        unchanged = unchanged (all_calls at.sent.events) (all_answers at.sent.events);
-        kept = λ w begins own clean. (ran.meanwhile w begins own clean, ran.afterwards w begins own clean);
-        fair = (at.sent.fair, at.sent.bounded, at.sent.steady);
+        fair = (at.sent.fair, at.sent.bounded, at.sent.steady, at.sent.soon);
+        heeded = at.sent.heeded;
         caused = at.sent.caused;
         in_order = at.sent.in_order;
-        split = λ units v begins honest on. split parts units v (only units v) refl (all_calls at.sent.events) (all_answers at.sent.events) on (ran.answered (only units v) begins honest).answered;
       }
 
-  -- the six promises, of a command whose words were read as: serve this file for this administrator, and this port
+  -- over the streams
+  of_streams : (place : Place D) (path : List ℕ) (admin : Name) (s : Streams) (n : ExitStatus) (after : Left D N F g)
+      → FilesServed place path admin None s n after → StreamPromises place path admin s n after
+  of_streams place path admin s n after it = record {
+    first = it.first;
+    last = it.last;
+    store = it.store;
+    session = streamed (RanOnFiles (Begins place path) admin it.store after) (CallPromises place path admin after it.store)
+        (of_calls place path admin after it.store) (¬ IsHonestAfter after) (¬ IsHonestAfter after) (λ lost. lost)
+        (within s it.first it.last) n it.served;
+  }
+
+  of_files : (place : Place D) (path : List ℕ) (admin : Name) (service : Option Service) (s : Streams) (n : ExitStatus) (after : Left D N F g)
+      → FilesServed place path admin service s n after → AllPromises place path admin service s n after
+  of_files place path admin None s n after it = of_streams place path admin s n after it
+  of_files place path admin (Some service) s n after it = of_port place path admin service s n after it
+
+  -- the six promises, of a command whose words were read as: serve this file for this administrator, in this way
   pub promised : {E : Type 0} (gives_port gives : List ℕ → Result ℕ E → Type 0) (place : Place D) → KeepsPromises F g h place gives_port gives
-  promised gives_port gives place words s number after kept admin path service line many were =
+  promised gives_port gives place words s number after kept admin path service line were =
       let done = subst (λ (l : Result CommandLine CommandLineError). IsObeyed h place l s kept.status after) line kept.obeyed in
-      of_files place (string_bytes path) admin service s kept.status after many
-      (files_of place (string_bytes path) admin (Some service) s kept.status after were done)
+      of_files place (string_bytes path) admin service s kept.status after
+      (files_of place (string_bytes path) admin service s kept.status after were done)

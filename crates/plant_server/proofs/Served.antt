@@ -8,8 +8,8 @@ use Rattle.sqlite_trees.specs.View.{IsClean}
 use Rattle.plant_books.specs.Contents.{Content}
 use Rattle.plant_model.specs.{Worlds.{World}, declared.{call.Call.{Call}, reply.Answer.{Answer}}}
 use Rattle.plant_office.specs.{Enduring.{BooksState}, Failures.{AreAnsweredBeforeFailure}, Outcomes.{IsOutcome, confirmed}}
-use Rattle.plant_server.specs.{Crashes.{LeavesOutcomes}, Files.{HoldDatabase}, Parts.{BooksServed, IsAtHand, IsClosing}}
-use Rattle.plant_server.specs.OverFiles.{Begins, IsHonestAfter, Place, RanOnFiles, closing_text}
+use Rattle.plant_server.specs.{Crashes.{LeavesOutcomes}, Files.{HoldDatabase}, Parts.{BooksServed, IsAtHand}}
+use Rattle.plant_server.specs.OverFiles.{Begins, IsClosing, IsHonestAfter, Place, RanOnFiles, closing_text}
 use Rattle.plant_server.specs.{Promise.{FilesServed}, Services.{HasServed}, Statuses.{no_rows_text}, Streams.{Bytes, IsSaid, Streams, within}}
 use Rattle.plant_server.specs.declared.{remains.Left.{Left}, statuses.ExitStatus.{ExitStatus}}
 use Rattle.plant_store.specs.Opening.{IsThisOffice}
@@ -28,6 +28,7 @@ module _ {D N F : Type 0} {g : Ghosts D} where
     were = it.were;
     own = λ here db held honest. own here db held (it.honest honest);
     store = it.store;
+    closing = it.closing;
     first = it.first;
     last = it.last;
     said = it.said;
@@ -97,6 +98,7 @@ module _ {D N F : Type 0} {g : Ghosts D} (before end : BooksState) (admin : Name
     were = closing.were;
     honest = λ honest. let ran = made _ _ _ service n it in ran.2.stands.honest (tells honest);
     store = store;
+    closing = closing;
     first = first;
     last = last;
     said = (said, closed);

@@ -52,6 +52,8 @@ module _ (ran also : List Call → List Answer → Type 0)
     fair = s.fair;
     steady = s.steady;
     bounded = s.bounded;
+    soon = s.soon;
+    heeded = s.heeded;
     in_order = s.in_order;
     caused = s.caused;
     offered = s.offered;

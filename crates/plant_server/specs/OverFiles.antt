@@ -95,6 +95,14 @@ module _ {D N F : Type 0} {g : Ghosts D} where
   LeavesAfter (left.Unclosed store) w calls answers = (db : Trees) → recovers store db → IsOutcomeIn w calls answers db
   LeavesAfter _ w calls answers = ⊥
 
+  -- what closing leaves of a store after serving
+  pub record IsClosing (store : FileStore D g) (after : Left D N F g) : Type 0 where
+    pub were : AreServed after
+    pub clean : IsCleanAfter after → IsClean (view store)
+    pub honest : IsHonestAfter after → IsClean (view store) × IsTrue (view store).is_open
+    pub leaves : (w : World) (calls : List Call) (answers : List Answer) → LeavesOutcomes store w calls answers
+        → IsCleanAfter after → LeavesAfter after w calls answers
+
   -- what is printed to standard error on closing
   abbrev pub closing_text : Left D N F g → List ℕ
   closing_text (left.Unclosed store) = not_copied_text

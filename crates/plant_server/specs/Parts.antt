@@ -6,7 +6,7 @@ use Rattle.sqlite_trees.specs.View.{IsClean}
 use Rattle.plant_server_options.specs.declared.words.Service.{Service}
 use Rattle.plant_model.specs.{Worlds.{World, empty_world}, declared.{call.Call.{Call}, reply.Answer.{Answer}}}
 use Rattle.plant_office.specs.{Enduring.{AreAfter, BooksState, HoldsWorld}, Failures.{AreAnsweredBeforeFailure}}
-use Rattle.plant_server.specs.{Crashes.{LeavesOutcomes}, OverFiles.{AreAnsweredBy, AreServed, IsCleanAfter, IsHonestAfter, LeavesAfter, RanOnFiles, closing_text}, declared.remains.Left.{Left}}
+use Rattle.plant_server.specs.{Crashes.{LeavesOutcomes}, OverFiles.{AreAnsweredBy, AreServed, IsClosing, IsHonestAfter, RanOnFiles, closing_text}, declared.remains.Left.{Left}}
 use Rattle.plant_server.specs.{Services.{HasServed}, Statuses.{no_rows_text}, Streams.{Bytes, IsSaid, Streams, within}, declared.statuses.ExitStatus.{ExitStatus}}
 use Rattle.plant_types.specs.Names.{Name}
 
@@ -30,20 +30,13 @@ module _ {D : Type 0} {g : Ghosts D} where
         (within s first s.lines.reported_after) n
 
 module _ {D N F : Type 0} {g : Ghosts D} where
-  -- what closing leaves of a store after serving
-  pub record IsClosing (store : FileStore D g) (after : Left D N F g) : Type 0 where
-    pub were : AreServed after
-    pub clean : IsCleanAfter after → IsClean (view store)
-    pub honest : IsHonestAfter after → IsClean (view store) × IsTrue (view store).is_open
-    pub leaves : (w : World) (calls : List Call) (answers : List Answer) → LeavesOutcomes store w calls answers
-        → IsCleanAfter after → LeavesAfter after w calls answers
-
   -- The books of files were served, and the files closed.
   pub record BooksServed (books : BooksState) (admin : Name) (service : Option Service) (s : Streams) (n : ExitStatus)
       (after : Left D N F g) : Type 0 where
     pub were : AreServed after
     pub honest : IsHonestAfter after → books.honest
     pub store : FileStore D g
+    pub closing : IsClosing store after
     pub first : Bytes
     pub last : Bytes
     pub said : IsSaid s.lines.reported first no_rows_text × IsSaid last s.lines.reported_after (closing_text after)

@@ -11,7 +11,7 @@ use Rattle.plant_model.specs.{Worlds.{World, empty_world}, declared.{call.Call.{
 use Rattle.plant_office.specs.Failures.{AreAnsweredBeforeFailure}
 use Rattle.plant_store_memory.specs.{Memory.{memory}, declared.file.MemoryFile.{MemoryFile}}
 use Rattle.plant_server.specs.{Crashes.{HoldWholeBooks}, Files.{HoldDatabase, HoldOldBooks, HoldsStill}}
-use Rattle.plant_server.specs.OverFiles.{AreAnsweredBy, AreServed, Begins, IsHonestAfter, IsRefusal, IsUntouched, Place, RanOnFiles, closing_text}
+use Rattle.plant_server.specs.OverFiles.{AreAnsweredBy, AreServed, Begins, IsClosing, IsHonestAfter, IsRefusal, IsUntouched, Place, RanOnFiles, closing_text}
 use Rattle.plant_server.specs.{Services.{HasServed}, Streams.{Bytes, IsSaid, Lines, Streams, within}}
 use Rattle.plant_server.specs.Statuses.{code, help_text, migrated_text, no_rows_text, refusal_text, status_of_command_line, status_of_migration, unmigrated_text, unopened_text}
 use Rattle.plant_server.specs.declared.{remains.Left.{Left}, statuses.ExitStatus.{ExitStatus}}
@@ -73,6 +73,7 @@ module _ {D N F : Type 0} {g : Ghosts D} where
     pub own : path ≡ place.path → (db : Database) → HoldDatabase place.files db → IsHonestAfter after
         → IsThisOffice admin db
     pub store : FileStore D g
+    pub closing : IsClosing store after
     pub first : Bytes
     pub last : Bytes
     pub said : IsSaid s.lines.reported first no_rows_text × IsSaid last s.lines.reported_after (closing_text after)

@@ -1,25 +1,23 @@
--- What a plant may rely on: the six promises of the README, in its order, of a start with
--- `--admin NAME --db PATH --port N --forever`. Each follows from `IsKept`; proofs/Promised.antt has the proof.
-use Rattle.std.specs.Prelude.{◌≡◌, ◌⊎◌, ℕ, Bool, true, List, [], ◌∷◌, None, Ok, Result, Some, string_bytes}
+-- What a plant may rely on: the six promises of the README, in its order and words. The first record is about the calls,
+-- however they came; the second is about a port, with `--db PATH --port N`; the third about the streams, with `--db PATH`.
+-- Each follows from `IsKept`, for files that were opened and served (`AreServed`); proofs/Promised.antt has the proof.
+use Rattle.std.specs.Prelude.{◌≡◌, ◌⊎◌, ℕ, Bool, true, List, [], ◌∷◌, None, Ok, Option, Result, Some, string_bytes}
 use Rattle.sqlite_disk.specs.declared.Disk.{Ghosts}
 use Rattle.sqlite_store.specs.declared.store.FileStore.{FileStore}
 use Rattle.plant_model.specs.{Splits.{only}, Views.{names_in}, Worlds.{World, unit_named}, declared.{call.Call.{Call}, reply.Answer.{Answer}}}
 use Rattle.plant_office.specs.{Outcomes.{AreMade, confirms, is_fault}, Runs.{AreAnswers, AreIsolated}}
-use Rattle.plant_server_clients.specs.{Accounts.{AtEachMoment, IsAnsweredFor}, Causes.{AreCaused}, Events.{Event, all_answers, all_calls}}
-use Rattle.plant_server_clients.specs.{Fairness.{IsBounded, IsFair, IsSteady}, Order.{IsInOrder}}
+use Rattle.plant_server_clients.specs.{Accounts.{AtEachMoment, IsAnsweredFor}, Causes.{AreCaused}, Events.{Event, Logs, all_answers, all_calls, at_ports}}
+use Rattle.plant_server_clients.specs.{Fairness.{IsBounded, IsFair, IsSoon, IsSteady}, Heeded.{AreHeeded}, Order.{IsInOrder}}
 use Rattle.plant_server_options.specs.declared.words.{Service.{Service}, Task.TheVariants.{Serve}}
-use Rattle.plant_server.specs.{Crashes.{LeavesOutcomes}, OverFiles.{AreServed, Begins, IsCleanAfter, IsHonestAfter, LeavesAfter, Place}}
-use Rattle.plant_server.specs.{Promise.{IsKept}, Services.{is_at_once}, Streams.{Streams}}
-use Rattle.plant_server.specs.declared.remains.Left.{Left}
+use Rattle.plant_server.specs.{Crashes.{LeavesOutcomes}, Nets.{HasListened, Nets}, OverFiles.{AreServed, Begins, IsCleanAfter, IsHonestAfter, LeavesAfter, Place}}
+use Rattle.plant_server.specs.{Promise.{IsKept}, Services.{IsStreamed, is_at_once}, Streams.{Bytes, Streams, within}}
+use Rattle.plant_server.specs.declared.{remains.Left.{Left}, statuses.ExitStatus.{ExitStatus}}
 use Rattle.plant_types.specs.Names.{Name}
 
--- ---- the premises, beside `Begins` (the file held the rows of this world as it was opened), `AreServed` (it was opened
--- and served), `IsCleanAfter` (the disk has returned what was written) and `IsHonestAfter` (and no failure shut the store);
--- and that the words were read as such a line, whose connections are served many at once (`promised` of proofs/Promised).
+-- The premises: `Begins`, the file held the rows of this world as it was opened; `IsCleanAfter`, the disk has returned
+-- what was written; `IsHonestAfter`, and no failure has shut the store.
 
--- ---- what the promises are about: what happened at all connections, as one list of events
-
--- the call was made because it was confirmed, or its answer was a fault: not if it was refused, and not if it only asks
+-- a change was confirmed by its answer, or its answer was a fault: it was not refused, and the call does not only ask
 abbrev pub IsMadeFor : Call → List Call → List Answer → Type 0
 IsMadeFor c (d ∷ calls) (a ∷ answers) =
     ((d ≡ c) × ((confirms d a ≡ true) ⊎ (is_fault a ≡ true))) ⊎ IsMadeFor c calls answers
@@ -36,36 +34,55 @@ AreOn units [] = Unit {0}
 AreOn units (c ∷ calls) = (names_in units (unit_named c.request) ≡ true) × AreOn units calls
 
 module _ {D N F : Type 0} {g : Ghosts D} where
-  pub record Promises (place : Place D) (path : List ℕ) (admin : Name) (after : Left D N F g) : Type 0 where
-    pub events : List Event
-    pub store : FileStore D g
-    -- 1. Each call is answered as the world answers it that the calls before it left; and each connection was sent the
-    -- texts of the answers to its own requests, in order, and no byte else.
-    pub answered : (w : World) → Begins place path w → IsHonestAfter after → AreAnswers w (all_calls events) (all_answers events)
-    pub sent : (k : ℕ) → AtEachMoment (IsAnsweredFor k) events
+  pub record CallPromises (place : Place D) (path : List ℕ) (admin : Name) (after : Left D N F g) (store : FileStore D g)
+      (calls : List Call) (answers : List Answer) : Type 0 where
+    -- 1. Each call is answered as the world answers it that the calls before it left.
+    pub answered : (w : World) → Begins place path w → IsHonestAfter after → AreAnswers w calls answers
     -- 2. The answer would be the same in any world that looks the same to its caller.
-    pub apart : (w : World) → Begins place path w → IsHonestAfter after → AreIsolated w (all_calls events) (all_answers events)
-    -- 3. No call is among those that were made (4) that was refused, or that only asks.
-    pub unchanged : (made : List Call) → AreMade (all_calls events) (all_answers events) made
-        → AreMadeFor made (all_calls events) (all_answers events)
-    -- 4. Whatever a crash leaves, within the serving or after it, holds the rows after the calls that were confirmed, or
-    -- after these and one that is in doubt.
-    pub kept : (w : World) → Begins place path w → w.admin ≡ admin → IsCleanAfter after
-        → LeavesOutcomes store w (all_calls events) (all_answers events) × LeavesAfter after w (all_calls events) (all_answers events)
-    -- 5. While a connection waits, at most one call is made for each other, and fewer than are open in all; it is given up
-    -- only for a cause; and what is done is seen by whoever asks next.
-    pub fair : AtEachMoment IsFair events × AtEachMoment IsBounded events × AtEachMoment IsSteady events
-    pub caused : AreCaused None events
-    pub in_order : IsInOrder events
+    pub apart : (w : World) → Begins place path w → IsHonestAfter after → AreIsolated w calls answers
+    -- 3. No call that was refused, or that only asks, is among those that changed something (4).
+    pub unchanged : (made : List Call) → AreMade calls answers made → AreMadeFor made calls answers
+    -- 4. Whatever a crash leaves, during the serving or after it, holds the rows after the confirmed calls, or after these
+    -- and one that is in doubt.
+    pub lasting : (w : World) → Begins place path w → w.admin ≡ admin → IsCleanAfter after
+        → LeavesOutcomes store w calls answers × LeavesAfter after w calls answers
     -- 6. If the office began as these units of another, and is asked of these alone, it answers as the other would.
     pub split : (units : Name → Bool) (v : World) → Begins place path (only units v) → IsHonestAfter after
-        → AreOn units (all_calls events) → AreAnswers v (all_calls events) (all_answers events)
+        → AreOn units calls → AreAnswers v calls answers
 
--- They are kept by a command whose words were read as: serve this file for this administrator, and a port, to many
--- connections at once; if the file was opened.
+  -- What happened at all connections is one list of events, and it is what the port shows.
+  pub record PortPromises (place : Place D) (path : List ℕ) (admin : Name) (service : Service) (nets : Nets) (after : Left D N F g) : Type 0 where
+    pub events : List Event
+    pub listened : HasListened service nets
+    pub shown : Logs nets.before.log nets.after.log (at_ports events)
+    pub store : FileStore D g
+    pub calls : CallPromises place path admin after store (all_calls events) (all_answers events)
+    -- 1. Each connection was sent the answers to its own requests, in their order, and no other byte.
+    pub sent : (k : ℕ) → AtEachMoment (IsAnsweredFor k) events
+    -- 5. While a connection waits, at most one call is served for each other, fewer than are open in all, and the port is
+    -- asked at most once for more. What it reports is tried at once. A connection is given up only for a cause. What is done is
+    -- seen by whoever asks next.
+    pub fair : AtEachMoment IsFair events × AtEachMoment IsBounded events × AtEachMoment IsSteady events × AtEachMoment IsSoon events
+    pub heeded : AreHeeded service.connections events
+    pub caused : AreCaused None events
+    pub in_order : IsInOrder events
+
+  -- One session over the input and the output: its calls are those that the bytes read ask for, and the bytes written are
+  -- their answers.
+  pub record StreamPromises (place : Place D) (path : List ℕ) (admin : Name) (s : Streams) (n : ExitStatus) (after : Left D N F g) : Type 0 where
+    pub first : Bytes
+    pub last : Bytes
+    pub store : FileStore D g
+    pub session : IsStreamed (CallPromises place path admin after store) (within s first last) n
+
+  abbrev pub AllPromises : Place D → List ℕ → Name → Option Service → Streams → ExitStatus → Left D N F g → Type 0
+  AllPromises place path admin None s n after = StreamPromises place path admin s n after
+  AllPromises place path admin (Some service) s n after = is_at_once service ≡ true → PortPromises place path admin service s.nets after
+
+-- They are kept by a command whose words were read as: serve this file for this administrator, in this way.
 abbrev pub KeepsPromises : {D N E : Type 0} → (F : Type 0) → (g : Ghosts D) → Ghosts N → Place D → (List ℕ → Result ℕ E → Type 0)
     → (List ℕ → Result ℕ E → Type 0) → Type 0
 KeepsPromises {D} {N} F g h place gives_port gives =
     (words : List (List ℕ)) (s : Streams) (number : ℕ) (after : Left D N F g) (kept : IsKept gives_port gives h place words s number after)
-    (admin : Name) (path : _) (service : Service) → kept.line ≡ Ok (record { admin = admin; task = Serve (Some path) (Some service) })
-    → is_at_once service ≡ true → AreServed after → Promises place (string_bytes path) admin after
+    (admin : Name) (path : _) (service : Option Service) → kept.line ≡ Ok (record { admin = admin; task = Serve (Some path) service })
+    → AreServed after → AllPromises place (string_bytes path) admin service s kept.status after

@@ -9,7 +9,7 @@ ghost use Rattle.sqlite_wal.specs.Files.{image_at};
 ghost use Rattle.plant_server_options.specs.{CommandLines.{IsReadAs}, declared.words.{CommandLine.{CommandLine}, CommandLineError.{CommandLineError}}};
 ghost use Rattle.plant_books.specs.Contents.{no_units};
 ghost use Rattle.plant_office.specs.Enduring.{books_state};
-ghost use Rattle.plant_server.specs.{Crashes.{IsWhole}, OverFiles.{closing_text, place_of}, Parts.{BooksServed, IsClosing, IsServedAnew}};
+ghost use Rattle.plant_server.specs.{Crashes.{IsWhole}, OverFiles.{IsClosing, closing_text, place_of}, Parts.{BooksServed, IsServedAnew}};
 ghost use Rattle.plant_server.specs.Promise.{IsDone, IsDoneInMemory, IsDoneOnFile, IsKept, IsMigration, IsObeyed};
 ghost use Rattle.plant_server.specs.{Nets.{nets_of}, Services.{HasServed}};
 ghost use Rattle.plant_server.specs.Streams.{Bytes, IsSaid, lines_of, streams_of, within};
@@ -38,6 +38,7 @@ use plant_types::limits::MAX_CACHED_ROWS;
 use plant_wire::{Inlet, Outlet};
 use sqlite::{Alter, File, FileFrom, FileStore, Start};
 use sqlite_disk::Disk;
+use std::alloc::Global;
 use std::convert::AsStr;
 use std::io::Write;
 use std::str::FromStr;
@@ -45,7 +46,7 @@ use std::str::FromStr;
 /// Serves the port, or the streams if no service is given, over these books, and returns the status and the books after
 /// it.
 fn serve_over<B: Books + Drop, P: Net, I: Inlet, O: Outlet + Write, E: Write>(
-    rt: &HostRuntime,
+    alloc: Global,
     net: &mut P,
     books: B,
     service: Option<Service>,
@@ -58,8 +59,8 @@ fn serve_over<B: Books + Drop, P: Net, I: Inlet, O: Outlet + Write, E: Write>(
         (inlet.old, outlet.old, errors.old) (inlet.new, outlet.new, errors.new))
         result.0 }
 {
-    let mut office = Office::new(rt.alloc(), books);
-    let status = serve_office(rt, net, &mut office, service, inlet, outlet, errors);
+    let mut office = Office::new(alloc, books);
+    let status = serve_office(alloc, net, &mut office, service, inlet, outlet, errors);
     let left = office.into_books();
     (status, left)
 }
@@ -73,7 +74,7 @@ struct Uncached<S: Alter> {
 
 /// The same over tables, with cached rows.
 fn serve_cached<S: Alter + Drop, P: Net, I: Inlet, O: Outlet + Write, E: Write>(
-    rt: &HostRuntime,
+    alloc: Global,
     net: &mut P,
     tables: Uncached<S>,
     service: Option<Service>,
@@ -89,8 +90,8 @@ fn serve_cached<S: Alter + Drop, P: Net, I: Inlet, O: Outlet + Write, E: Write>(
         result.0 }
 {
     let Uncached { books, cache } = tables;
-    let cached_books = CachedBooks::new(rt.alloc(), cache, books);
-    let (status, left) = serve_over(rt, net, cached_books, service, inlet, outlet, errors);
+    let cached_books = CachedBooks::new(alloc, cache, books);
+    let (status, left) = serve_over(alloc, net, cached_books, service, inlet, outlet, errors);
     let below = left.into_books();
     (status, below)
 }
@@ -98,7 +99,7 @@ fn serve_cached<S: Alter + Drop, P: Net, I: Inlet, O: Outlet + Write, E: Write>(
 /// Serves the port, or the streams if no service is given, over these tables, with cached rows if there is memory for
 /// the cache; if there is not, standard error gets a line first. Returns the status and the tables after it.
 fn serve_books<S: Alter + Drop, P: Net, I: Inlet, O: Outlet + Write, E: Write>(
-    rt: &HostRuntime,
+    alloc: Global,
     net: &mut P,
     books: Tables<S>,
     service: Option<Service>,
@@ -112,14 +113,14 @@ fn serve_books<S: Alter + Drop, P: Net, I: Inlet, O: Outlet + Write, E: Write>(
         × HasServed (RanOn ⟦<Tables<S> as Books>⟧ books result.1) (¬ ⟦<Tables<S> as Books>⟧.is_honest result.1) service
         (within s first s.lines.reported_after) result.0 }
 {
-    match Cache::new(rt.alloc(), MAX_CACHED_ROWS) {
+    match Cache::new(alloc, MAX_CACHED_ROWS) {
         Ok(cache) => {
             let tables = Uncached { books, cache };
-            serve_cached(rt, net, tables, service, inlet, outlet, errors)
+            serve_cached(alloc, net, tables, service, inlet, outlet, errors)
         }
         Err(_) => {
             say(errors, b"memory: no rows at hand\n");
-            serve_over(rt, net, books, service, inlet, outlet, errors)
+            serve_over(alloc, net, books, service, inlet, outlet, errors)
         }
     }
 }
@@ -127,7 +128,7 @@ fn serve_books<S: Alter + Drop, P: Net, I: Inlet, O: Outlet + Write, E: Write>(
 /// Serves the books of two files as `serve_books` does. Generic over the disk: the prover is slow on the concrete one.
 /// New books and those of a file share this call of `serve_books`.
 fn serve_files<D: Disk + Drop, P: Net, I: Inlet, O: Outlet + Write, E: Write>(
-    rt: &HostRuntime,
+    alloc: Global,
     net: &mut P,
     books: Tables<FileStore<D>>,
     service: Option<Service>,
@@ -142,12 +143,12 @@ fn serve_files<D: Disk + Drop, P: Net, I: Inlet, O: Outlet + Write, E: Write>(
         (¬ ⟦<Tables<FileStore<D>> as Books>⟧.is_honest result.1) service
         (within s first s.lines.reported_after) result.0 }
 {
-    serve_books(rt, net, books, service, inlet, outlet, errors)
+    serve_books(alloc, net, books, service, inlet, outlet, errors)
 }
 
 /// Serves new books over any two files, and returns the status and the store as serving left it.
 fn serve_new<D: Disk + Drop, P: Net, I: Inlet, O: Outlet + Write, E: Write>(
-    rt: &HostRuntime,
+    alloc: Global,
     net: &mut P,
     books: Tables<FileStore<D>>,
     service: Option<Service>,
@@ -161,13 +162,13 @@ fn serve_new<D: Disk + Drop, P: Net, I: Inlet, O: Outlet + Write, E: Write>(
         (inlet.old, outlet.old, errors.old) (inlet.new, outlet.new, errors.new))
         result.0 result.1 }
 {
-    let (status, served) = serve_files(rt, net, books, service, inlet, outlet, errors);
+    let (status, served) = serve_files(alloc, net, books, service, inlet, outlet, errors);
     (status, leave(served))
 }
 
 /// Serves new books in memory, and returns the status and the store as serving left it, if books could be made.
 fn serve_memory<D: Disk, N: Disk, F, P: Net, I: Inlet, O: Outlet + Write, E: Write>(
-    rt: &HostRuntime,
+    alloc: Global,
     net: &mut P,
     admin: Person,
     service: Option<Service>,
@@ -181,9 +182,9 @@ fn serve_memory<D: Disk, N: Disk, F, P: Net, I: Inlet, O: Outlet + Write, E: Wri
         (inlet.old, outlet.old, errors.old) (inlet.new, outlet.new, errors.new))
         result.0 result.1 }
 {
-    match in_memory(rt.alloc(), admin) {
+    match in_memory(alloc, admin) {
         Ok(books) => {
-            let (status, store) = serve_new(rt, net, books, service, inlet, outlet, errors);
+            let (status, store) = serve_new(alloc, net, books, service, inlet, outlet, errors);
             (status, Left::InMemory(start, store))
         }
         Err(fault) => (report_unopened(errors, &fault), Left::Nothing(start)),
@@ -212,7 +213,7 @@ fn close_and_say<D: Disk + Drop, N: Disk + Drop, F, E: Write>(
 /// Serves the books of files, closes these, and returns the status and what is left of the files. If the service ended
 /// because a failure had shut the store, the store is indeed shut.
 fn serve_kept<D: Disk + Drop, N: Disk + Drop, F, P: Net, I: Inlet, O: Outlet + Write, E: Write>(
-    rt: &HostRuntime,
+    alloc: Global,
     net: &mut P,
     books: Tables<FileStore<D>>,
     service: Option<Service>,
@@ -225,7 +226,7 @@ fn serve_kept<D: Disk + Drop, N: Disk + Drop, F, P: Net, I: Inlet, O: Outlet + W
         (inlet.old, outlet.old, errors.old) (inlet.new, outlet.new, errors.new))
         result.0 result.1 }
 {
-    let (status, served) = serve_files(rt, net, books, service, inlet, outlet, errors);
+    let (status, served) = serve_files(alloc, net, books, service, inlet, outlet, errors);
     let left = close_and_say(leave(served), errors);
     (status, left)
 }
@@ -268,7 +269,7 @@ pub fn serve_file<F: Start + Located, P: Net, I: Inlet, O: Outlet + Write, E: Wr
         service,
     } = office;
     match in_file(rt, path, admin, start) {
-        Ok(books) => serve_kept(rt, net, books, service, inlet, outlet, errors),
+        Ok(books) => serve_kept(rt.alloc(), net, books, service, inlet, outlet, errors),
         Err((fault, left)) => (report_unopened(errors, &fault), left),
     }
 }
@@ -321,7 +322,16 @@ fn run<F: Start + Located, P: Net, I: Inlet, O: Outlet + Write, E: Write>(
     let CommandLine { admin, task } = line;
     match task {
         Task::Serve { db, service } => match db {
-            None => serve_memory(rt, net, admin, service, inlet, outlet, errors, start),
+            None => serve_memory(
+                rt.alloc(),
+                net,
+                admin,
+                service,
+                inlet,
+                outlet,
+                errors,
+                start,
+            ),
             Some(path) => {
                 let office = FileOffice {
                     path: path.as_str(),

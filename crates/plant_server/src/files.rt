@@ -24,9 +24,7 @@ use crate::places::Located;
 use crate::remains::{Left, close_whole};
 use plant_store::{StoreFault, Tables, note_settled};
 use plant_types::{Fault, Person};
-use sqlite::{
-    Alter, Connection, Error, ErrorCode, File, FileFrom, FileStore, Start, Unknown,
-};
+use sqlite::{Alter, Connection, Error, ErrorCode, File, FileFrom, FileStore, Start, Unknown};
 use sqlite_disk::{Disk, Files};
 use sqlite_trees::error::StoreError;
 use std::alloc::Global;
@@ -252,7 +250,11 @@ fn make_file(rt: &HostRuntime, path: &str, admin: Person) -> Result<(), StoreFau
 
 /// Makes new books in a file of this name, if neither it nor its log exists. If the file is empty, or only its log
 /// exists, it returns that.
-fn make_if_missing(rt: &HostRuntime, path: &str, admin: &Person) -> Result<Option<Empty>, StoreFault>
+fn make_if_missing(
+    rt: &HostRuntime,
+    path: &str,
+    admin: &Person,
+) -> Result<Option<Empty>, StoreFault>
     ensures named { IfErr result (λ e. e ≢ StoreFault.NotThisStore) }
     ensures empty { IfOk result (λ found. IfSome found (λ it. string_bytes it.path ≡ path.now)) }
 {

@@ -50,9 +50,9 @@ pub trait Net {
     /// Takes these connections back, and listens no longer.
     fn end_in_turn(&mut self, turns: Self::Turns)
         ensures { state self.new ≡ record (state self.old) {
-            is_lent = false;
-            turns = shown (Self.Turns.is_seen turns) (Self.Turns.accepted turns) (Self.Turns.failures turns)
-                (Self.Turns.traffic turns);
+          is_lent = false;
+          turns = shown (Self.Turns.is_seen turns) (Self.Turns.accepted turns) (Self.Turns.failures turns)
+              (Self.Turns.traffic turns);
         } };
 
     /// The same for a service of many connections at once, with its limits.
@@ -80,10 +80,12 @@ fn idle_time(service: Service) -> Option<Duration>
 
 /// The limits of a port of many connections at once.
 fn limits_of(service: Service) -> Limits
+    ensures connections { result.connections ≡ service.connections }
     ensures clients { result.clients ≡ service.clients }
     ensures idle { option_map as_nanos result.idle ≡ option_map (λ s. s * 1_000_000_000) service.idle }
 {
     Limits {
+        connections: service.connections,
         clients: service.clients as usize,
         idle: idle_time(service),
     }
@@ -126,10 +128,10 @@ impl<'a> Net for HostNet<'a> {
     type Clients = Sockets<'a>;
 
     ghost state = { λ s. record {
-        standing = s.standing;
-        is_lent = s.is_lent;
-        turns = shown false s.accepted (if s.failed then 1 else 0) unseen;
-        log = None;
+      standing = s.standing;
+      is_lent = s.is_lent;
+      turns = shown false s.accepted (if s.failed then 1 else 0) unseen;
+      log = None;
     } };
 
     fn listen_in_turn(&mut self, service: Service) -> Result<(u16, Port), Failed> {

@@ -177,7 +177,7 @@ pub fn serve_port<P: Net, B: Books, W: Write, E: Write>(
 
 /// Serves the port, or the streams if no service is given, by an office, and returns the status.
 pub(crate) fn serve_office<P: Net, B: Books, I: Inlet, O: Outlet + Write, E: Write>(
-    rt: &HostRuntime,
+    alloc: Global,
     net: &mut P,
     office: &mut Office<B>,
     service: Option<Service>,
@@ -190,7 +190,7 @@ pub(crate) fn serve_office<P: Net, B: Books, I: Inlet, O: Outlet + Write, E: Wri
         (inlet.new, outlet.new, errors.new)) result }
 {
     match service {
-        None => serve_streams(rt.alloc(), office, inlet, outlet, errors),
-        Some(service) => serve_port(rt.alloc(), net, office, service, outlet, errors),
+        None => serve_streams(alloc, office, inlet, outlet, errors),
+        Some(service) => serve_port(alloc, net, office, service, outlet, errors),
     }
 }

@@ -44,7 +44,7 @@ open_own ks fresh t (answered k mark) is has live = absurd is
 open_own ks fresh t (broke k cause) is has live = absurd is
 open_own ks fresh t (stopped k last) is has live = absurd is
 open_own ks fresh t (left k bytes) is has live = absurd is
-open_own ks fresh t (failed k trial) is has live = absurd is
+open_own ks fresh t (failed k trial) is has live = dead t fresh is refl live
 open_own ks fresh t (closed k how) is has live = absurd is
 open_own ks fresh t (reported ready) is has live = dead t fresh is refl live
 open_own ks (served u p) t (opened k) is has live = absurd is
@@ -248,7 +248,7 @@ fresh_moves (answered k mark) t is = absurd is
 fresh_moves (broke k cause) t is = absurd is
 fresh_moves (stopped k last) t is = absurd is
 fresh_moves (left k bytes) t is = absurd is
-fresh_moves (failed k trial) t is = absurd is
+fresh_moves (failed k trial) t is = (refl, inr is)
 fresh_moves (closed k how) t is = absurd is
 fresh_moves (reported ready) t is = (refl, inr is)
 

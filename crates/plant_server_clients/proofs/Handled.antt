@@ -10,13 +10,14 @@ use Rattle.plant_wire_call.specs.declared.causes.Cause.{Cause}
 use Rattle.plant_wire.specs.declared.{reads.End.{End, TheVariants.{BrokenInput, Fault}}, step.{Step.{Step}, Stop.{Stop}}}
 use Rattle.plant_office.{specs.{Faults.{noted}, declared.office.Faults.{Faults}}, proofs.public.FaultLaws.{added_none}}
 use Rattle.plant_server_log.specs.Log.{line_of}
-use Rattle.plant_server_clients.specs.Events.{Event, IsToldBy, Log, Logs, Shows, Trial, answered, answers_in, broke, calls_in, came, closed, ended, failed}
-use Rattle.plant_server_clients.specs.Events.{all_calls, arrivals, left, marks_of, opened, port_in, reading, seen_by, stopped, who, writing}
+use Rattle.plant_server_clients.specs.Events.{Event, IsToldBy, Log, Logs, Shows, Trial, accepting, answered, answers_in, broke, calls_in, came, closed, ended, failed}
+use Rattle.plant_server_clients.specs.Events.{all_calls, arrivals, left, looking, marks_of, opened, port_in, reading, reports_in, seen_by, stopped, who, writing}
 use Rattle.plant_server_clients.specs.{Causes.{Always, AreDue, CausedAt, ExpiredAt, OffersTo}, Drafts.{least_room_of_answers}}
 use Rattle.plant_server_clients.specs.Stages.{AreOpenConnections, Goes, IsOpen, Leads, MayClose, Moves, Stage, end_for, served, ending, stage_by, stage_in}
+use Rattle.plant_server_clients.specs.Service.{IsAccepting}
 use Rattle.plant_server_clients.specs.Happens.{Answers, ConnectionState, Happened, Made, Moved, Passed, ServiceState, Turned, Went, connection_state}
 use Rattle.plant_server_clients.proofs.Due.{due_answered, due_broke, due_came, due_closed, due_ended, due_failed, due_left, due_none, due_opened, due_stopped}
-use Rattle.plant_server_clients.proofs.{Due.{due_then, late_cause}, Numbers.{lifted, lifted_closed, lifted_opened}, Leading.{makes_none, shows_untold}}
+use Rattle.plant_server_clients.proofs.{Due.{due_then, late_cause}, Numbers.{lifted, lifted_closed, lifted_opened, lifted_put_off}, Leading.{makes_none, shows_untold}}
 use Rattle.plant_server_clients.proofs.{Texts.{cause_some, mark_some, stop_faultless}, Waited.{idle_stage}}
 use Rattle.plant_server_clients.specs.declared.connections.{Asked.{Asked}, Connection.{Connection}}
 
@@ -24,25 +25,31 @@ own_goes : (k : ℕ) (s s' : Stage) (e : Event) → who e ≡ k → Moves s e s'
 own_goes k s s' e is moves = record { own = λ w. moves; other = λ n. absurd (n is) }
 
 -- one event of which the log of lines has nothing
-went_one : (l l' : Connection) (e : Event) → l'.number ≡ l.number → who e ≡ l.number → IsToldBy e [] → Moves (stage_in l) e (stage_in l')
+went_one : (l l' : Connection) (e : Event) → l'.number ≡ l.number → who e ≡ l.number → IsToldBy e [] → reports_in e ≡ [] → Moves (stage_in l) e (stage_in l')
     → Went (e ∷ []) l l'
-went_one l l' e same is untold moves = record {
+went_one l l' e same is untold unasked moves = record {
   own = (is, tt);
   same = same;
   untold = ([], [], untold, refl, refl);
+  unasked = append-nil (reports_in e) ∙ unasked;
   leads = (stage_in l', own_goes l.number (stage_in l) (stage_in l') e is moves, refl);
 }
 
 went_none : (l l' : Connection) → l'.number ≡ l.number → stage_in l' ≡ stage_in l → Went [] l l'
-went_none l l' same stays = record { own = tt; same = same; untold = refl; leads = stays }
+went_none l l' same stays = record { own = tt; same = same; untold = refl; unasked = refl; leads = stays }
 
 not_writing : {A : Type 0} → reading ≡ writing → A
 not_writing is = cc
 
+pub not_reading : {A : Type 0} → writing ≡ reading → A
+not_reading is = cc
+
 module _ (seen seen' : Option (List Event)) (l l' : Connection) (same : l'.number ≡ l.number) where
-  pub moved_none : (reads : Bool) (trial : Trial) → (trial ≡ writing → l.pending.text.items ≡ []) → Logs seen seen' [] → stage_in l' ≡ stage_in l
-      → Moved seen seen' l l' reads trial true
-  moved_none reads trial empty logged stays = record {
+  -- nothing was tried
+  pub moved_none : (reads : Bool) (trial : Trial) → (trial ≡ writing → l.pending.text.items ≡ [])
+      → (reads ≡ true → trial ≡ reading → stage_in l ≡ served [] [] → ⊥) → l'.pending.text.items ≡ l.pending.text.items
+      → Logs seen seen' [] → stage_in l' ≡ stage_in l → Moved seen seen' l l' reads trial true
+  moved_none reads trial empty held sent logged stays = record {
     events = [];
     quiet = tt;
     arrives = record { one = omega arith; none = λ _. refl };
@@ -50,6 +57,8 @@ module _ (seen seen' : Option (List Event)) (l l' : Connection) (same : l'.numbe
     went = went_none l l' same stays;
     due = due_none;
     offers = λ is some. some (empty is);
+    tries = λ on is free. absurd (held on is free);
+    waits = λ _ _. record { none = refl; pending = sent };
     lost = λ (no : true ≡ false). cc;
   }
 
@@ -60,9 +69,11 @@ module _ (seen seen' : Option (List Event)) (l l' : Connection) (same : l'.numbe
     quiet = (refl, refl, tt);
     arrives = record { one = omega arith; none = λ (no : true ≡ false). cc };
     logged = logged;
-    went = went_one l l' (came l.number bytes) same refl refl (rw is (idle, after));
+    went = went_one l l' (came l.number bytes) same refl refl refl (rw is (idle, after));
     due = λ before. due_came before l.number bytes;
     offers = λ is. not_writing is;
+    tries = λ _ _ _. inl (bytes, refl);
+    waits = λ _ some. absurd (some idle.0);
     lost = λ (no : true ≡ false). cc;
   }
 
@@ -73,9 +84,11 @@ module _ (seen seen' : Option (List Event)) (l l' : Connection) (same : l'.numbe
     quiet = (refl, refl, tt);
     arrives = record { one = omega arith; none = λ (no : true ≡ false). cc };
     logged = logged;
-    went = went_one l l' (ended l.number) same refl refl (rw is (idle, after));
+    went = went_one l l' (ended l.number) same refl refl refl (rw is (idle, after));
     due = λ before. due_ended before l.number;
     offers = λ is. not_writing is;
+    tries = λ _ _ _. inr (inl refl);
+    waits = λ _ some. absurd (some idle.0);
     lost = λ (no : true ≡ false). cc;
   }
 
@@ -91,6 +104,7 @@ module _ (seen seen' : Option (List Event)) (l l' : Connection) (same : l'.numbe
       own = (refl, (refl, tt));
       same = same;
       untold = ([], [], refl, ([], [], refl, refl, refl), refl);
+      unasked = refl;
       leads = rw is (
         served (l.unread.items ++ bytes) [],
         own_goes l.number (served l.unread.items l.pending.text.items) (served (l.unread.items ++ bytes) []) (came l.number bytes) refl (idle, refl),
@@ -105,6 +119,8 @@ module _ (seen seen' : Option (List Event)) (l l' : Connection) (same : l'.numbe
         due_then before (came l.number bytes ∷ []) (stopped l.number nothing ∷ []) (due_came before l.number bytes)
         (due_stopped (Some (came l.number bytes)) l.number nothing);
     offers = λ is. not_writing is;
+    tries = λ _ _ _. inl (bytes, refl);
+    waits = λ _ some. absurd (some idle.0);
     lost = λ (no : true ≡ false). cc;
   }
 
@@ -119,11 +135,13 @@ module _ (seen seen' : Option (List Event)) (l l' : Connection) (same : l'.numbe
     quiet = (refl, refl, tt);
     arrives = record { one = omega arith; none = λ _. refl };
     logged = logged;
-    went = went_one l l' (left l.number bytes) same refl refl
+    went = went_one l l' (left l.number bytes) same refl refl refl
         (subst (λ (s : Stage). Moves (stage_in l) (left l.number bytes) s) (sym after)
         (left_moves l.unread.items l.pending.text.items rest bytes l.end split));
     due = λ before. due_left before l.number bytes;
     offers = λ _ _. inl (bytes, refl);
+    tries = λ _ is. not_reading is;
+    waits = λ is. not_reading is;
     lost = λ (no : true ≡ false). cc;
   }
 
@@ -132,19 +150,39 @@ module _ (seen seen' : Option (List Event)) (l l' : Connection) (same : l'.numbe
   failed_moves u p (Some e) trial = refl
 
   -- what was tried failed
-  pub moved_failed : (reads : Bool) (trial : Trial) → Logs seen seen' (failed l.number trial ∷ []) → stage_in l' ≡ stage_in l
-      → Moved seen seen' l l' reads trial false
-  moved_failed reads trial logged stays = record {
+  pub moved_failed : (reads : Bool) (trial : Trial) → (trial ≡ reading → l.pending.text.items ≡ [])
+      → Logs seen seen' (failed l.number trial ∷ []) → stage_in l' ≡ stage_in l → Moved seen seen' l l' reads trial false
+  moved_failed reads trial empty logged stays = record {
     events = failed l.number trial ∷ [];
     quiet = (refl, refl, tt);
     arrives = record { one = omega arith; none = λ _. refl };
     logged = logged;
-    went = went_one l l' (failed l.number trial) same refl refl
+    went = went_one l l' (failed l.number trial) same refl refl refl
         (subst (λ (s : Stage). Moves (stage_in l) (failed l.number trial) s) (sym stays)
         (failed_moves l.unread.items l.pending.text.items l.end trial));
     due = λ before. due_failed before l.number trial;
     offers = λ is _. inr (ap (failed l.number) is);
+    tries = λ _ is _. inr (inr (inl (ap (failed l.number) is)));
+    waits = λ is some. absurd (some (empty is));
     lost = λ _ before. refl;
+  }
+
+  -- a read found nothing yet
+  pub moved_looked : Logs seen seen' (failed l.number looking ∷ []) → l.pending.text.items ≡ [] → stage_in l' ≡ stage_in l
+      → Moved seen seen' l l' true reading true
+  moved_looked logged empty stays = record {
+    events = failed l.number looking ∷ [];
+    quiet = (refl, refl, tt);
+    arrives = record { one = omega arith; none = λ _. refl };
+    logged = logged;
+    went = went_one l l' (failed l.number looking) same refl refl refl
+        (subst (λ (s : Stage). Moves (stage_in l) (failed l.number looking) s) (sym stays)
+        (failed_moves l.unread.items l.pending.text.items l.end looking));
+    due = λ before. due_failed before l.number looking;
+    offers = λ is. not_writing is;
+    tries = λ _ _ _. inr (inr (inr refl));
+    waits = λ _ some. absurd (some empty);
+    lost = λ (no : true ≡ false). cc;
   }
 
 few_calls : (ms : List Mark) → length ms ≤ 1 → length (calls_of ms ++ []) ≤ 1
@@ -184,8 +222,9 @@ DueBefore l l' e = (last : Option Event) (later : List Event) → ((each : Optio
 module _ {B : Type 0} (b : books.Ghosts B) (x y : B) (f g : Faults) (honest : b.is_honest y → b.is_honest x) (l l' : Connection)
     (same : l'.number ≡ l.number) where
   -- no request was answered, since none is whole
-  pub made_waiting : RanNoting b x y f g [] [] → stage_in l' ≡ stage_in l → IsIdle l.unread.items → Made b x y f g l l' true
-  made_waiting ran stays idle = record {
+  pub made_waiting : RanNoting b x y f g [] [] → stage_in l' ≡ stage_in l → l'.pending.text.items ≡ l.pending.text.items
+      → IsIdle l.unread.items → Made b x y f g l l' true
+  made_waiting ran stays sent idle = record {
     events = [];
     unseen = refl;
     makes = record { ran = ran.0; honest = honest };
@@ -195,23 +234,25 @@ module _ {B : Type 0} (b : books.Ghosts B) (x y : B) (f g : Faults) (honest : b.
     answers = λ _ u at busy none v leads. busy (idle_stage l.unread.items l.pending.text.items l.end u (λ _ _. idle) at);
     asks = λ _. tt;
     calm = refl;
+    waits = λ _. record { none = refl; pending = sent };
     due = λ last later each offers. each last;
   }
 
-  made_one : (e : Event) → who e ≡ l.number → (port_in e ≡ []) → IsToldBy e []
+  made_one : (e : Event) → who e ≡ l.number → (port_in e ≡ []) → IsToldBy e [] → reports_in e ≡ [] → l.pending.text.items ≡ []
       → RanNoting b x y f g (calls_in e) (answers_in e) → Moves (stage_in l) e (stage_in l') → length (all_calls (e ∷ [])) ≤ 1 → Answers l (e ∷ [])
       → length (arrivals (e ∷ [])) ≡ 0 → DueBefore l l' e
       → Made b x y f g l l' true
-  made_one e is unseen untold ran moves few answers calm due = record {
+  made_one e is unseen untold unasked empty ran moves few answers calm due = record {
     events = e ∷ [];
     unseen = append-nil (port_in e) ∙ unseen;
     makes = (y, record { ran = ran.0; honest = honest }, makes_none b y);
     notes = ran.1 ∙ ap (noted f) (sym (append-nil (answers_in e)));
-    went = went_one l l' e same is untold moves;
+    went = went_one l l' e same is untold unasked moves;
     once = few;
     answers = λ _. answers;
     asks = λ no. cc;
     calm = calm;
+    waits = λ some. absurd (some empty);
     due = due;
   }
 
@@ -221,7 +262,7 @@ module _ {B : Type 0} (b : books.Ghosts B) (x y : B) (f g : Faults) (honest : b.
         → stage_in l' ≡ served (drop n l.unread.items) l'.pending.text.items → Made b x y f g l l' true
     made_answered n a now =
         let text : l'.pending.text.items ≡ mark_text a.mark = a.writes ∙ ap (λ (t : List ℕ). t ++ mark_text a.mark) none_before in
-        made_one (answered l.number a.mark) refl refl refl a.served (rw is (empty, (n, a.stands, now ∙ ap (served (drop n l.unread.items)) text)))
+        made_one (answered l.number a.mark) refl refl refl refl empty a.served (rw is (empty, (n, a.stands, now ∙ ap (served (drop n l.unread.items)) text)))
         (few_calls (a.mark ∷ []) (omega arith)) (λ u at busy none. absurd (marked l.number a.mark none)) refl
         (λ last later each offers.
         due_answered last l.number a.mark later (offers (λ gone_text. mark_some a.mark (sym text ∙ gone_text))) (each (Some (answered l.number a.mark))))
@@ -231,7 +272,7 @@ module _ {B : Type 0} (b : books.Ghosts B) (x y : B) (f g : Faults) (honest : b.
         → stage_in l' ≡ ending BrokenInput l'.pending.text.items → Made b x y f g l l' true
     made_broke a now =
         let text : l'.pending.text.items ≡ cause_text a.cause = a.writes ∙ ap (λ (t : List ℕ). t ++ cause_text a.cause) none_before in
-        made_one (broke l.number a.cause) refl refl refl a.served (rw is (empty, a.stands, now ∙ ap (ending BrokenInput) text))
+        made_one (broke l.number a.cause) refl refl refl refl empty a.served (rw is (empty, a.stands, now ∙ ap (ending BrokenInput) text))
         (omega arith) (λ u at busy none v leads. ends_broken l.number u v a.cause (stage_in l) at leads) refl
         (λ last later each offers.
         due_broke last l.number a.cause later (offers (λ gone_text. cause_some a.cause (sym text ∙ gone_text))) (each (Some (broke l.number a.cause))))
@@ -240,7 +281,7 @@ module _ {B : Type 0} (b : books.Ghosts B) (x y : B) (f g : Faults) (honest : b.
     made_stopped : (last : Last) → StandsLast l.unread.items last → IsFaultless last → RanNoting b x y f g (calls_of (last_marks last)) (answers_of (last_marks last))
         → stage_in l' ≡ ending Fault [] → Made b x y f g l l' true
     made_stopped last stands why ran now =
-        made_one (stopped l.number last) refl refl refl ran (rw is (empty, stands, why, now))
+        made_one (stopped l.number last) refl refl refl refl empty ran (rw is (empty, stands, why, now))
         (few_calls (last_marks last) (one_last last)) (λ u at busy none v leads. ends_stopped l.number u v last (stage_in l) at leads) refl
         (λ before later each offers.
         due_then before (stopped l.number last ∷ []) later (due_stopped before l.number last) (each (Some (stopped l.number last))))
@@ -271,6 +312,7 @@ made_none b x f l serves idle = record {
   answers = λ is u at busy none v leads. busy (idle is u at);
   asks = λ _. tt;
   calm = refl;
+  waits = λ _. record { none = refl; pending = refl };
   due = λ last later each offers. each last;
 }
 
@@ -317,6 +359,7 @@ passed_closed s ports log at l end ok is may logged (part, written) = record {
   events = closed l.number end ∷ [];
   quiet = (refl, refl, tt);
   one = (l.number, (refl, tt));
+  unasked = refl;
   due = λ before cause. due_closed before l.number end (cause l is);
   arrives = record { one = omega arith; none = λ _. refl };
   shown = shows_closed s.seen.ports ports s.seen.log log l.number end part logged written;
@@ -330,11 +373,38 @@ passed_opened s ports l ok is new logged = record {
   events = opened s.count ∷ [];
   quiet = (refl, refl, tt);
   one = (s.count, (refl, tt));
+  unasked = refl;
   due = λ before _. due_opened before s.count;
   arrives = record { one = omega arith; none = λ (no : true ≡ false). cc };
   shown = shows_untold s.seen.ports ports s.seen.log (opened s.count ∷ []) logged ([], [], refl, refl, refl);
   leads = lifted_opened s.count s.connections l ok is new;
 }
+
+-- the next connection could not be accepted
+pub passed_put_off : (s : ServiceState) (ports : Log) → Logs s.seen.ports ports (failed s.count accepting ∷ [])
+    → Passed Always true s (record { seen = seen_by ports s.seen.log; count = s.count; connections = s.connections })
+passed_put_off s ports logged = record {
+  events = failed s.count accepting ∷ [];
+  quiet = (refl, refl, tt);
+  one = (s.count, (refl, tt));
+  unasked = refl;
+  due = λ before _. due_failed before s.count accepting;
+  arrives = record { one = omega arith; none = λ _. refl };
+  shown = shows_untold s.seen.ports ports s.seen.log (failed s.count accepting ∷ []) logged ([], [], refl, refl, refl);
+  leads = lifted_put_off s.count s.connections;
+}
+
+-- accepting it was tried
+pub tried_put_off : (n : ℕ) (s : ServiceState) (ports : Log) → Logs s.seen.ports ports (failed s.count accepting ∷ [])
+    → IsAccepting n s (record { seen = seen_by ports s.seen.log; count = s.count; connections = s.connections })
+unfolding passed_put_off
+tried_put_off n s ports logged = (passed_put_off s ports logged, λ _. (s.count, inr refl))
+
+pub tried_opened : (n : ℕ) (s : ServiceState) (ports : Log) (l : Connection) → AreOpenConnections s.count s.connections → l.number ≡ s.count
+    → stage_in l ≡ served [] [] → Logs s.seen.ports ports (opened s.count ∷ [])
+    → IsAccepting n s (record { seen = seen_by ports s.seen.log; count = s.count + 1; connections = s.connections ++ l ∷ [] })
+unfolding passed_opened
+tried_opened n s ports l ok is new logged = (passed_opened s ports l ok is new logged, λ _. (s.count, inl refl))
 
 -- the same, where the time of the connection is over
 pub passed_expired : {s t : ServiceState} (at : ℕ) (end : End) → Passed (CausedAt s.connections at end) false s t
@@ -343,6 +413,7 @@ passed_expired at end p = record {
   events = p.events;
   quiet = p.quiet;
   one = p.one;
+  unasked = p.unasked;
   due = λ before late. p.due before (λ l is. late_cause before l.number end (late l is));
   arrives = p.arrives;
   shown = p.shown;

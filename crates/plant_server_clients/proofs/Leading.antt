@@ -1,5 +1,5 @@
 -- Events one after another.
-use Rattle.std.proofs.Common.{arith, false, ◌≡◌, ℕ, Bool, List, [], ◌∷◌, ◌++◌, Option, Some, None, inl, inr, refl, sym, ap, subst, ◌∙◌, append_assoc, append-nil}
+use Rattle.std.proofs.Common.{arith, false, ◌≡◌, ◌+◌, ℕ, length, length-append, Bool, List, [], ◌∷◌, ◌++◌, Option, Some, None, inl, inr, refl, sym, ap, subst, ◌∙◌, append_assoc, append-nil}
 use Rattle.std.specs.Prelude.{IfSome}
 use Rattle.std.{proofs.{KnownBytes.{Appends-nil, Appends-trans}, lemmas.Grind.{flat_map-append}}}
 use Rattle.plant_model.specs.declared.{call.Call.{Call}, reply.Answer.{Answer}}
@@ -9,7 +9,7 @@ use Rattle.plant_office.proofs.public.FaultLaws.{added_none}
 use Rattle.plant_wire.proofs.public.Running.{ran_none, ran_joins}
 use Rattle.plant_server_clients.specs.Books.{AreQuiet, IsMoment, Makes, MakesEach}
 use Rattle.plant_server_clients.specs.Events.{AreTold, Event, Logs, Seen, Shows, all_answers, all_calls, answers_in, at_ports, calls_in, failed, port_in, reading}
-use Rattle.plant_server_clients.specs.Events.{reported, seen_by, writing}
+use Rattle.plant_server_clients.specs.Events.{reported, reports, reports_in, seen_by, writing}
 use Rattle.plant_server_clients.specs.Stages.{Leads, Moves, Stage, fresh, gone, served, ending, stage_in}
 use Rattle.plant_server_clients.specs.Happens.{AreOf, Happened, IsTurnOf, Made, Moved, Passed, ServiceState, Turned, Went, ConnectionState, connection_state, stages}
 use Rattle.plant_server_clients.specs.Faults.{reporting}
@@ -40,6 +40,13 @@ pub told_then : (es fs : List Event) (xs ys : List ℕ) → AreTold es xs → Ar
 told_then [] fs xs ys is later = subst (λ (t : List ℕ). AreTold fs (t ++ ys)) (sym is) later
 told_then (e ∷ es) fs xs ys (now, rest, first, told, is) later =
     (now, rest ++ ys, first, told_then es fs rest ys told later, ap (λ (t : List ℕ). t ++ ys) is ∙ append_assoc now rest ys)
+
+-- how often the ports were asked
+pub reports-append : (es fs : List Event) → length (reports (es ++ fs)) ≡ length (reports es) + length (reports fs)
+reports-append es fs = ap length (flat_map-append reports_in es fs) ∙ length-append (reports es) (reports fs)
+
+pub unasked_then : (es fs : List Event) → reports es ≡ [] → reports fs ≡ [] → reports (es ++ fs) ≡ []
+unasked_then es fs none none_then = flat_map-append reports_in es fs ∙ (λ i. none i ++ none_then i)
 
 pub logs_none : (a : Option (List Event)) → Logs a a []
 logs_none None = tt
@@ -167,6 +174,7 @@ passed_none cause comes s ports logged = record {
   events = [];
   quiet = tt;
   one = (0, tt);
+  unasked = refl;
   due = λ before _. due_none before;
   arrives = record { one = omega arith; none = λ _. refl };
   shown = shows_untold s.seen.ports ports s.seen.log [] logged refl;
@@ -205,6 +213,7 @@ went_then es fs l m n p q = record {
   own = own_then l.number es fs p.own (subst (λ (k : ℕ). AreOf k fs) p.same q.own);
   same = q.same ∙ p.same;
   untold = told_then es fs [] [] p.untold q.untold;
+  unasked = unasked_then es fs p.unasked q.unasked;
   leads =
       leads_then l.number (stage_in l) (stage_in m) (stage_in n) es fs p.leads
       (subst (λ (k : ℕ). Leads k (stage_in m) fs (stage_in n)) p.same q.leads);
@@ -253,7 +262,7 @@ module _ {B : Type 0} (b : books.Ghosts B) where
       → Turned b x y' before (connection_state t m') asked over
   turned_reported x y y' before t m m' asked over same is p =
       let went : Went p.events before.connection (reporting m m'.faults) =
-      record { own = p.went.own; same = p.went.same; untold = p.went.untold; leads = p.went.leads } in
+      record { own = p.went.own; same = p.went.same; untold = p.went.untold; unasked = p.went.unasked; leads = p.went.leads } in
       let why : IfSome over (λ end. IsDueTo (reporting m m'.faults) end p.events) = p.why in
       record {
         events = p.events;

@@ -4,6 +4,7 @@ mod Leading
 mod Waited
 mod Paced
 mod OneTurn
+mod Soon
 mod Rounds
 mod Numbers
 mod Aligned

@@ -332,6 +332,8 @@ moves (ending e p) s' (failed k trial) c h m x d b t o is =
     rw (is, append-nil c, append-nil h, append-nil m, append-nil x, append-nil d, append-nil b, append-nil t) o
 moves fresh s' (reported ready) c h m x d b t at is =
     rw (is, append-nil c, append-nil m, append-nil x, append-nil d, append-nil b, append-nil t) at
+moves fresh s' (failed k trial) c h m x d b t at is =
+    rw (is, append-nil c, append-nil m, append-nil x, append-nil d, append-nil b, append-nil t) at
 moves (served u p) s' (reported ready) c h m x d b t g is =
     rw (is, append-nil c, append-nil m, append-nil x, append-nil d, append-nil b, append-nil t) g
 moves (ending e p) s' (reported ready) c h m x d b t o is =
@@ -347,7 +349,6 @@ moves fresh s' (answered k mark) c h m x d b t at is = absurd is
 moves fresh s' (broke k cause) c h m x d b t at is = absurd is
 moves fresh s' (stopped k last) c h m x d b t at is = absurd is
 moves fresh s' (left k y) c h m x d b t at is = absurd is
-moves fresh s' (failed k trial) c h m x d b t at is = absurd is
 moves fresh s' (closed k how) c h m x d b t at is = absurd is
 moves (served u p) s' (opened k) c h m x d b t at is = absurd is
 moves (ending e p) s' (opened k) c h m x d b t at is = absurd is

@@ -1,16 +1,16 @@
 -- The open connections, by their numbers.
 use Rattle.std.proofs.Common.{◌≡◌, ◌≢◌, ◌≤◌, ◌<◌, ◌+◌, ℕ, zero, suc, List, [], ◌∷◌, ◌++◌, Bool, true, false, Option, Some, None, slice_get}
-use Rattle.std.proofs.Common.{slice_index_or, slice_set, refl, sym, ap, subst, ◌∙◌, nat_eq, nat_lt, arith, take, inl, inr}
+use Rattle.std.proofs.Common.{slice_index_or, slice_set, refl, sym, ap, subst, ◌∙◌, cond, nat_eq, nat_lt, arith, take, inl, inr}
 use Rattle.std.proofs.Common.{ltb-true, ltb-false, lt-ltb, le-ltb, eq-eqb, eqb-true}
 use Rattle.std.proofs.lemmas.Bool.{eqb-false}
 use Rattle.std.specs.{List.{remove}, Prelude.{IfSome}}
 use Rattle.plant_wire_call.specs.Cut.{WaitsBelow}
 use Rattle.plant_wire.specs.declared.reads.End.{End}
 use Rattle.plant_wire.specs.declared.reads.End.TheVariants.{WriteFailed}
-use Rattle.plant_server_clients.specs.Events.{Event, opened, closed}
+use Rattle.plant_server_clients.specs.Events.{Event, accepting, opened, closed, failed}
 use Rattle.plant_server_clients.specs.Stages.{AreOpenConnections, IsGivenUp, Leads, MayClose, Moves, Stage, fresh, gone, served, connection_with, stage_by, stage_if_open}
 use Rattle.plant_server_clients.specs.Stages.{stage_in, stage_of}
-use Rattle.plant_server_clients.specs.{Happens.{AreOf}, Prompt.{ArePrompt, IsPrompt}}
+use Rattle.plant_server_clients.specs.{Happens.{AreOf}, Heeded.{pending_at}, Prompt.{ArePrompt, IsPrompt}, Stages.{IsNoneNumbered}}
 use Rattle.plant_server_clients.proofs.Leading.{leads_other}
 use Rattle.plant_server_clients.specs.declared.connections.Connection.{Connection}
 
@@ -246,6 +246,59 @@ lifted_opened count ls l ok is new k = go (nat_eq count k) refl
         stage_same k (count + 1) ls (ls ++ l ∷ []) (pushed_other ls l k (λ w. not (sym is ∙ w))) ∙ counted_other count ls k ok not in
         subst (λ (s : Stage). Leads k (stage_of k count ls) (opened count ∷ []) s) (sym stays)
         (leads_other k count (stage_of k count ls) (opened count ∷ []) (refl, tt) not)
+
+-- the next connection could not be accepted
+pub lifted_put_off : (count : ℕ) (ls : List Connection) (k : ℕ)
+    → Leads k (stage_of k count ls) (failed count accepting ∷ []) (stage_of k count ls)
+lifted_put_off count ls k = go (nat_eq count k) refl
+  where
+    go : (b : Bool) → nat_eq count k ≡ b → Leads k (stage_of k count ls) (failed count accepting ∷ []) (stage_of k count ls)
+    go true e =
+        let same = eqb-true count k e in
+        let before = stage_fresh_at k count ls (omega (arith, same)) in
+        rw before (fresh, record { own = λ w. refl; other = λ n. absurd (n same) }, refl)
+    go false e = leads_other k count (stage_of k count ls) (failed count accepting ∷ []) (refl, tt) (eqb-false count k e)
+
+-- a connection that was not accepted yet
+pub uncounted : (k count : ℕ) (ls : List Connection) → stage_of k count ls ≡ fresh → count ≤ k
+uncounted k count ls is = go (nat_lt k count) refl is
+  where
+    by_end : (u p : List ℕ) (end : Option End) → stage_by u p end ≡ fresh → ⊥
+    by_end u p None e = cc
+    by_end u p (Some end) e = cc
+
+    no_stage : (o : Option Connection) → stage_if_open o ≡ fresh → ⊥
+    no_stage None e = cc
+    no_stage (Some l) e = by_end l.unread.items l.pending.text.items l.end e
+
+    go : (b : Bool) → nat_lt k count ≡ b → cond b (stage_if_open (connection_with k ls)) fresh ≡ fresh → count ≤ k
+    go true e at_it = absurd (no_stage (connection_with k ls) at_it)
+    go false e at_it = ltb-false k count e
+
+-- a number that no connection has
+pub unnumbered : (k : ℕ) (ls : List Connection) → IsNoneNumbered k ls → connection_with k ls ≡ None
+unnumbered k [] none = refl
+unnumbered k (x ∷ ls) none = later x k ls none.0 ∙ unnumbered k ls none.1
+
+pub nothing_pending : (k count : ℕ) (ls : List Connection) → connection_with k ls ≡ None → pending_at (stage_of k count ls) ≡ []
+nothing_pending k count ls none = go (nat_lt k count) refl
+  where
+    go : (b : Bool) → nat_lt k count ≡ b → pending_at (stage_of k count ls) ≡ []
+    go true e = rw (e, none) refl
+    go false e = rw e refl
+
+unnumbered_more : (k : ℕ) (ls : List Connection) (at : ℕ) (l : Connection) → slice_get ls at ≡ Some l → IsNoneNumbered k (take at ls)
+    → l.number ≢ k → IsNoneNumbered k (take (suc at) ls)
+unnumbered_more k [] at l is before now = cc
+unnumbered_more k (x ∷ ls) zero l is before now =
+    let e : x ≡ l = cc in (λ same. now (ap (λ (y : Connection). y.number) (sym e) ∙ same), tt)
+unnumbered_more k (x ∷ ls) (suc at) l is before now = (before.0, unnumbered_more k ls at l is before.1 now)
+
+pub unnumbered_next : (k : ℕ) (ls : List Connection) (at : ℕ) (l : Connection) → slice_get ls at ≡ Some l → IsNoneNumbered k (take at ls)
+    → l.number ≢ k → IsNoneNumbered k (take (at + 1) ls)
+unnumbered_next k ls at l is before now =
+    let e : suc at ≡ at + 1 = omega arith in
+    subst (λ (n : ℕ). IsNoneNumbered k (take n ls)) e (unnumbered_more k ls at l is before now)
 
 pub connections_start : (count : ℕ) (ls : List Connection) → ls ≡ [] → AreOpenConnections count ls
 connections_start count [] e = tt

@@ -1,14 +1,14 @@
 -- A turn of a connection: a read, an answer and a write, or a read that failed.
-use Rattle.std.proofs.Common.{◌≡◌, ◌+◌, ℕ, List, [], ◌∷◌, ◌++◌, Bool, false, Option, length, inl, inr, refl, sym, ap, subst, ◌∙◌, arith, length-append}
+use Rattle.std.proofs.Common.{◌≡◌, ◌≢◌, ◌+◌, ℕ, List, [], ◌∷◌, ◌++◌, Bool, false, None, Option, Some, length, inl, inr, refl, sym, ap, subst, ◌∙◌, arith, length-append}
 use Rattle.std.proofs.lemmas.Grind.{flat_map-append}
 use Rattle.plant_books.specs.declared.books.Books as books
 use Rattle.plant_office.specs.declared.office.Faults.{Faults}
-use Rattle.plant_wire.specs.{declared.reads.End.TheVariants.{ReadFailed}}
+use Rattle.plant_wire.specs.{declared.reads.End.{End, TheVariants.{ReadFailed, WriteFailed}}}
 use Rattle.plant_server_clients.specs.{Books.{AreQuiet}, Causes.{OffersTo, last_of}}
 use Rattle.plant_server_clients.specs.Events.{Event, all_calls, arrivals, arrivals_in, calls_in, closed, marks_of, reading, writing}
-use Rattle.plant_server_clients.specs.Happens.{IsTurnOf, Made, Moved}
-use Rattle.plant_server_clients.specs.Stages.{Leads, MayClose, Moves, Stage, gone, served, stage_in}
-use Rattle.plant_server_clients.proofs.{Due.{due_then}, Leading.{quiet_then, went_then}, Waited.{leads_once, not_over, wait_leads, waits_on}}
+use Rattle.plant_server_clients.specs.{Happens.{IsTurnOf, Made, Moved}, Heeded.{IsReading}}
+use Rattle.plant_server_clients.specs.Stages.{Leads, MayClose, Moves, Stage, gone, served, stage_by, stage_in}
+use Rattle.plant_server_clients.proofs.{Due.{due_then}, Leading.{quiet_then, went_then}, Soon.{starts_more}, Waited.{leads_once, not_over, wait_leads, waits_on}}
 use Rattle.plant_server_clients.specs.declared.connections.Connection.{Connection}
 
 no_calls : (es : List Event) → AreQuiet es → all_calls es ≡ []
@@ -58,7 +58,24 @@ module _ {B : Type 0} (b : books.Ghosts B) (x y : B) (f g : Faults) (s t u : Opt
         due_then before p.events (made.events ++ q.events) (p.due before)
         (made.due (last_of before p.events) q.events q.due
         (λ some. subst (λ (k : ℕ). OffersTo k q.events) made.went.same (q.offers refl some)));
+    tries = λ on free. starts_more (IsReading l.number) p.events (made.events ++ q.events) (p.tries on refl free);
+    offers = λ some.
+        let still = p.waits refl some in
+        let some_left : m.pending.text.items ≢ [] = λ none. some (sym still.pending ∙ none) in
+        let unmade = made.waits some_left in
+        let some_sent : n.pending.text.items ≢ [] = λ none. some_left (sym unmade.pending ∙ none) in
+        let all : p.events ++ (made.events ++ q.events) ≡ q.events = (λ i. still.none i ++ (unmade.none i ++ q.events)) in
+        subst (OffersTo l.number) (sym all)
+        (subst (λ (k : ℕ). OffersTo k q.events) (made.went.same ∙ p.went.same) (q.offers refl some_sent));
   }
+
+-- a connection that is closed for a failed read has nothing to send
+closes_empty : (k : ℕ) (u p : List ℕ) (e : Option End) → Moves (stage_by u p e) (closed k ReadFailed) gone → p ≡ []
+closes_empty k u p None (given, is) = given.0
+closes_empty k u p (Some end) (may, is) = elim may as (λ _. p ≡ []) [ inl h ↦ h.1 | inr h ↦ not_write h.0 ]
+  where
+    not_write : {A : Type 0} → ReadFailed ≡ WriteFailed → A
+    not_write is = cc
 
 -- a connection on which a request can be answered is not read
 pub short_one : (s t : Option (List Event)) (l m : Connection) (reads serves here : Bool) (p : Moved s t l m reads reading here) → MayClose m ReadFailed
@@ -77,4 +94,6 @@ short_one s t l m reads serves here p may = record {
   quiet = λ _. p.quiet;
   arrives = p.arrives;
   due = p.due;
+  tries = λ on free. p.tries on refl free;
+  offers = λ some. absurd (some (sym (p.waits refl some).pending ∙ closes_empty m.number m.unread.items m.pending.text.items m.end may));
 }

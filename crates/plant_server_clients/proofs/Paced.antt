@@ -384,7 +384,7 @@ from_at b k (y ∷ ls) x splits is = go (nat_eq y.number k) refl (from_at b k ls
     go true e later found = subst (λ (n : ℕ). b ≤ n) (eqb-true y.number k e) splits.0
     go false e later found = later found
 
-placed_at : (b at k : ℕ) (ls : List Connection) (l x : Connection) → Splits b (suc at) (numbers ls) → AreRising (numbers ls) → slice_get ls at ≡ Some l
+pub placed_at : (b at k : ℕ) (ls : List Connection) (l x : Connection) → Splits b (suc at) (numbers ls) → AreRising (numbers ls) → slice_get ls at ≡ Some l
     → connection_with k ls ≡ Some x → k ≢ l.number → (k < l.number) ⊎ (b ≤ k)
 placed_at b at k [] l x splits rising is found differ = cc
 placed_at b zero k (y ∷ ls) l x splits rising is found differ = go (nat_eq y.number k) refl found

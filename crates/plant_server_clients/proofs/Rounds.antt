@@ -1,22 +1,31 @@
 -- What is owed, over turns one after another.
-use Rattle.std.proofs.Common.{◌≡◌, ℕ, suc, List, [], ◌∷◌, ◌++◌, Bool, true, false, Option, None, Some, refl, sym, ap, subst, ◌∙◌, length, inl, inr, slice_get}
+use Rattle.std.proofs.Common.{◌≡◌, ◌≢◌, ℕ, suc, List, [], ◌∷◌, ◌++◌, Bool, true, false, Option, None, Some, refl, sym, ap, subst, ◌∙◌, length, inl, inr, slice_get}
 use Rattle.std.proofs.Common.{arith, ◌+◌, ◌≤◌, length-append, slice_set}
 use Rattle.std.{proofs.lemmas.Grind.{flat_map-append}, specs.{List.{remove}, Prelude.{IfSome}}}
 use Rattle.plant_wire_call.specs.Cut.{WaitsBelow}
 use Rattle.plant_wire.specs.declared.reads.End.{End}
 use Rattle.plant_books.specs.declared.books.Books as books
-use Rattle.plant_server_clients.specs.{Accounts.{AtEachMoment}, Causes.{Always, CausedAt, HasCause, HasReported, IsDueTo, last_of}}
-use Rattle.plant_server_clients.specs.Events.{Event, Logs, Seen, arrivals, calls_for, reported, reports, reports_in}
-use Rattle.plant_server_clients.specs.{Fairness.{IsFair, IsSteady}, Happens.{ConnectionState, Happened, Passed, ServiceState, Turned, connection_state, stages}}
-use Rattle.plant_server_clients.specs.Service.{IsRound, IsTurn, IsTurnAt, IsUnderWay, IsWithinRound, new_service}
+use Rattle.plant_server_clients.specs.{Accounts.{AtEachMoment}, Causes.{Always, CausedAt, HasCause, HasReported, IsDueTo, OffersTo, last_of}}
+use Rattle.plant_server_clients.specs.Events.{Event, Logs, Seen, arrivals, calls_for, marks_of, reported, reports}
+use Rattle.plant_server_clients.specs.{Fairness.{IsFair, IsSoon, IsSteady}, Happens.{ConnectionState, Happened, Passed, ServiceState, Turned, connection_state, stages}}
+use Rattle.plant_server_clients.specs.Service.{AnswersFrom, IsRound, IsTurn, IsTurnAt, IsUnderWay, IsWithinRound, new_service}
+use Rattle.plant_server_clients.specs.{Happens.{Answers}, Heeded.{AreHeeded, IsReading, Starts, pending_at}, Service.{IsDueTurn}}
+use Rattle.plant_server_clients.specs.declared.serving.Due.{Due}
 use Rattle.plant_server_clients.specs.{Paces.{AreKept, AreRising, IsPaced, IsStill, Keeps, Splits, numbers}, Prompt.{ArePrompt}}
-use Rattle.plant_server_clients.specs.Stages.{AreOpenConnections, Leads, Stage, fresh, stage_in, stage_of}
+use Rattle.plant_server_clients.specs.Stages.{AreOpenConnections, Leads, Stage, IsNoneNumbered, fresh, served, stage_by, stage_in, stage_of}
 use Rattle.plant_server_clients.proofs.Handled.{events_connection, happened_connection, turned_at}
-use Rattle.plant_server_clients.proofs.Leading.{events_asked, events_none, events_passed, events_then, happened_asked, happened_none, happened_passed, sees}
-use Rattle.plant_server_clients.proofs.{Due.{due_none, due_reported, last_then, connection_cause}, Numbers.{lifted, none_yet, set_got, set_connections, stage_at}}
-use Rattle.plant_server_clients.proofs.{Leading.{happened_then}, Waited.{none_of}}
+use Rattle.plant_server_clients.proofs.Leading.{events_asked, events_none, events_passed, events_then, happened_asked, happened_none, happened_passed, reports-append, sees, unasked_then}
+use Rattle.plant_server_clients.proofs.{Due.{due_none, due_reported, last_then, connection_cause}, Numbers.{lifted, none_yet, nothing_pending, set_got, set_connections, stage_at, unnumbered}}
+use Rattle.plant_server_clients.proofs.{Leading.{happened_then}, Soon.{answers_more, answers_next, answers_start, offers_more, keeps_up_none, recent_end, starts_more}, Waited.{none_of, open_of}}
 use Rattle.plant_server_clients.proofs.Paced.{alone_keeps, come_keeps, fair_of, keeps_end, keeps_then, nothing_owed, numbers_length, numbers_removed, numbers_set, quiet_keeps, splits_here, splits_past, splits_removed, steady_of, turn_keeps}
 use Rattle.plant_server_clients.specs.declared.{connections.{Asked.{Asked}, Connection.{Connection}}, ports.Ready.{Ready}}
+
+-- it is read first of all, if nothing of it is left; or sent what is still to be sent
+abbrev pub Tries : Connection → List Event → Type 0
+Tries l es = stage_in l ≡ served [] [] → Starts (IsReading l.number) es
+
+abbrev pub Offers : Connection → List Event → Type 0
+Offers l es = l.pending.text.items ≢ [] → OffersTo l.number es
 
 some_same : {A : Type 0} (x y : A) → Some x ≡ Some y → x ≡ y
 some_same x y is = cc
@@ -44,7 +53,12 @@ module _ {B : Type 0} (b : books.Ghosts B) (x : B) {s t : ServiceState} {cause :
 
     -- as a turn
     unfoldable pub turn_passed : (serves : Bool) → IsTurn given b x x s t serves
-    turn_passed serves = record { happened = happened_passed p; alone = λ _ are. passed_alone are; busy = λ _. passed_busy }
+    turn_passed serves = record {
+      happened = happened_passed p;
+      unasked = ap reports (events_passed b x p) ∙ p.unasked;
+      alone = λ _ are. passed_alone are;
+      busy = λ _. passed_busy;
+    }
 
 pub none_keeps : {B : Type 0} (b : books.Ghosts B) (x : B) (s : ServiceState) (given : Option Event → Type 0) (a : ℕ)
     → Keeps given a a (stages s) (happened_none {b = b} {x = x} {s = s}).events
@@ -61,13 +75,18 @@ none_busy b x s given =
 unfoldable pub turn_none : {B : Type 0} (b : books.Ghosts B) (x : B) (s : ServiceState) (given : Option Event → Type 0) (serves : Bool)
     → IsTurn given b x x s s serves
 turn_none b x s given serves =
-    record { happened = happened_none; alone = λ _ _. none_keeps b x s given 0; busy = λ _. none_busy b x s given }
+    record {
+      happened = happened_none;
+      unasked = ap reports (events_none b x s);
+      alone = λ _ _. none_keeps b x s given 0;
+      busy = λ _. none_busy b x s given;
+    }
 
 -- a turn, whatever is given
 unfoldable pub turn_given : {B : Type 0} {b : books.Ghosts B} {x y : B} {s t : ServiceState} {serves : Bool} (given : Option Event → Type 0)
     → IsTurn Always b x y s t serves → IsTurn given b x y s t serves
 turn_given given p =
-    record { happened = p.happened; alone = λ now are es _. p.alone now are es tt; busy = λ now es _. p.busy now es tt }
+    record { happened = p.happened; unasked = p.unasked; alone = λ now are es _. p.alone now are es tt; busy = λ now es _. p.busy now es tt }
 
 -- one part after another
 module _ {B : Type 0} {b : books.Ghosts B} {x y z : B} {s t u : ServiceState} where
@@ -113,6 +132,8 @@ module _ {B : Type 0} {b : books.Ghosts B} {x y : B} {l : Connection} {after : C
         quiet = λ no. cc;
         arrives = record { one = p.one.arrives.one; none = λ _. p.one.arrives.none unread };
         due = p.one.due;
+        tries = λ no _. cc;
+        offers = p.one.offers;
       })))
 
   -- after it the connection may be closed so
@@ -132,12 +153,28 @@ module _ {B : Type 0} {b : books.Ghosts B} {x y : B} {l : Connection} {after : C
       subst (λ (r : Connection). HasCause (last_of None (es ++ (happened_connection s at ok is p).events)) r.number end) same
       (subst (λ (es' : List Event). HasCause (last_of None (es ++ es')) l'.number end) (sym events) (connection_cause l' end es p.events at_it due))
 
+  -- what is true of the connection and its events, by other words for both
+  pub of_own : (m : Connection) → slice_get s.connections at ≡ Some m → (P : Connection → List Event → Type 0) (es fs : List Event) → es ≡ fs
+      → P l fs → P m es
+  of_own m is_m P es fs same holds = subst (λ (r : Connection). P r es) (some_same l m (sym is ∙ is_m)) (subst (P l) (sym same) holds)
+
   -- a turn, after which it is still there
   unfoldable pub turn_stays : AreRising (numbers s.connections) → IsTurnAt b x y s (turned_at s at after) (record { at = at; asked = asked })
   turn_stays rising = record {
-    turned = record { happened = happened_connection s at ok is p; alone = λ _ are. connection_alone are; busy = λ unserved. connection_busy unserved };
+    turned = record {
+      happened = happened_connection s at ok is p;
+      unasked = ap reports (events_connection s at ok is p) ∙ p.went.unasked;
+      alone = λ _ are. connection_alone are;
+      busy = λ unserved. connection_busy unserved;
+    };
     paces = connection_paces rising;
     others = inl (numbers_set s.connections at l after.connection is p.went.same);
+    answers = λ serving m is_m.
+        of_own m is_m Answers (happened_connection s at ok is p).events p.events (events_connection s at ok is p) (p.one.answers serving);
+    tries = λ on m is_m.
+        of_own m is_m Tries (happened_connection s at ok is p).events p.events (events_connection s at ok is p) (p.one.tries on);
+    offers = λ m is_m.
+        of_own m is_m Offers (happened_connection s at ok is p).events p.events (events_connection s at ok is p) p.one.offers;
   }
 
   -- a turn, after which it is closed
@@ -150,9 +187,13 @@ module _ {B : Type 0} {b : books.Ghosts B} {x y : B} {l : Connection} {after : C
       let first = happened_connection s at ok is p in
       let closed = happened_passed {b = b} {x = y} passed in
       let cause = CausedAt (slice_set s.connections at after.connection) at end in
+      let all = p.events ++ passed.events in
+      let whole : (happened_then first closed).events ≡ all =
+      events_then first closed ∙ (λ i. events_connection s at ok is p i ++ events_passed b y passed i) in
       record {
         turned = record {
           happened = happened_then first closed;
+          unasked = ap reports whole ∙ unasked_then p.events passed.events p.went.unasked passed.unasked;
           alone = λ _ are.
               joined_for Always cause 0 0 0 first closed (connection_alone are) (λ es _. connection_closes waits end now es)
               (passed_keeps b y passed refl 0);
@@ -166,13 +207,52 @@ module _ {B : Type 0} {b : books.Ghosts B} {x y : B} {l : Connection} {after : C
             (λ es _. connection_closes waits end now es) (passed_keeps b y passed refl m.number);
         others = inr (ap numbers gone ∙ numbers_removed (slice_set s.connections at after.connection) at
             ∙ ap (λ (ns : List ℕ). remove ns at) (numbers_set s.connections at l after.connection is p.went.same));
+        answers = λ serving m is_m.
+            of_own m is_m Answers (happened_then first closed).events all whole (answers_more l p.events passed.events (p.one.answers serving));
+        tries = λ on m is_m.
+            of_own m is_m Tries (happened_then first closed).events all whole
+            (λ free. starts_more (IsReading l.number) p.events passed.events (p.one.tries on free));
+        offers = λ m is_m.
+            of_own m is_m Offers (happened_then first closed).events all whole
+            (λ some. offers_more l.number p.events passed.events (p.one.offers some));
       }
+
+-- what is still to be sent of a connection
+pending_in : (u p : List ℕ) (e : Option End) → pending_at (stage_by u p e) ≡ p
+pending_in u p None = refl
+pending_in u p (Some end) = refl
+
+-- the turn of a connection that may be read or takes bytes
+pub due_turn : {B : Type 0} {b : books.Ghosts B} {x y : B} {s t : ServiceState} (due : Due) (serves : Bool) (at : ℕ) (l : Connection)
+    → AreOpenConnections s.count s.connections → slice_get s.connections at ≡ Some l → l.number ≡ due.number
+    → (p : IsTurnAt b x y s t (record { at = at; asked = record { reads = due.reads; serves = serves } }))
+    → IsDueTurn due s p.turned.happened.events
+due_turn {s = s} due serves at l ok is named p =
+    let stage : stages s due.number ≡ stage_in l = ap (stages s) (sym named) ∙ stage_at s.count s.connections at l ok is in
+    record {
+      tries = λ on free. subst (λ (k : ℕ). Starts (IsReading k) p.turned.happened.events) named (p.tries on l is (sym stage ∙ free));
+      offers = λ there at_it some.
+          subst (λ (k : ℕ). OffersTo k p.turned.happened.events) named
+          (p.offers l is (λ none. some (ap pending_at (sym at_it ∙ stage) ∙ pending_in l.unread.items l.pending.text.items l.end ∙ none)));
+    }
+
+-- no connection has this number
+pub due_nowhere : (due : Due) (s : ServiceState) → IsNoneNumbered due.number s.connections → IsDueTurn due s []
+due_nowhere due s none =
+    let nowhere = unnumbered due.number s.connections none in
+    record {
+      tries = λ _ free. let it = open_of due.number s.count s.connections [] [] free in elsewhere it.0 (sym nowhere ∙ it.1);
+      offers = λ there at_it some. absurd (some (ap pending_at (sym at_it) ∙ nothing_pending due.number s.count s.connections nowhere));
+    }
+  where
+    elsewhere : {A : Type 0} (l : Connection) → None ≡ Some l → A
+    elsewhere l is = cc
 
 -- the next connection's turn, in a turn of all connections
 unfoldable pub round_next : {B : Type 0} {b : books.Ghosts B} {x y z : B} {s t u : ServiceState} (i at : ℕ) (l : Connection) → i ≡ suc at
-    → IsWithinRound b x y s t i → AreRising (numbers t.connections) → slice_get t.connections at ≡ Some l
+    → IsWithinRound b x y s t i → AreOpenConnections t.count t.connections → AreRising (numbers t.connections) → slice_get t.connections at ≡ Some l
     → IsTurnAt b y z t u (record { at = at; asked = record { reads = false; serves = true } }) → IsWithinRound b x z s u at
-round_next {s = s} {t = t} {u = u} i at l e r rising is p = record {
+round_next {s = s} {t = t} {u = u} i at l e r ok rising is p = record {
   happened = happened_then r.happened p.turned.happened;
   bound = l.number;
   splits = elim p.others as (λ _. Splits l.number at (numbers u.connections)) [
@@ -182,6 +262,12 @@ round_next {s = s} {t = t} {u = u} i at l e r rising is p = record {
   ];
   keeps = joined Always s.count r.bound l.number r.happened p.turned.happened r.keeps
       (p.paces refl refl r.bound l is (subst (λ (j : ℕ). Splits r.bound j (numbers t.connections)) e r.splits));
+  unasked = ap reports (events_then r.happened p.turned.happened)
+      ∙ unasked_then r.happened.events p.turned.happened.events r.unasked p.turned.unasked;
+  answers = subst (AnswersFrom l.number (stages s)) (sym (events_then r.happened p.turned.happened))
+      (answers_next (stages s) (stages t) t.count r.bound at t.connections l r.happened.events p.turned.happened.events (λ k. refl)
+      r.happened.leads ok rising is (subst (λ (j : ℕ). Splits r.bound j (numbers t.connections)) e r.splits)
+      r.answers (p.answers refl l is));
 }
 
 -- where no connection is at the place
@@ -193,12 +279,21 @@ round_past {t = t} i at e past r = record {
   splits = splits_past r.bound at (numbers t.connections) (omega (arith, numbers_length t.connections, past))
       (subst (λ (j : ℕ). Splits r.bound j (numbers t.connections)) e r.splits);
   keeps = r.keeps;
+  unasked = r.unasked;
+  answers = r.answers;
 }
 
 unfoldable pub round_start : {B : Type 0} {b : books.Ghosts B} {x : B} {s : ServiceState} (at : ℕ) → Splits s.count at (numbers s.connections)
     → IsWithinRound b x x s s at
 round_start {b = b} {x = x} {s = s} at splits =
-    record { happened = happened_none; bound = s.count; splits = splits; keeps = none_keeps b x s Always s.count }
+    record {
+      happened = happened_none;
+      bound = s.count;
+      splits = splits;
+      keeps = none_keeps b x s Always s.count;
+      unasked = ap reports (events_none b x s);
+      answers = subst (AnswersFrom s.count (stages s)) (sym (events_none b x s)) (answers_start s.count s.connections);
+    }
 
 unfoldable pub round_end : {B : Type 0} {b : books.Ghosts B} {x y : B} {s t : ServiceState} (i : ℕ) → i ≡ 0 → IsWithinRound b x y s t i
     → IsRound Always s.count b x y s t
@@ -206,11 +301,20 @@ round_end {s = s} {t = t} i e r = record {
   happened = r.happened;
   keeps = keeps_end Always s.count r.bound t.count t.connections (stages s) r.happened.events r.happened.leads
       (subst (λ (j : ℕ). Splits r.bound j (numbers t.connections)) e r.splits) r.keeps;
+  unasked = r.unasked;
+  recent = recent_end (stages s) (stages t) t.count r.bound t.connections r.happened.events r.unasked (λ k. refl) r.happened.leads
+      (subst (λ (j : ℕ). Splits r.bound j (numbers t.connections)) e r.splits) r.answers;
 }
 
 pub way_leads : {B : Type 0} {b : books.Ghosts B} {x y : B} {seen : Seen} {now : ServiceState} {turns : ℕ} (w : IsUnderWay b x y seen now turns) (k : ℕ)
     → Leads k fresh w.happened.events (stages now k)
 way_leads {now = now} w k = subst (λ (a : Stage). Leads k a w.happened.events (stages now k)) (none_yet k) (w.happened.leads k)
+
+pub soon_none : AtEachMoment IsSoon []
+soon_none = (keeps_up_none 0).soon
+
+pub heeded_none : (n : ℕ) → AreHeeded n []
+heeded_none n = (keeps_up_none n).heeded
 
 -- a service from its start on
 pub kept_none : AreKept 0 []
@@ -240,9 +344,6 @@ way_start {b = b} {x = x} {seen = seen} ls e =
       kept = subst (AreKept 0) (sym (events_none b x (new_service seen))) kept_none;
       asked = omega arith;
     })
-
-pub reports-append : (es fs : List Event) → length (reports (es ++ fs)) ≡ length (reports es) + length (reports fs)
-reports-append es fs = ap length (flat_map-append reports_in es fs) ∙ length-append (reports es) (reports fs)
 
 -- the ports were asked what can be done next
 unfoldable pub way_asked : {B : Type 0} {b : books.Ghosts B} {x y : B} {seen : Seen} {now : ServiceState} {turns : ℕ} (ports : Option (List Event))

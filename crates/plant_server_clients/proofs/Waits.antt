@@ -6,7 +6,7 @@ use Rattle.std.specs.Option.{is_some}
 use Rattle.plant_wire_call.specs.{Cut.{WaitsBelow}, Front.{StandsAtFront, waits}}
 use Rattle.plant_wire.specs.{Session.{IsIdle}, declared.reads.End.{End}}
 use Rattle.plant_wire.specs.declared.reads.End.TheVariants.{BrokenInput, Closed}
-use Rattle.plant_server_clients.specs.{Prompt.{AreFew}, Stages.{end_for}}
+use Rattle.plant_server_clients.specs.{Prompt.{AreFew}, Stages.{end_for, ending, served, stage_by}}
 
 pub idle_if : (u : List ℕ) (n wanted : ℕ) → n ≡ length u → WaitsBelow u wanted → OnTrue (nat_lt n wanted) (IsIdle u)
 idle_if u n wanted is below = go (nat_lt n wanted) refl
@@ -77,3 +77,11 @@ not_true false e = refl
 pub waits_one : (u : List ℕ) (n : ℕ) → n ≡ length u + 1 → StandsAtFront u waits → WaitsBelow u n
 waits_one u n is now [] few = subst (λ (x : List ℕ). StandsAtFront x waits) (sym (append-nil u)) now
 waits_one u n is now (x ∷ more) few = absurd (omega (arith, few, is, length-append u (x ∷ more)))
+
+pub both_ways : {A : Type 0} (b : Bool) → b ≡ false → b ≡ true → A
+both_ways b off on = absurd (true≢false (sym on ∙ off))
+
+-- a connection of which nothing is left, and that is served
+pub freed : (u p : List ℕ) (e : Option End) → stage_by u p e ≡ served [] [] → (e ≡ None) × (p ≡ []) × (u ≡ [])
+freed u p None is = let none : u ≡ [] = cc in let sent : p ≡ [] = cc in (refl, sent, none)
+freed u p (Some end) is = let no : ending end p ≡ served [] [] = is in cc

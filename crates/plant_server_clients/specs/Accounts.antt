@@ -7,7 +7,7 @@ use Rattle.plant_wire_call.specs.Front.{Parsed}
 use Rattle.plant_office.specs.{Runs.{AreIsolated, world_after}, Served.{Holds}}
 use Rattle.plant_wire.specs.{Marks.{Mark, marked_item, mark_text, out_of}, Over.{RanOn}, Session.{EndsAs}}
 use Rattle.plant_wire.specs.declared.reads.End.{End}
-use Rattle.plant_server_clients.specs.{Books.{IsMoment}, Causes.{AreCaused, AreOffered, HaveFailed}, Fairness.{IsBounded, IsFair, IsSteady}}
+use Rattle.plant_server_clients.specs.{Books.{IsMoment}, Causes.{AreCaused, AreOffered, HaveFailed}, Fairness.{IsBounded, IsFair, IsSoon, IsSteady}, Heeded.{AreHeeded}}
 use Rattle.plant_server_clients.specs.{Lasting.{Lasts}, Order.{IsInOrder}}
 use Rattle.plant_server_clients.specs.Events.{Event, Seen, Shows, all_answers, all_calls, answers_for, answers_in, calls_for}
 use Rattle.plant_server_clients.specs.Events.{calls_in, came_to, closed, cut_of, has_ended, marks_of, sent_to}
@@ -80,6 +80,8 @@ pub record AreSent (ran : List Call → List Answer → Type 0) (n : ℕ) (r : O
   pub fair : AtEachMoment IsFair events
   pub steady : AtEachMoment IsSteady events
   pub bounded : AtEachMoment IsBounded events
+  pub soon : AtEachMoment IsSoon events
+  pub heeded : AreHeeded n events
   pub in_order : IsInOrder events
   pub caused : AreCaused None events
   pub offered : AreOffered events

@@ -9,15 +9,18 @@ use Rattle.plant_wire.specs.declared.reads.End.{End}
 use Rattle.plant_server_log.specs.Log.{line_of}
 use Rattle.plant_server_clients.specs.declared.ports.Ready.{Ready}
 
--- what was tried at a connection
+-- What was tried at a connection without success: a read or a write failed; a read found nothing yet; a new connection
+-- could not be accepted.
 pub data Trial : Type 0 where
   reading : Trial
   writing : Trial
+  looking : Trial
+  accepting : Trial
 
 -- In the order of the variants: a connection was accepted; bytes of it were read; the end of its input was read; one of
 -- its requests was answered; the cause that breaks its stream was answered, and nothing more is; memory ran out for its
 -- bytes or for an answer that was begun, of which nothing is sent, and nothing more is answered; bytes of its answers
--- were sent; a read or a write of it failed; it was closed, with how it ended. Last: the ports were asked what can be
+-- were sent; something was tried at it without success; it was closed, with how it ended. Last: the ports were asked what can be
 -- done next, and reported this.
 pub data Event : Type 0 where
   opened : ℕ → Event

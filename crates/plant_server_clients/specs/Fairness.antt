@@ -2,7 +2,7 @@
 use Rattle.std.specs.Prelude.{◌≡◌, ◌≤◌, ◌<◌, ℕ, List, [], ◌∷◌, ◌++◌, length, if◌then◌else◌, nat_eq}
 use Rattle.plant_wire.specs.Session.{IsIdle}
 use Rattle.plant_server_clients.specs.Events.{Event, opened, came, ended, answered, broke, stopped, left, failed, closed, reported}
-use Rattle.plant_server_clients.specs.{Events.{all_calls, arrivals, calls_for, marks_of}, Stages.{Leads, fresh, served}}
+use Rattle.plant_server_clients.specs.{Events.{all_calls, arrivals, calls_for, marks_of, reports}, Stages.{Leads, fresh, served}}
 
 -- The connection k waits: it is served, all its answers were sent, and what is unread is more than the beginning of a
 -- request.
@@ -21,6 +21,14 @@ IsFair now = (es since : List Event) (k j : ℕ) → now ≡ es ++ since → (j 
 -- And at most one thing arrived meanwhile: a connection, bytes of one, or the end of one.
 abbrev pub IsSteady : List Event → Type 0
 IsSteady now = (es since : List Event) (k : ℕ) → now ≡ es ++ since → HasWaited k es since → length (arrivals since) ≤ 1
+
+-- And the ports are asked at most once meanwhile: it is answered before they are asked again.
+abbrev pub IsSoon : List Event → Type 0
+IsSoon now = (es since : List Event) (k : ℕ) → now ≡ es ++ since → HasWaited k es since → length (reports since) ≤ 1
+
+-- Whoever waits began to wait after the ports were asked last.
+abbrev pub IsUpToDate : List Event → Type 0
+IsUpToDate now = (es since : List Event) (k : ℕ) → now ≡ es ++ since → HasWaited k es since → reports since ≡ []
 
 abbrev pub without : ℕ → List ℕ → List ℕ
 without k [] = []

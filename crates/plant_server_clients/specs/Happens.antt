@@ -4,7 +4,8 @@ use Rattle.plant_wire.specs.{Session.{IsIdle}, declared.reads.End.{End}}
 use Rattle.plant_books.specs.declared.books.Books.{Ghosts}
 use Rattle.plant_office.specs.{Faults.{noted}, declared.office.Faults.{Faults}}
 use Rattle.plant_server_clients.specs.{Books.{AreQuiet, MakesEach}, Causes.{AreDue, IsDueTo, OffersTo, last_of}}
-use Rattle.plant_server_clients.specs.Events.{AreTold, Event, Log, Logs, Seen, Shows, Trial, all_answers, all_calls, arrivals, at_ports, failed, marks_of, who, writing}
+use Rattle.plant_server_clients.specs.Events.{AreTold, Event, Log, Logs, Seen, Shows, Trial, all_answers, all_calls, arrivals, at_ports, failed, marks_of, reading, reports, who, writing}
+use Rattle.plant_server_clients.specs.Heeded.{IsReading, Starts}
 use Rattle.plant_server_clients.specs.Stages.{Leads, Stage, served, stage_in, stage_of}
 use Rattle.plant_server_clients.specs.declared.connections.{Asked.{Asked}, Connection.{Connection}}
 
@@ -41,7 +42,8 @@ pub record Arrives (reads : Bool) (events : List Event) : Type 0 where
   pub one : length (arrivals events) ≤ 1
   pub none : reads ≡ false → length (arrivals events) ≡ 0
 
--- it had one turn: at most one call was made; a request was answered if `serves`, and otherwise no call was made
+-- It had one turn: at most one call was made; a request was answered if `serves`, and otherwise no call was made. It was
+-- read first of all if that was asked for and nothing was left of it, and sent first of all what was still to be sent.
 pub record IsTurnOf (l : Connection) (reads serves : Bool) (events : List Event) : Type 0 where
   pub own : AreOf l.number events
   pub once : length (all_calls events) ≤ 1
@@ -49,15 +51,25 @@ pub record IsTurnOf (l : Connection) (reads serves : Bool) (events : List Event)
   pub quiet : serves ≡ false → AreQuiet events
   pub arrives : Arrives reads events
   pub due : (before : Option Event) → AreDue before events
+  pub tries : reads ≡ true → stage_in l ≡ served [] [] → Starts (IsReading l.number) events
+  pub offers : l.pending.text.items ≢ [] → OffersTo l.number events
 
--- these events, none of which is in the log, lead the connection from its stage before to that after
+-- These events, none of which is in the log or a report of the ports, lead the connection from its stage before to that
+-- after.
 pub record Went (events : List Event) (before after : Connection) : Type 0 where
   pub own : AreOf before.number events
   pub same : after.number ≡ before.number
   pub untold : AreTold events []
+  pub unasked : reports events ≡ []
   pub leads : Leads before.number (stage_in before) events (stage_in after)
 
--- A read or a write was tried, and no call was made. If a write was tried, what is still to be sent was offered; if the
+-- nothing happened at the connection, and what is still to be sent stayed
+pub record IsPassedOver (before after : Connection) (events : List Event) : Type 0 where
+  pub none : events ≡ []
+  pub pending : after.pending.text.items ≡ before.pending.text.items
+
+-- A read or a write was tried, and no call was made. A connection of which nothing is left is read, and one to which an
+-- answer is still to be sent is not. If a write was tried, what is still to be sent was offered; if the
 -- connection does not go on, what was tried failed.
 pub record Moved (s t : Log) (before after : Connection) (reads : Bool) (trial : Trial) (goes_on : Bool) : Type 0 where
   pub events : List Event
@@ -67,6 +79,8 @@ pub record Moved (s t : Log) (before after : Connection) (reads : Bool) (trial :
   pub went : Went events before after
   pub due : (last : Option Event) → AreDue last events
   pub offers : trial ≡ writing → before.pending.text.items ≢ [] → OffersTo before.number events
+  pub tries : reads ≡ true → trial ≡ reading → stage_in before ≡ served [] [] → Starts (IsReading before.number) events
+  pub waits : trial ≡ reading → before.pending.text.items ≢ [] → IsPassedOver before after events
   pub lost : goes_on ≡ false → (last : Option Event) → last_of last events ≡ Some (failed before.number trial)
 
 -- The office was asked, and noted which faults it answered; nothing was read or sent. Each answer is offered at once, if
@@ -82,6 +96,7 @@ pub record Made {B : Type 0} (b : Ghosts B) (from to : B) (faults faults_after :
   pub answers : serves ≡ true → Answers before events
   pub asks : serves ≡ false → AreQuiet events
   pub calm : length (arrivals events) ≡ 0
+  pub waits : before.pending.text.items ≢ [] → IsPassedOver before after events
   pub due : (last : Option Event) (later : List Event) → ((each : Option Event) → AreDue each later)
       → (after.pending.text.items ≢ [] → OffersTo before.number later) → AreDue last (events ++ later)
 
@@ -109,6 +124,7 @@ pub record Passed (cause : Option Event → Type 0) (comes : Bool) (before after
   pub events : List Event
   pub quiet : AreQuiet events
   pub one : (k : ℕ) × AreOf k events
+  pub unasked : reports events ≡ []
   pub due : (last : Option Event) → cause last → AreDue last events
   pub arrives : Arrives comes events
   pub shown : Shows before.seen after.seen events

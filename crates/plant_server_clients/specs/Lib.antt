@@ -5,6 +5,7 @@ pub mod Books
 pub mod Causes
 pub mod Happens
 pub mod Fairness
+pub mod Heeded
 pub mod Order
 pub mod Lasting
 pub mod Accounts

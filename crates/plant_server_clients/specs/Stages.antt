@@ -68,7 +68,7 @@ Moves fresh (answered k mark) s = ⊥
 Moves fresh (broke k cause) s = ⊥
 Moves fresh (stopped k last) s = ⊥
 Moves fresh (left k bytes) s = ⊥
-Moves fresh (failed k trial) s = ⊥
+Moves fresh (failed k trial) s = s ≡ fresh
 Moves fresh (closed k how) s = ⊥
 Moves (served unread pending) (opened k) s = ⊥
 Moves (ending end pending) (opened k) s = ⊥
@@ -122,6 +122,11 @@ abbrev pub AreOpenConnections : ℕ → List Connection → Type 0
 AreOpenConnections count [] = Unit {0}
 AreOpenConnections count (l ∷ ls) =
     (l.number < count) × (connection_with l.number ls ≡ None) × WaitsBelow l.unread.items l.wanted × AreOpenConnections count ls
+
+-- none of these connections has this number
+abbrev pub IsNoneNumbered : ℕ → List Connection → Type 0
+IsNoneNumbered k [] = Unit {0}
+IsNoneNumbered k (l ∷ ls) = (l.number ≢ k) × IsNoneNumbered k ls
 
 -- a connection that may be closed with this end
 abbrev pub MayClose : Connection → End → Type 0

@@ -58,6 +58,7 @@ impl Connection {
     pub fn is_idle(&self) -> bool
         ensures idle { WaitsBelow self.now.unread.items self.now.wanted → OnTrue result (IsIdle self.now.unread.items) }
         ensures few { OnTrue result (AreFew self.now.unread.items self.now.wanted) }
+        ensures empty { self.now.unread.items ≡ [] → result ≡ true }
     {
         self.unread.is_empty() || self.unread.len() < self.wanted
     }
@@ -68,6 +69,7 @@ impl Connection {
         ensures served { result ≡ true → self.now.end ≡ None }
         ensures open { WaitsBelow self.now.unread.items self.now.wanted
             → OnTrue result (IsOpen self.now.unread.items self.now.pending.text.items) }
+        ensures free { self.now.end ≡ None → self.now.pending.text.items ≡ [] → self.now.unread.items ≡ [] → result ≡ true }
     {
         if self.end.is_some() {
             return false;

@@ -3,7 +3,7 @@
 
 ghost use Rattle.std.specs.Prelude.{◌≡◌, ◌≢◌, ◌≤◌, [], ◌∷◌, length, true, take as first, ℕ, List, map, IfSome, Option, is_some, if◌then◌else◌};
 ghost use Rattle.plant_wire.specs.Limits.{least_room};
-ghost use Rattle.plant_server_clients.specs.Events.{Event, Logs, opened, closed, reported};
+ghost use Rattle.plant_server_clients.specs.Events.{Event, Logs, accepting, closed, failed, opened, reported};
 ghost use Rattle.plant_server_clients.specs.{Paces.{numbers}, PortSteps.{IsTaken, IsSent}, Prompt.{ArePrompt}};
 
 use crate::connections::Connection;
@@ -55,12 +55,11 @@ pub trait Ports {
     ghost number_of: { Self.Client → ℕ };
 
     /// What can be done next. It blocks only if `may_wait`, which requires that no connection has a request that can be
-    /// answered now. A new connection is accepted only if `accepts`.
+    /// answered now.
     fn next(
         &mut self,
         connections: &[Connection],
         clients: &mut [Self::Client],
-        accepts: bool,
         may_wait: bool,
     ) -> Ready
         requires prompt { may_wait ≡ true → ArePrompt connections.now }
@@ -74,8 +73,13 @@ pub trait Ports {
 
     /// Accepts a connection and gives it this number. Returns `None` if that fails.
     fn accept(&mut self, number: u64) -> Option<Self::Client>
-        ensures logged { Logs (seen self.old) (seen self.new) (if is_some result then opened number ∷ [] else []) }
+        ensures logged { Logs (seen self.old) (seen self.new)
+            ((if is_some result then opened number else failed number accepting) ∷ []) }
         ensures numbered { IfSome result (λ client. number_of client ≡ number) };
+
+    /// Leaves the connection that waits to be accepted, which would get this number: memory for it ran out.
+    fn put_off(&mut self, number: u64)
+        ensures { Logs (seen self.old) (seen self.new) (failed number accepting ∷ []) };
 
     /// Reads what has arrived on a connection to the front of `buf`, which has at least 4,096 bytes.
     fn take(&mut self, client: &mut Self::Client, buf: &mut [u8]) -> Taken

@@ -1,14 +1,14 @@
 //! The service loop over many connections on one thread: does what is ready, and answers at most one request of each
 //! connection per turn, so that none starves the others.
 
-ghost use Rattle.std.specs.Prelude.{◌≡◌, ◌<◌, ℕ, List, Option, Err, IfSome, IsTrue, length, not, remove, slice_get, Some, true, false};
+ghost use Rattle.std.specs.Prelude.{◌≡◌, ◌<◌, ℕ, List, Option, Err, IfSome, IsTrue, length, not, remove, slice_get, None, Some, true, false};
 ghost use Rattle.std.specs.Bool.{OnTrue};
 ghost use Rattle.plant_books.specs.Books.{WasHonest};
 ghost use Rattle.plant_server_log.specs.Log.{TellsFaults};
 ghost use Rattle.plant_server_clients.specs.declared.connections.Connection.{Connection};
 ghost use Rattle.plant_server_clients.specs.{Accounts.{AreServed}, Causes.{Always, CausedAt, ExpiredAt, HasReported}, Events.{seen_by}, Faults.{IsClear, StayNoted, TellsIf, reported_faults}};
-ghost use Rattle.plant_server_clients.specs.Service.{IsConsistent, IsRound, IsTurn, IsTurnAt, MayWait, service_state};
-ghost use Rattle.plant_server_clients.specs.{Happens.{Passed}, Prompt.{ArePrompt}, Stages.{AreOpenConnections, MayClose}};
+ghost use Rattle.plant_server_clients.specs.Service.{IsAccepting, IsConsistent, IsDueTurn, IsRound, IsTurn, IsTurnAt, MayWait, at_stages, service_state};
+ghost use Rattle.plant_server_clients.specs.{Happens.{Passed}, Heeded.{Heeds}, Prompt.{ArePrompt}, Stages.{AreOpenConnections, IsNoneNumbered, MayClose}};
 
 use crate::connections::{Asked, Connection, report_if, turn_connection};
 use crate::desk::Desk;
@@ -54,6 +54,13 @@ pub(crate) struct Service<C> {
     pub busy: bool,
 }
 
+/// A connection that may be read, or that takes bytes.
+#[derive(Clone, Copy)]
+struct Due {
+    number: u64,
+    reads: bool,
+}
+
 /// A turn of one connection.
 #[derive(Clone, Copy)]
 pub(crate) struct Turn {
@@ -62,24 +69,21 @@ pub(crate) struct Turn {
     pub asked: Asked,
 }
 
-/// The index of the connection with this number. It is looked for at `first` before it is searched.
+/// The index of the connection with this number. It is looked for at `first`, and then among all.
 fn place_of(connections: &[Connection], number: u64, first: usize) -> Option<usize>
     ensures within { IfSome result (λ at. at < length connections.now) }
     ensures named { IfSome result (λ at. (connection : Connection) → slice_get connections.now at ≡ Some connection → connection.number ≡ number) }
+    ensures missed { result ≡ None → IsNoneNumbered number connections.now }
 {
     if first < connections.len() && connections[first].number == number {
         return Some(first);
     }
-    let Ok(at) = connections.binary_search_by_key(&number, |connection| connection.number) else {
-        return None;
-    };
-    if at >= connections.len() {
-        return None;
+    'connections: for at in 0..connections.len() {
+        if connections[at].number == number {
+            return Some(at);
+        }
     }
-    if connections[at].number != number {
-        return None;
-    }
-    Some(at)
+    None
 }
 
 /// Closes a connection that ended in this way, and writes that to the log.
@@ -177,8 +181,8 @@ fn give_up<P: Ports, W: Write>(
 /// Accepts a connection, and counts it. If memory runs out, the connection goes on waiting.
 fn accept<P: Ports>(service: &mut Service<P::Client>, ports: &mut P)
     requires { IsConsistent P.number_of service.old }
-    ensures passed { (log : Option (List ℕ)) → Passed Always true (service_state (P.seen ports.old) log service.old)
-        (service_state (P.seen ports.new) log service.new) }
+    ensures passed { (log : Option (List ℕ)) → IsAccepting service.old.plan.connections
+        (service_state (P.seen ports.old) log service.old) (service_state (P.seen ports.new) log service.new) }
     ensures consistent { IsConsistent P.number_of service.new }
     ensures noted { (log : Option (List ℕ)) → StayNoted (service_state (P.seen ports.old) log service.old)
         (service_state (P.seen ports.new) log service.new) }
@@ -190,6 +194,7 @@ fn accept<P: Ports>(service: &mut Service<P::Client>, ports: &mut P)
         return;
     }
     if service.clients.reserve(1).is_err() {
+        ports.put_off(number);
         return;
     }
     let places = service.connections.len();
@@ -198,6 +203,7 @@ fn accept<P: Ports>(service: &mut Service<P::Client>, ports: &mut P)
         .push(Connection::new(service.desk.alloc, number))
         .is_err()
     {
+        ports.put_off(number);
         return;
     }
     let Some(client) = ports.accept(number) else {
@@ -243,9 +249,40 @@ fn serve_turn<P: Ports, B: Books, W: Write, E: Write>(
     }
 }
 
-/// Handles one event. A request of its connection is answered at once, unless the service is busy: then it waits for its
-/// turn, as those of others do.
-#[tactic(auto, using(crate::proofs::Telling::none_told))]
+/// One turn of a connection that may be read or takes bytes. A request of it is answered at once, unless the service is
+/// busy: then it waits for its turn, as those of others do.
+fn turn_of<P: Ports, B: Books, W: Write, E: Write>(
+    service: &mut Service<P::Client>,
+    ports: &mut P,
+    due: Due,
+    office: &mut Office<B>,
+    log: &mut W,
+    errors: &mut E,
+)
+    requires consistent { IsConsistent P.number_of service.old }
+    requires clear { IsClear service.old.plan.while_open office.old.faults }
+    ensures turned { (turned : IsTurn Always B.Books office.old.books office.new.books
+        (service_state (P.seen ports.old) (W.contents log.old) service.old)
+        (service_state (P.seen ports.new) (W.contents log.new) service.new) (not service.old.busy))
+        × TellsIf service.old.plan.while_open (service_state (P.seen ports.old) (W.contents log.old) service.old)
+        (service_state (P.seen ports.new) (W.contents log.new) service.new) turned.happened.events
+        (E.contents errors.old) (E.contents errors.new)
+        × IsDueTurn due (service_state (P.seen ports.old) (W.contents log.old) service.old) turned.happened.events }
+    ensures clear { IsClear service.old.plan.while_open office.new.faults }
+    ensures consistent { IsConsistent P.number_of service.new }
+    ensures same { service.new.plan ≡ service.old.plan }
+    ensures prompt { MayWait service.old → MayWait service.new }
+{
+    if let Some(at) = place_of(&service.connections, due.number, ports.place()) {
+        let asked = Asked {
+            reads: due.reads,
+            serves: !service.busy,
+        };
+        turn_at(service, ports, Turn { at, asked }, office, log, errors);
+    }
+}
+
+/// Handles one event.
 fn step<P: Ports, B: Books, W: Write, E: Write>(
     service: &mut Service<P::Client>,
     ports: &mut P,
@@ -261,7 +298,9 @@ fn step<P: Ports, B: Books, W: Write, E: Write>(
         (service_state (P.seen ports.new) (W.contents log.new) service.new) (not service.old.busy))
         × TellsIf service.old.plan.while_open (service_state (P.seen ports.old) (W.contents log.old) service.old)
         (service_state (P.seen ports.new) (W.contents log.new) service.new) turned.happened.events
-        (E.contents errors.old) (E.contents errors.new) }
+        (E.contents errors.old) (E.contents errors.new)
+        × Heeds service.old.plan.connections (at_stages (service_state (P.seen ports.old) (W.contents log.old) service.old)) ready
+        turned.happened.events }
     ensures clear { IsClear service.old.plan.while_open office.new.faults }
     ensures consistent { IsConsistent P.number_of service.new }
     ensures same { service.new.plan ≡ service.old.plan }
@@ -269,14 +308,19 @@ fn step<P: Ports, B: Books, W: Write, E: Write>(
 {
     match ready {
         Ready::Came => accept(service, ports),
-        Ready::Readable(number) | Ready::Writable(number) => {
-            if let Some(at) = place_of(&service.connections, number, ports.place()) {
-                let asked = Asked {
-                    reads: matches!(ready, Ready::Readable(_)),
-                    serves: !service.busy,
-                };
-                turn_at(service, ports, Turn { at, asked }, office, log, errors);
-            }
+        Ready::Readable(number) => {
+            let due = Due {
+                number,
+                reads: true,
+            };
+            turn_of(service, ports, due, office, log, errors);
+        }
+        Ready::Writable(number) => {
+            let due = Due {
+                number,
+                reads: false,
+            };
+            turn_of(service, ports, due, office, log, errors);
         }
         Ready::Expired(number) => {
             if let Some(at) = place_of(&service.connections, number, ports.place()) {
@@ -318,7 +362,9 @@ fn serve_ready<P: Ports, B: Books, W: Write, E: Write>(
         (service_state (P.seen ports.new) (W.contents log.new) service.new))
         × TellsIf service.old.plan.while_open (service_state (P.seen ports.old) (W.contents log.old) service.old)
         (service_state (P.seen ports.new) (W.contents log.new) service.new) round.happened.events
-        (E.contents errors.old) (E.contents errors.new) }
+        (E.contents errors.old) (E.contents errors.new)
+        × Heeds service.old.plan.connections (at_stages (service_state (P.seen ports.old) (W.contents log.old) service.old)) ready
+        round.happened.events }
     ensures clear { IsClear service.old.plan.while_open office.new.faults }
     ensures consistent { IsConsistent P.number_of service.new }
     ensures same { service.new.plan ≡ service.old.plan }
@@ -351,7 +397,8 @@ fn is_over<B: Books>(while_open: bool, office: &Office<B>) -> bool
 /// Serves as many connections as planned, as many at once as the ports accept, and writes to the log how each ended. All
 /// calls, whatever their connection, are made one after another. Each connection is sent the answers to its own
 /// requests, in their order, and no byte of an answer before its call was made; what one connection sends affects
-/// another only through the office. Each answer is offered to its connection at once. A connection is given up only if a
+/// another only through the office. A connection that waits is answered before the ports are asked twice more, and what
+/// they report is tried at once. Each answer is offered to its connection at once. A connection is given up only if a
 /// read or a write of it has failed, or the ports have just reported that its time is over; and the service halts with
 /// `Ports` only after the ports failed.
 ///
@@ -395,9 +442,8 @@ pub fn serve_clients<P: Ports, B: Books, W: Write, E: Write>(
             give_back(ports, service);
             return Err(Halted::Shut);
         }
-        let accepts = service.count < plan.connections;
         let clients = service.clients.as_mut_slice();
-        let ready = ports.next(&service.connections, clients, accepts, !service.busy);
+        let ready = ports.next(&service.connections, clients, !service.busy);
         if let Ready::Failed = ready {
             give_back(ports, service);
             return Err(Halted::Ports);

@@ -10,7 +10,7 @@ use Rattle.plant_server_options.specs.declared.words.CommandLineError.TheVariant
 module _ {E : Type 0} (gives_port gives : List ℕ → Result ℕ E → Type 0) where
   pub refused_without : (options : ArgMatches) (error : CommandLineError)
       → IsNoCommandLineOf (unwrap_or (said options (codes "admin")) []) (said options (codes "migrate"))
-          (said options (codes "db")) error
+      (said options (codes "db")) error
       → IsNoCommandLine gives_port gives options error
   refused_without options (Text text is_error) not = absurd not
   refused_without options NotAPerson not = not

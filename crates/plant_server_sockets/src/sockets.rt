@@ -81,6 +81,8 @@ const LAST_WAITS: u32 = 25_600;
 /// The limits of a port.
 #[derive(Clone, Copy, Debug)]
 pub struct Limits {
+    /// How many connections are accepted in all.
+    pub connections: u64,
     /// How many connections may be open at once.
     pub clients: usize,
     /// How long a client may send nothing, or take nothing of its answer; `None` for no limit.
@@ -95,6 +97,8 @@ pub struct Sockets<'a> {
     events: Events,
     listener: TcpListener,
     limits: Limits,
+    /// How many more connections are to be accepted.
+    left: u64,
     /// How many connections were open when it was last asked what can be done.
     open: usize,
     /// Clients whose connections were closed, and who may still be sending, in the order of their numbers. It has room
@@ -211,6 +215,7 @@ impl<'a> Sockets<'a> {
             events: Events::with_capacity(rt.alloc(), EVENTS_A_WAIT)?,
             listener,
             limits,
+            left: limits.connections,
             open: 0,
             lingering: Vec::new(rt.alloc()),
             ready: VecDeque::new(rt.alloc()),
@@ -363,7 +368,8 @@ impl<'a> Sockets<'a> {
     }
 
     /// Accepts the next connection, if one is waiting. Returns whether there is one and a place for it.
-    fn has_next(&mut self, accepts: bool) -> bool {
+    fn has_next(&mut self) -> bool {
+        let accepts = self.left > 0;
         if self.accepted.is_none() && accepts && self.may_accept && self.paused <= self.now {
             match self.listener.accept() {
                 Ok((stream, _)) => self.accepted = Some(stream),
@@ -656,23 +662,18 @@ impl Sockets<'_> {
     }
 
     /// What can be done next. Turns alternate: one accepts first, the next reads or writes first.
-    fn next_of_all(
-        &mut self,
-        connections: &[Connection],
-        clients: &mut [Client],
-        accepts: bool,
-    ) -> Option<Ready>
+    fn next_of_all(&mut self, connections: &[Connection], clients: &mut [Client]) -> Option<Ready>
         ensures { numbers clients.new ≡ numbers clients.old }
     {
         self.accepts_first = !self.accepts_first;
-        if self.accepts_first && self.has_next(accepts) {
+        if self.accepts_first && self.has_next() {
             self.offered = true;
             return Some(Ready::Came);
         }
         if let Some(ready) = self.next_ready(connections, clients) {
             return Some(ready);
         }
-        if self.has_next(accepts) {
+        if self.has_next() {
             self.offered = true;
             return Some(Ready::Came);
         }
@@ -691,7 +692,6 @@ impl Ports for Sockets<'_> {
         &mut self,
         connections: &[Connection],
         clients: &mut [Client],
-        accepts: bool,
         may_wait: bool,
     ) -> Ready {
         if let Some(number) = self.expired.pop_front() {
@@ -709,7 +709,7 @@ impl Ports for Sockets<'_> {
             }
         }
         self.turns = self.turns.saturating_add(1);
-        if let Some(ready) = self.next_of_all(connections, clients, accepts) {
+        if let Some(ready) = self.next_of_all(connections, clients) {
             return ready;
         }
         if asks && !may_wait {
@@ -744,8 +744,11 @@ impl Ports for Sockets<'_> {
         {
             return None;
         }
+        self.left = self.left.saturating_sub(1);
         Some(Client::new(stream, number, self.now, self.until()))
     }
+
+    fn put_off(&mut self, _number: u64) {}
 
     fn take(&mut self, client: &mut Client, buf: &mut [u8]) -> Taken {
         let taken = client.take(buf, self.most);

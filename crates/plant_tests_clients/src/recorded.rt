@@ -53,10 +53,9 @@ impl Ports for Recorded {
         &mut self,
         connections: &[Connection],
         clients: &mut [u64],
-        accepts: bool,
         may_wait: bool,
     ) -> Ready {
-        self.script.next(connections, clients, accepts, may_wait)
+        self.script.next(connections, clients, may_wait)
     }
 
     fn place(&self) -> usize {
@@ -65,6 +64,10 @@ impl Ports for Recorded {
 
     fn accept(&mut self, number: u64) -> Option<u64> {
         self.script.accept(number)
+    }
+
+    fn put_off(&mut self, number: u64) {
+        self.script.put_off(number);
     }
 
     fn take(&mut self, number: &mut u64, buf: &mut [u8]) -> Taken {

@@ -67,7 +67,6 @@ impl Ports for Script {
         &mut self,
         connections: &[Connection],
         _clients: &mut [u64],
-        accepts: bool,
         _may_wait: bool,
     ) -> Ready {
         self.most_open = self.most_open.max(connections.len());
@@ -75,7 +74,7 @@ impl Ports for Script {
         if self.turns > TURNS {
             return Ready::Failed;
         }
-        if accepts && next_number(&mut self.seed) % 4 == 0 {
+        if self.opened < self.served.len() as u64 && next_number(&mut self.seed) % 4 == 0 {
             return Ready::Came;
         }
         let number = next_number(&mut self.seed) % self.opened.max(1);
@@ -100,6 +99,8 @@ impl Ports for Script {
         self.opened = number.saturating_add(1);
         Some(number)
     }
+
+    fn put_off(&mut self, _number: u64) {}
 
     fn take(&mut self, number: &mut u64, buf: &mut [u8]) -> Taken {
         let most = self.count();

@@ -20,6 +20,7 @@ fn listening<'a>(
     places: usize,
 ) -> (Sockets<'a>, SocketAddr) {
     let limits = Limits {
+        connections: u64::MAX,
         clients: places,
         idle: Some(Duration::from_secs(1)),
     };

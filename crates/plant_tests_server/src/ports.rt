@@ -218,7 +218,14 @@ fn served_until_shut<'a>(
     };
     let mut errors = Vec::new(alloc);
     let mut net = HostNet::new(rt);
-    let status = serve_port(alloc, &mut net, &mut office, service, &mut clients, &mut errors);
+    let status = serve_port(
+        alloc,
+        &mut net,
+        &mut office,
+        service,
+        &mut clients,
+        &mut errors,
+    );
     drop(office.into_books());
     (status.code(), clients, errors)
 }

@@ -19,13 +19,13 @@ returns-in-Ok-clause-sent g c =
       were.sent,
       first,
       subst (λ (at : Standing). IsSaid old first (announced at))
-      (sym (ap (λ (s : NetState). s.standing) ended ∙ ap (λ (s : NetState). s.standing) c.in-Ok.ensures.listens)) c.say_address.ensures,
+          (sym (ap (λ (s : NetState). s.standing) ended ∙ ap (λ (s : NetState). s.standing) c.in-Ok.ensures.listens)) c.say_address.ensures,
       (were.shown.text, were.shown.told, were.shown.written),
       g.E.Write.contents c.warn_of_few_descriptors.new.errors,
       c.warn_of_few_descriptors.ensures,
       c.serve_clients-outcome.ensures.served.1,
       subst (λ (log : Log). Logs log (g.P.Net.state c.end_at_once.new.self).log events) c.in-Ok.ensures.seen
-      (subst (λ (log : Log). Logs (g.P.Clients.Ports.seen c.in-Ok.ports) log events) (sym (ap (λ (s : NetState). s.log) ended)) were.shown.logged),
+          (subst (λ (log : Log). Logs (g.P.Clients.Ports.seen c.in-Ok.ports) log events) (sym (ap (λ (s : NetState). s.log) ended)) were.shown.logged),
       λ is. inr (were.halts is),
     )
 
@@ -42,6 +42,6 @@ returns-in-Err-clause-sent g c =
       (0, Appends-nil errors),
       none_at_once c.args.service.while_open errors,
       subst (λ (now : Log). Logs (g.P.Net.state c.args.net.now).log now []) (sym (ap (λ (s : NetState). s.log) refuses))
-      (same_log (g.P.Net.state c.args.net.now).log),
+          (same_log (g.P.Net.state c.args.net.now).log),
       λ is. inl (ap (λ (s : NetState). s.standing) refuses),
     )

@@ -2,22 +2,29 @@ use Rattle.std.proofs.Common.{ap, refl, take, true, ◌∙◌, ◌≡◌, ◌++�
 use Rattle.plant_wire_call.proofs.public.Waiting.{waits_more}
 use Rattle.plant_wire.specs.declared.reads.End.TheVariants.{Fault, ReadFailed}
 use Rattle.plant_server_clients.specs.{Events.{reading, writing}, Stages.{ending, served, end_for}}
-use Rattle.plant_server_clients.proofs.{Handled.{moved_came, moved_ended, moved_failed, moved_lost, moved_none}, Numbers.{gives_up}, Leading.{logs_none}, Waits.{on_true}}
+use Rattle.plant_server_clients.proofs.{Handled.{moved_came, moved_ended, moved_failed, moved_looked, moved_lost, moved_none}, Numbers.{gives_up}, Leading.{logs_none}, Waits.{both_ways, freed, on_true}}
 use Rattle.plant_server_clients.proofs.connections.read_connection.Goals as goal
 
 pub returns-then-not-is_open-clause-moved : goal.returns-then-not-is_open-clause-moved
 returns-then-not-is_open-clause-moved g c =
     let seen = g.P.Ports.seen c.args.ports.now in
-    moved_none seen seen c.args.connection.now c.args.connection.now refl true reading (λ (is : reading ≡ writing). cc) (logs_none seen) refl
+    let l = c.args.connection.now in
+    moved_none seen seen l l refl true reading (λ (is : reading ≡ writing). cc)
+    (λ _ _ free.
+    let it = freed l.unread.items l.pending.text.items l.end free in
+    both_ways c.is_open.result c.if-not-is_open.true (c.is_open.ensures.free it.0 it.1 it.2))
+    refl (logs_none seen) refl
 
 pub returns-in-Nothing-clause-moved : goal.returns-in-Nothing-clause-moved
 returns-in-Nothing-clause-moved g c =
-    moved_none (g.P.Ports.seen c.args.ports.now) (g.P.Ports.seen c.take.new.self) c.args.connection.now c.args.connection.now refl true reading
-    (λ (is : reading ≡ writing). cc) c.in-Nothing.ensures.taken refl
+    moved_looked (g.P.Ports.seen c.args.ports.now) (g.P.Ports.seen c.take.new.self) c.args.connection.now c.args.connection.now refl
+    (rw c.requires.own at c.in-Nothing.ensures.taken)
+    (on_true c.is_open.result _ (c.is_open.ensures.open c.requires.waits) c.if-not-is_open.false).0 refl
 
 pub returns-in-Failed-clause-moved : goal.returns-in-Failed-clause-moved
 returns-in-Failed-clause-moved g c =
     moved_failed (g.P.Ports.seen c.args.ports.now) (g.P.Ports.seen c.take.new.self) c.args.connection.now c.args.connection.now refl true reading
+    (λ _. (on_true c.is_open.result _ (c.is_open.ensures.open c.requires.waits) c.if-not-is_open.false).0)
     (rw c.requires.own at c.in-Failed.ensures.taken) refl
 
 pub returns-in-Failed-clause-failed : goal.returns-in-Failed-clause-failed

@@ -22,7 +22,7 @@ returns-in-Ok-Waits-clause-made g c =
     made_waiting g.B.Books c.args.office.now.books c.answer_next.new.office.books c.args.office.now.faults
     c.answer_next.new.office.faults c.in-Ok-Waits.ensures.honest l
     (record l { wanted = c.wanted_next-connection.result })
-    refl h.served refl (inr h.stands)
+    refl h.served refl refl (inr h.stands)
 
 pub wanted_next-connection-requires-clause-waiting : goal.wanted_next-connection-requires-clause-waiting
 wanted_next-connection-requires-clause-waiting g c =

@@ -1,6 +1,6 @@
-use Rattle.std.proofs.Common.{ap, ◌==◌, false, refl, drop, take, sym, ◌∙◌, take-append-drop}
+use Rattle.std.proofs.Common.{ap, ◌==◌, ◌≡◌, false, true, refl, drop, take, sym, ◌∙◌, take-append-drop}
 use Rattle.plant_server_clients.specs.{Events.{writing}, Stages.{stage_by}}
-use Rattle.plant_server_clients.proofs.{Handled.{moved_failed, moved_left, moved_none}, Numbers.{loses}, Leading.{logs_none}, Waits.{empty_if, full_if}}
+use Rattle.plant_server_clients.proofs.{Handled.{moved_failed, moved_left, moved_none, not_reading}, Numbers.{loses}, Leading.{logs_none}, Waits.{empty_if, full_if}}
 use Rattle.plant_server_clients.proofs.connections.write_connection.Goals as goal
 
 pub returns-then-is_empty-clause-moved : goal.returns-then-is_empty-clause-moved
@@ -8,7 +8,7 @@ returns-then-is_empty-clause-moved g c =
     let seen = g.P.Ports.seen c.args.ports.now in
     moved_none seen seen c.args.connection.now c.args.connection.now refl false writing
     (λ _. empty_if c.args.connection.now.pending.text.items c.is_empty.result (c.is_empty.ensures ∙ ap (λ n. n == 0) c.args.connection.now.pending.text.ok.0)
-    c.if-is_empty.true) (logs_none seen) refl
+    c.if-is_empty.true) (λ (no : false ≡ true). cc) refl (logs_none seen) refl
 
 pub put-requires : goal.put-requires
 put-requires g c = record {
@@ -20,7 +20,7 @@ put-requires g c = record {
 pub returns-in-Failed-clause-moved : goal.returns-in-Failed-clause-moved
 returns-in-Failed-clause-moved g c =
     moved_failed (g.P.Ports.seen c.args.ports.now) (g.P.Ports.seen c.put.new.self) c.args.connection.now c.args.connection.now refl false writing
-    (rw c.requires.own at c.in-Failed.ensures.sent) refl
+    (λ is. not_reading is) (rw c.requires.own at c.in-Failed.ensures.sent) refl
 
 pub returns-in-Failed-clause-failed : goal.returns-in-Failed-clause-failed
 returns-in-Failed-clause-failed g c none =

@@ -1,20 +1,22 @@
 use Rattle.std.proofs.Common.{refl, true, ◌≡◌, ◌++◌, ℕ, List, [], ◌∷◌, ◌∙◌, arith, inl, length, rules, sym, take}
 use Rattle.plant_wire_call.proofs.public.Waiting.{waits_none}
 use Rattle.plant_server_clients.specs.{Causes.{Always}, Service.{service_state}, Stages.{served, stage_in}}
-use Rattle.plant_server_clients.proofs.{Aligned.{aligned_pushed}, Ends.{take_front}, Handled.{passed_opened}, Leading.{logs_none, passed_none}}
+use Rattle.plant_server_clients.proofs.{Aligned.{aligned_pushed}, Ends.{take_front}, Handled.{tried_opened, tried_put_off}, Leading.{logs_none, passed_none}}
 use Rattle.plant_server_clients.proofs.{Numbers.{prompt_pushed, pushed_connections}, Paced.{rising_pushed}, Told.{noted_pushed}}
 use Rattle.plant_server_clients.specs.declared.connections.Connection.{Connection}
 use Rattle.plant_server_clients.proofs.serving.accept.Goals as goal
 
 pub returns-then-number-service-clause-passed : goal.returns-then-number-service-clause-passed
 returns-then-number-service-clause-passed g c log =
-    let seen = g.P.Ports.seen c.args.ports.now in
-    passed_none Always true (service_state seen log c.args.service.now) seen (logs_none seen)
+    let seen = g.P.Ports.seen c.args.ports.now in (
+      passed_none Always true (service_state seen log c.args.service.now) seen (logs_none seen),
+      λ below. absurd (omega (arith, below, c.if-number-service.true)),
+    )
 
 pub returns-then-is_err-clause-passed : goal.returns-then-is_err-clause-passed
 returns-then-is_err-clause-passed g c log =
-    let seen = g.P.Ports.seen c.args.ports.now in
-    passed_none Always true (service_state seen log c.args.service.now) seen (logs_none seen)
+    tried_put_off c.args.service.now.plan.connections (service_state (g.P.Ports.seen c.args.ports.now) log c.args.service.now)
+    (g.P.Ports.seen c.put_off.new.self) c.put_off.ensures
 
 pub returns-then-is_err-clause-consistent : goal.returns-then-is_err-clause-consistent
 returns-then-is_err-clause-consistent g c = record {
@@ -28,7 +30,8 @@ pub returns-then-is_err-2-clause-passed : goal.returns-then-is_err-2-clause-pass
 returns-then-is_err-2-clause-passed g c log =
     let seen = g.P.Ports.seen c.args.ports.now in
     let same : c.push.new.self.items ≡ c.args.service.now.connections.items = rw c.if-is_err-2.ensures.negation at c.push.ensures.items in
-    rw same (passed_none Always true (service_state seen log c.args.service.now) seen (logs_none seen))
+    rw same
+    (tried_put_off c.args.service.now.plan.connections (service_state seen log c.args.service.now) (g.P.Ports.seen c.put_off-then-is_err-2.new.self) c.put_off-then-is_err-2.ensures)
 
 pub returns-then-is_err-2-clause-noted : goal.returns-then-is_err-2-clause-noted
 returns-then-is_err-2-clause-noted g c log past are =
@@ -60,8 +63,8 @@ returns-in_default-clause-passed g c log =
     let same = back ls (c.new.result ∷ []) c.len-places.result c.push.new.self.items c.truncate.new.self.items more
     (c.len-places.ensures ∙ c.args.service.now.connections.ok.0) c.truncate.ensures.items in
     rw same
-    (passed_none Always true (service_state (g.P.Ports.seen c.args.ports.now) log c.args.service.now) (g.P.Ports.seen c.accept.new.self)
-    c.in_default.ensures.logged)
+    (tried_put_off c.args.service.now.plan.connections (service_state (g.P.Ports.seen c.args.ports.now) log c.args.service.now)
+    (g.P.Ports.seen c.accept.new.self) c.in_default.ensures.logged)
 
 pub returns-in_default-clause-noted : goal.returns-in_default-clause-noted
 returns-in_default-clause-noted g c log past are =
@@ -98,7 +101,7 @@ returns-clause-passed g c log =
     let l = c.new.result in
     let more : c.push.new.self.items ≡ ls ++ l ∷ [] = rw c.if-is_err-2.ensures.negation at c.push.ensures.items in
     let new : stage_in l ≡ served [] [] = rw (c.new.ensures.served, c.new.ensures.unread, c.new.ensures.pending) refl in
-    rw more (passed_opened (service_state (g.P.Ports.seen c.args.ports.now) log c.args.service.now) (g.P.Ports.seen c.accept.new.self)
+    rw more (tried_opened c.args.service.now.plan.connections (service_state (g.P.Ports.seen c.args.ports.now) log c.args.service.now) (g.P.Ports.seen c.accept.new.self)
     l c.requires.connections c.new.ensures.number new c.in-Some.ensures.logged)
 
 pub returns-clause-noted : goal.returns-clause-noted

@@ -28,7 +28,7 @@ turn-preserved-then-at-len g c =
     let within : at < length ls = omega (arith, all, c.if-at-len.true) in
     let connection = got ls at within in
     record {
-      round = round_next_told c.turn.at at connection.0 next c.turn.invariant.same c.turn.invariant.round c.turn.invariant.consistent.rising connection.1
+      round = round_next_told c.turn.at at connection.0 next c.turn.invariant.same c.turn.invariant.round c.turn.invariant.consistent.connections c.turn.invariant.consistent.rising connection.1
           c.turn_at.ensures.turned;
       clear = λ on. c.turn_at.ensures.clear (ap (λ (p : Plan). p.while_open) c.turn.invariant.same ∙ on);
       consistent = c.turn_at.ensures.consistent;
