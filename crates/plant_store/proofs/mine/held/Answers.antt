@@ -1,4 +1,4 @@
-use Rattle.std.proofs.Common.{IfOk, subst, sym, ap, map, ◌∙◌, ◌≡◌, List}
+use Rattle.std.proofs.Common.{IfOk, subst, ap, map, ◌∙◌, ◌≡◌, List}
 use Rattle.plant_books.specs.declared.books.MineUnit.{MineUnit}
 use Rattle.plant_store.proofs.Holdings.{codes_of_units}
 use Rattle.plant_types.specs.Names.{Name}
