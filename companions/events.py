@@ -10,7 +10,7 @@ file has the office's columns (seq, moment, tag, event), or these among others, 
     [values.event]
     "ALM" = "ACT"
     [moments]
-    format = "%d.%m.%Y %H:%M:%S"     # as of Python's strptime; otherwise that of the office, or any of ISO 8601
+    format = "%d.%m.%Y %H:%M:%S"     # as of Python's strptime, with a time of day; otherwise ISO 8601 to the second
     zone = "Europe/Berlin"           # otherwise UTC
 """
 
@@ -21,6 +21,7 @@ import datetime
 import functools
 import itertools
 import pathlib
+import re
 import typing
 import zoneinfo
 
@@ -33,6 +34,9 @@ MARK = b"\xef\xbb\xbf"
 LONGEST_ROW = 1_000
 # what has to be the same bytes in every encoding that a mapping names, as lines and fields are told apart by them
 PLAIN = '\r\n,;\t"0'
+# a moment in ISO 8601 with its time of day to the second: of a date or a week alone the time would be invented
+ISO = re.compile(r"[0-9]{4}-?[0-9]{2}-?[0-9]{2}[T ][0-9]{2}:?[0-9]{2}:?[0-9]{2}([.,][0-9]+)?(Z|[+-][0-9]{2}(:?[0-9]{2})?)?")
+TIMES_OF_DAY = ({"%c"}, {"%X"}, {"%H", "%M"}, {"%I", "%p", "%M"})
 
 
 @dataclasses.dataclass(frozen=True)
@@ -105,7 +109,7 @@ class Moments:
 
     def text(self, written: str) -> str:
         """A moment as the office writes it; what is none stays as it is."""
-        if self.form is None and values.MOMENT.fullmatch(written):
+        if self.form is None and (values.MOMENT.fullmatch(written) or not ISO.fullmatch(written)):
             return written
         try:
             found = datetime.datetime.fromisoformat(written) if self.form is None else datetime.datetime.strptime(written, self.form)
@@ -124,8 +128,11 @@ class Moments:
 def read_moments(path: pathlib.Path | None, members: object) -> Moments:
     if not isinstance(members, dict) or set(members) - {"format", "zone"} or not all(isinstance(it, str) for it in members.values()):
         raise sheets.Wrong(f"{path}: [moments] has format and zone, and nothing else")
+    form = members.get("format")
+    if form is not None and not any(it <= set(re.findall("%[A-Za-z]", form)) for it in TIMES_OF_DAY):
+        raise sheets.Wrong(f"{path}: the format {form!r} has no time of day: an event needs its hour and minute")
     try:
-        return Moments(members.get("format"), zoneinfo.ZoneInfo(members.get("zone", "UTC")))
+        return Moments(form, zoneinfo.ZoneInfo(members.get("zone", "UTC")))
     except (zoneinfo.ZoneInfoNotFoundError, ValueError, OSError) as error:
         raise sheets.Wrong(f"{path}: {members.get('zone')!r} is not the name of a time zone") from error
 

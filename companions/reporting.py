@@ -3,10 +3,8 @@
 import calendar
 import collections
 import collections.abc
-import csv
 import dataclasses
 import datetime
-import io
 import pathlib
 import re
 
@@ -264,14 +262,6 @@ def report_of(log: audit.Log, month: Month, name: str, books: ByUnit, meant: tup
     )
 
 
-def csv_text(header: collections.abc.Sequence[str], rows: collections.abc.Iterable[collections.abc.Sequence[object]]) -> str:
-    written = io.StringIO(newline="")
-    writer = csv.writer(written)
-    writer.writerow(header)
-    writer.writerows([pages.plain(cell) for cell in row] for row in rows)
-    return written.getvalue()
-
-
 def tables(report: Report) -> dict[str, str]:
     """The CSV files beside the page."""
     kinds = ("unit", "tag", "kind", "start", "end", "seconds", "how it ended", "person", "words")
@@ -282,11 +272,11 @@ def tables(report: Report) -> dict[str, str]:
     )
     flooded = ((of.unit, it.start, it.until, it.total, it.peak) for of in report.floods for it in of.floods)
     return {
-        "shelvings": csv_text(kinds, shelved),
-        "changes": csv_text(heads, decided),
-        "refusals": csv_text(("names", "call", "person", "unit", "count"), map(dataclasses.astuple, report.refused)),
-        "grants": csv_text(("unit", "moment", "what", "person", "role", "end", "by"), map(dataclasses.astuple, report.granted)),
-        "floods": csv_text(("unit", "start", "until", "activations", "most in ten minutes"), flooded),
+        "shelvings": pages.csv_text(kinds, shelved),
+        "changes": pages.csv_text(heads, decided),
+        "refusals": pages.csv_text(("names", "call", "person", "unit", "count"), map(dataclasses.astuple, report.refused)),
+        "grants": pages.csv_text(("unit", "moment", "what", "person", "role", "end", "by"), map(dataclasses.astuple, report.granted)),
+        "floods": pages.csv_text(("unit", "start", "until", "activations", "most in ten minutes"), flooded),
     }
 
 

@@ -67,6 +67,20 @@ def test_a_mapping_names_columns_words_and_moments(tmp_path: pathlib.Path) -> No
     ]
 
 
+WITHOUT_A_TIME = ("2026-11-28", "20261128", "2026-W48-6", "2026W486", "2026-11-28T10", "2026-11-28T10:00", "2026-11-28 10", "10:00:00")
+TEN_O_CLOCK = ("2026-11-28T10:00:01Z", "2026-11-28 10:00:01", "2026-11-28T11:00:01+01:00", "20261128T100001Z", "2026-11-28 10:00:01,25")
+
+
+@pytest.mark.parametrize("text", WITHOUT_A_TIME)
+def test_the_time_of_a_day_is_never_invented(text: str) -> None:
+    assert rows_of(f"{HEADER}1,{text},A,ACT\n".replace("tag", " tag")) == [(2, f"1,{text},A,ACT".encode())]
+
+
+@pytest.mark.parametrize("text", TEN_O_CLOCK)
+def test_moments_of_iso_8601_are_mapped(text: str) -> None:
+    assert rows_of(f'{HEADER}1,"{text}",A,ACT\n'.replace("tag", " tag")) == [(2, b"1,2026-11-28T10:00:01Z,A,ACT")]
+
+
 def test_a_wide_file_is_read_to_the_end_of_its_lines() -> None:
     names = ",".join(f"column {number}" for number in range(200))
     text = f"seq,{names},moment,tag,event\n1,{'x' * 5_000}{',' * 200}2026-03-01T08:00:01Z,A,ACT\n"
@@ -96,6 +110,8 @@ def test_which_unit_a_line_is_of_is_never_guessed(tmp_path: pathlib.Path) -> Non
     ("encoding = 'utf-16'", "events are not read in utf-16: save them as UTF-8"),
     ("encoding = 'cp037'", "events are not read in cp037: save them as UTF-8"),
     ("[moments]\nform = 'x'", "[moments] has format and zone"),
+    ("[moments]\nformat = '%d.%m.%Y'", "the format '%d.%m.%Y' has no time of day"),
+    ("[moments]\nformat = '%d.%m.%Y %H'", "has no time of day"),
     ("[moments]\nzone = 'Europe/Atlantis'", "'Europe/Atlantis' is not the name of a time zone"),
     ("[columns]\nnumber = 'x'", "number is not known here"),
 ])
