@@ -278,7 +278,8 @@ def command(backup: pathlib.Path, unit: str, to: str, steward: str | None, again
 
     All is read from the backup; of what is shelved and out of service the full unit is asked, too. The list at the end says what a person still has
     to decide. May be stopped at any moment and typed again, also while people work in the new unit: what they have ended there is not shelved and not
-    taken out of service again; what was rejected or taken back is not proposed again; and no roles are granted once all were. Where only a person knows what was done, since the command was stopped at it, the list says so, and --again does it.
+    taken out of service again; what was rejected or taken back is not proposed again; and no roles are granted once all were. Where only a person
+    knows what was done, since the command was stopped at it, the list says so, and --again does it.
 
     Status: 0 done, 1 refused, 2 the command line is wrong, 3 the office cannot be reached.
     """
