@@ -7,6 +7,7 @@ before and after it are imported.
 
 import collections.abc
 import dataclasses
+import datetime
 import itertools
 import math
 import os
@@ -16,10 +17,11 @@ import typing
 
 import click
 
-from companions import calls, connection, events, options, tally, values
+from companions import calls, connection, events, newest, options, tally, values
 
 DONE, BAD = "done", "bad"
 LONGEST_PAUSE = 60.0
+LIMIT = datetime.timedelta(minutes=15)  # the age of the newest event above which it is named
 MOST_LISTED = 10  # bad rows of a file that are printed; all stand in its file of bad rows
 GROWS_LONG = 60.0  # seconds after which a file that still grows is named
 MOST_READ = 16_777_216  # bytes of a growing file that are read between two looks
@@ -42,6 +44,11 @@ def fault_of(rows: list[events.Row], refusal: connection.Refusal) -> Fault:
         raise refusal
     # the header is the first record
     return Fault(rows[int(refusal.value["line"]) - 2], str(refusal.value["cause"]), refusal.line)
+
+
+def moment_of(row: events.Row) -> datetime.datetime:
+    """The moment of a row that the office has taken."""
+    return values.moment_of(events.split(row.text.decode(), ",")[1])
 
 
 @dataclasses.dataclass
@@ -105,8 +112,11 @@ class Feeding:
     count: tally.Tally
     longest_wait: float
     every: float
+    state: pathlib.Path | None = None  # the file that has the newest event
     bad_folder: pathlib.Path | None = None  # otherwise the folder `bad` beside what is read
     bad: BadRows | None = None
+    newest: datetime.datetime | None = None  # the moment of the newest event that was imported
+    named: datetime.datetime | None = None  # the one that was said to be too old
 
     def send(self, piece: events.Piece) -> tuple[int, int]:
         """Imports a piece. A row that the office does not take is kept aside; while there are many, the rows go in small pieces."""
@@ -123,6 +133,23 @@ class Feeding:
             before = rows.index(fault.row)
             rows, size = rows[:before] + rows[before + 1 :], max(before, 1)
         return sent.new, sent.repeated
+
+    def note_newest(self) -> None:
+        """Keeps the moment of the newest event that was imported, also one of a run before this."""
+        if self.state is None or self.newest is None:
+            return
+        if self.state.is_file():
+            self.newest = max(self.newest, newest.read_state(self.state)[1])
+        newest.write_state(self.state, self.unit, self.newest)
+
+    def say_age(self) -> None:
+        """Names the newest event once it is too old, and again once another one has come and is too old, too."""
+        if self.newest is None or self.office.link.target.moment is not None:
+            return
+        found = newest.of_moments({"by this feed": self.newest}, values.now(), LIMIT)
+        if found.is_old and self.named != self.newest:
+            self.named = self.newest
+            click.echo(found.words(), err=True)
 
     def keep_aside(self, fault: "Fault") -> None:
         if self.bad is None:
@@ -141,6 +168,7 @@ class Feeding:
         while rows:
             try:
                 sent.add(len(rows), *self.office.import_events(self.unit, events.Piece(rows).body()))
+                self.newest = max([*filter(None, [self.newest]), *map(moment_of, rows)])
                 return None
             except connection.Refusal as refusal:
                 if refusal.name == "MomentBehind" and self.may_wait(until):
@@ -178,6 +206,7 @@ class Feeding:
             with tally.progress(name, None) as advance:
                 for piece in events.pieces(rows):
                     found = self.send(piece)
+                    self.note_newest()
                     new, repeated = new + found[0], repeated + found[1]
                     self.count.done += found[0]
                     self.count.there += found[1]
@@ -255,6 +284,7 @@ class Feeding:
                     click.echo(f"{name} still grows, and is taken once it rests: let it be written under a name that begins with a dot", err=True)
             self.import_spool(folder, [it for it in sorted(marks) if it not in growing])
             self.count.show_refused()
+            self.say_age()
             seen = marks
             time.sleep(self.every)
 
@@ -278,6 +308,7 @@ class Feeding:
                     if columns is not None:
                         self.import_rows(columns.rows(rows), path.name)
                         self.count.show_refused()
+                        self.say_age()
                     if growing.was_rewritten:
                         click.echo(f"{path.name} was written anew in its place: it is read from its begin", err=True)
                     else:
@@ -371,6 +402,7 @@ def set_aside(path: pathlib.Path, said: str) -> None:
 @click.option("--follow", is_flag=True, help="Goes on for ever, with what comes.")
 @options.mapping
 @click.option("--bad", type=click.Path(file_okay=False, path_type=pathlib.Path), help="Where bad rows go.  [default: DIR/bad, or bad beside FILE]")
+@click.option("--state", type=click.Path(dir_okay=False, path_type=pathlib.Path), help="A file to write, with the moment of the newest event.")
 @click.option("--every", type=click.FloatRange(0.05, 3_600), default=2.0, show_default=True, help="With --follow: seconds between two looks.")
 @click.option("--longest-wait", type=click.FloatRange(0), default=3_600.0, show_default=True, help="Seconds to wait for the office's clock.")
 @options.dry_run
@@ -381,6 +413,7 @@ def command(
     follow: bool,
     mapping: pathlib.Path | None,
     bad: pathlib.Path | None,
+    state: pathlib.Path | None,
     every: float,
     longest_wait: float,
     dry_run: bool,
@@ -415,6 +448,9 @@ def command(
         [skip]
         event = ["INFO"]              # rows that are not wanted
 
+    --state writes the moment of the newest event to a file, for office handover and the board. With --follow the command says so if that is more than
+    15 minutes ago.
+
     A moment has its time of day to the second, unless the format says otherwise. In the hour through which a clock goes twice a row needs a column
     `offset`, as +02:00, which the mapping names under [columns]. Or the mapping says twice = "order", for files whose rows stand in the order of time
     and which have that hour whole. A row of which neither says it is a bad one, and so is each such row of a file that grows, without an offset.
@@ -425,7 +461,7 @@ def command(
         raise click.UsageError("--dry-run does not go with --follow")
     reader = events.Reader(unit, mapping)
     with options.office_of(**words) as office, tally.Tally(dry_run) as count:
-        feeding = Feeding(office, unit, reader, count, longest_wait, every, bad)
+        feeding = Feeding(office, unit, reader, count, longest_wait, every, state, bad)
         try:
             if follow and source.is_dir():
                 feeding.follow_spool(source)

@@ -16,7 +16,7 @@ import hypothesis
 import pytest
 from hypothesis import strategies
 
-from companions import calls, connection, events, feed, sheets, tally
+from companions import calls, connection, events, feed, newest, sheets, tally, values
 from companions.tests import plant as plants
 from companions.tests.plant import Plant, office as typed
 
@@ -232,6 +232,17 @@ def test_the_rows_before_and_after_bad_ones_go_in_and_mended_ones_follow(plant: 
     spool(plant, mended=mended.replace(",Z,", ",A,").replace(",a,", ",A,").replace(",tag?,", ",A,"))
     assert typed("feed", folder, "--unit", "U1", *plant.words("ann")).returncode == 0
     assert plant.rows("SELECT count(*), min(seq), max(seq) FROM events") == [(300, 1, 300)]
+
+
+def test_the_newest_event_is_kept_for_others(plant: Plant) -> None:
+    state = plant.folder / "U1.json"
+    folder = spool(plant, a=HEADER + line(1) + line(9) + line(5, tag="Z"))
+    assert typed("feed", folder, "--unit", "U1", "--state", state, *plant.words("ann")).returncode == 1
+    assert newest.read_state(state) == ("U1", values.moment_of("2026-03-01T08:00:09Z"))
+    # a later file with earlier events puts nothing back
+    spool(plant, b=HEADER + line(2))
+    assert typed("feed", folder, "--unit", "U1", "--state", state, *plant.words("ann")).returncode == 0
+    assert newest.read_state(state)[1] == values.moment_of("2026-03-01T08:00:09Z")
 
 
 def test_kinds_that_are_not_wanted_are_left_out(plant: Plant, tmp_path: pathlib.Path) -> None:
