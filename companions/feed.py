@@ -21,7 +21,6 @@ from companions import calls, connection, events, newest, options, tally, values
 
 DONE, BAD = "done", "bad"
 LONGEST_PAUSE = 60.0
-LIMIT = datetime.timedelta(minutes=15)  # the age of the newest event above which it is named
 MOST_LISTED = 10  # bad rows of a file that are printed; all stand in its file of bad rows
 GROWS_LONG = 60.0  # seconds after which a file that still grows is named
 MOST_READ = 16_777_216  # bytes of a growing file that are read between two looks
@@ -146,7 +145,7 @@ class Feeding:
         """Names the newest event once it is too old, and again once another one has come and is too old, too."""
         if self.newest is None or self.office.link.target.moment is not None:
             return
-        found = newest.of_moments({"by this feed": self.newest}, values.now(), LIMIT)
+        found = newest.of_moments({"by this feed": self.newest}, values.now(), newest.LIMIT)
         if found.is_old and self.named != self.newest:
             self.named = self.newest
             click.echo(found.words(), err=True)

@@ -8,6 +8,8 @@ import pathlib
 
 from companions import backups, connection, lists, pages, values
 
+LIMIT = datetime.timedelta(minutes=15)  # the age above which an event is called too old, for a unit with a feed
+
 
 @dataclasses.dataclass(frozen=True)
 class Newest:

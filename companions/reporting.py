@@ -11,7 +11,7 @@ import re
 import click
 import markupsafe
 
-from companions import audit, backups, changes, charts, connection, floods, lists, options, pages, shelvings
+from companions import audit, backups, changes, charts, connection, floods, lists, newest, options, pages, shelvings
 
 LOG = pathlib.Path("/var/log/shelfoffice")
 MOST = 10
@@ -232,8 +232,12 @@ def notes(log: audit.Log, month: Month, books: ByUnit, units: collections.abc.It
     for unit in units:
         if unit not in books:
             found.append(f"{unit} is in no backup that was named: its changes and floods are not known, nor how its one-shot shelves ended.")
-        elif books[unit].moment() < month.until:
-            found.append(f"The backup of {unit} is of {pages.minute(books[unit].moment())}: what came later in the month is not in it.")
+            continue
+        moment = books[unit].moment()
+        age = newest.of_moments({"in the backup": books[unit].newest_event(unit)}, moment, newest.LIMIT)
+        found.append(f"{unit}, by the backup of {pages.minute(moment)}: {age.words()}.")
+        if moment < month.until:
+            found.append(f"The backup of {unit} is of {pages.minute(moment)}: what came later in the month is not in it.")
     if log.damaged:
         found.append(f"Lines of the log that are damaged, and left out: {log.damaged:,}.")
     doubtful = [it for it in log.calls if it.is_open and month.has(it.moment)]

@@ -166,7 +166,8 @@ def test_the_page_as_html(plant: Plant) -> None:
     page = Tags(out.read_text())
     assert page.open_tags == []
     texts = {it.strip() for it in page.texts}
-    assert {"pump <test>", "valve & cable", "Handover of U1, U2", "con", "12"} <= texts
+    assert {"pump <test>", "Handover of U1, U2", "con", "12"} <= texts
+    assert any(it.startswith("not known (backup of ") and it.endswith("by moe: valve & cable)") for it in texts)
     text = out.read_text()
     assert "size: A4" in text and text.count("<svg") == 1 and text.count('class="bar"') == 1
     assert "http" not in text.replace("http://www.w3.org/2000/svg", "")
