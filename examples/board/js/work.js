@@ -125,7 +125,7 @@ function shelve(event) {
     const isTimed = $("timed").checked;
     const isRight = areRight(shelving, [
         [$("seconds"), !isTimed || seconds !== null, `For how long? Give ${LENGTH_WANTED}.`],
-        [$("words"), isRemark(words), `Say why: ${REMARK_WANTED}.`],
+        [$("words"), isRemark(words), `Say why: ${REMARK_WANTED}, and not blanks alone.`],
     ]);
     if (isRight && isTimed) {
         call(shelving, shelfDrawn, "timed-shelve", {seconds, words}, `is shelved for ${lengthText(seconds)}.`);
@@ -140,7 +140,7 @@ function serve(event) {
     const words = $("service-words").value;
     if (event.submitter === $("place")) {
         call(service, serviceDrawn, "place-in-service", "", "is in service again.");
-    } else if (areRight(service, [[$("service-words"), isRemark(words), `Say why: ${REMARK_WANTED}.`]])) {
+    } else if (areRight(service, [[$("service-words"), isRemark(words), `Say why: ${REMARK_WANTED}, and not blanks alone.`]])) {
         call(service, serviceDrawn, "remove-from-service", {words}, "is out of service.");
     }
 }

@@ -19,8 +19,8 @@ def fill_opposites(site):
     for person in ["pat", "mia"]:
         for role in ["Operator", "Maintainer"]:
             site.direct("sue", begin, "/units/U8/grants", {"person": person, "role": role})
-    site.direct("sue", begin, "/units/U8/grants", {"person": "max", "role": "Engineer"})
-    site.direct("max", begin, "/units/U8/alarms", {"tag": "PT-1", "latching": False, "max": 3600})
+    site.direct("sue", begin, "/units/U8/grants", {"person": "mia", "role": "Engineer"})
+    site.direct("mia", begin, "/units/U8/alarms", {"tag": "PT-1", "latching": False, "max": 3600})
 
 
 class Two:

@@ -144,7 +144,8 @@ def try_outage(site, page):
     site.stop_office()
     page.value("document.querySelector('#again').click()")
     wait_for("502", lambda: page.text("#trouble-words").startswith("The office does not answer. (502)"), 30)
-    wait_for("the next request named", lambda: re.fullmatch(r"Asking again in \d+ s\.", page.text("#trouble-next")))
+    named = wait_for("the next request named", lambda: re.fullmatch(r"Asking again in (\d+) s\.", page.text("#trouble-next")))
+    expect(int(named[1]) <= 8, True, f"the next request within 8 s: {named[0]}")
     page.check_looks("an office that does not answer")
     page.check_narrow("an office that does not answer")
 
