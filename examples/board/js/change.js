@@ -151,6 +151,6 @@ export function showChange() {
     $("own").hidden = !(isWaiting && own && holds("Approver"));
     $("approve").hidden = $("reject").hidden = !(isWaiting && !own && holds("Approver"));
     // until the page knows what the record comes to, or that no call says it
-    $("approve").disabled = isWaiting && change.kind === "record" && (parts.price?.isLooking ?? true);
+    $("approve").disabled = isWaiting && change.kind === "record" && (parts.price === null || parts.price.isLooking === true);
     $("withdraw").hidden = !(isWaiting && own && holds("Engineer"));
 }
