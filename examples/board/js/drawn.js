@@ -6,7 +6,7 @@ import {nextRound, outOfDate} from "./rounds.js";
 
 const SETTLING = 700; // milliseconds in which nothing is done after a form that nobody was at has changed
 
-// `now` gives the state by the last answers, `ask` gives it by a new answer, `differs` compares two states, `draw` shows one, and `tell`
+// `now` gives the state by the last answers, or null without any, `ask` gives it by a new answer, `differs` compares two states, `draw` shows one, and `tell`
 // gives in words what is so, if need be by asking.
 export function makeDrawn(form, {now, ask, differs, draw, tell}) {
     const note = form.querySelector(".changed");
@@ -21,7 +21,11 @@ export function makeDrawn(form, {now, ask, differs, draw, tell}) {
         state = now();
         hasChanged = isHeld = false;
         note.hidden = true;
-        draw(state);
+        if (state === null) {
+            subject = null; // nothing is shown, or not yet
+        } else {
+            draw(state);
+        }
     }
 
     function refresh(newSubject) {

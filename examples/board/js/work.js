@@ -48,7 +48,7 @@ async function standsOf(unit, tag) {
 
 const tell = () => standsOf(here.unit, here.tag);
 const shelfDrawn = makeDrawn(shelving, {
-    now: () => (shown.alarm.shelf === "Unshelved" ? "" : shelfKey(here.alarms.get(shown.tag)?.shelf) || shown.alarm.shelf),
+    now: () => shown.alarm && (shown.alarm.shelf === "Unshelved" ? "" : shelfKey(here.alarms.get(shown.tag)?.shelf) || shown.alarm.shelf),
     ask: async () => shelfKey(await askShelf(here.unit, here.tag)),
     differs: (one, other) => one !== other,
     draw(key) {
@@ -58,7 +58,7 @@ const shelfDrawn = makeDrawn(shelving, {
     tell,
 });
 const serviceDrawn = makeDrawn(service, {
-    now: () => serviceState(shown.alarm, here.unit),
+    now: () => shown.alarm && serviceState(shown.alarm, here.unit),
     ask: async () => serviceState(await askService(here.unit, here.tag), here.unit),
     // a removal that is known on one side alone may be the same
     differs: (one, other) => one.isOut !== other.isOut || (one.removal && other.removal && one.removal.moment !== other.removal.moment),
