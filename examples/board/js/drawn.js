@@ -6,8 +6,8 @@ import {nextRound, outOfDate} from "./rounds.js";
 
 const SETTLING = 700; // milliseconds in which nothing is done after a form that nobody was at has changed
 
-// `now` gives the state by the last answers, or null without any, `ask` gives it by a new answer, `differs` compares two states, `draw` shows one, and `tell`
-// gives in words what is so, if need be by asking.
+// `now` gives the state by the last answers, or null without any; `ask` gives it by a new answer; `differs` compares two states; `draw`
+// shows one; `tell` gives in words what is so, if need be by asking.
 export function makeDrawn(form, {now, ask, differs, draw, tell}) {
     const note = form.querySelector(".changed");
     const heading = form.querySelector("h3");
