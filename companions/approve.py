@@ -13,6 +13,9 @@ import rich.text
 
 from companions import calls, changes, matrix, options, tally, values
 
+Changes = collections.abc.Sequence[calls.Change]
+NOT_READABLE = "not readable: no matrix was approved as a change"
+
 
 @dataclasses.dataclass(frozen=True)
 class Shown:
@@ -80,10 +83,22 @@ class Unit:
             revision, limit = (status.limit_revision, status.limit) if status else (0, 0)
             return Shown(change, revision, [("limit", f"{limit} s", f"{content} s")])
         in_force = self.office.record(self.unit, tag) if tag in self.recorded else None
-        priority = self.matrix.priority(content.severity, content.response) if self.matrix else "not readable: no matrix was approved as a change"
+        priority = self.matrix.priority(content.severity, content.response) if self.matrix else NOT_READABLE
         before: dict[str, object] = {} if in_force is None else {**in_force.record.members(), "priority": in_force.priority}
         after: dict[str, object] = {**content.members(), "priority": priority or "none: the matrix has no row of this severity"}
         return Shown(change, in_force.revision if in_force else 0, beside(before, after))
+
+    def is_blind(self, change: calls.Change) -> bool:
+        """Whether an approver cannot see which priority an alarm gets by this change."""
+        return self.matrix is None and change.kind is values.Kind.record
+
+    def decide_all(self, those: Changes, state: values.State, count: tally.Tally, may_be_blind: bool) -> None:
+        for it in tally.over(those, "decides"):
+            if state is values.State.Approved and self.is_blind(it) and not may_be_blind:
+                words = "its priority cannot be read: approve a matrix first (office open proposes it), or give --blind"
+                count.refused.append(f"refused: approve change {it.number}, {changes.name_of(it)}: {words}")
+            else:
+                self.decide(it, state, count)
 
     def decide(self, change: calls.Change, state: values.State, count: tally.Tally) -> bool:
         word = "approve" if state is values.State.Approved else "reject"
@@ -97,8 +112,8 @@ class Unit:
         return is_made
 
 
-def decide_each(unit: Unit, waiting: collections.abc.Sequence[calls.Change], count: tally.Tally, console: rich.console.Console) -> None:
-    for change in waiting:
+def decide_each(unit: Unit, those: Changes, count: tally.Tally, console: rich.console.Console) -> None:
+    for change in those:
         unit.shown(change).show(console)
         answer = click.prompt("approve, reject, skip or quit", type=click.Choice(["a", "r", "s", "q"]), default="s")
         if answer == "q":
@@ -107,19 +122,37 @@ def decide_each(unit: Unit, waiting: collections.abc.Sequence[calls.Change], cou
             unit.decide(change, values.State.Approved if answer == "a" else values.State.Rejected, count)
 
 
+def show_and_decide(unit: Unit, those: Changes, whole: str | None, blind: bool, count: tally.Tally, console: rich.console.Console) -> bool:
+    """Shows changes, and decides of them as the command line or the approver says. Whether the approver goes on."""
+    for it in those:
+        unit.shown(it).show(console)
+    click.echo(f"{tally.plural(len(those), 'proposal')} shown")
+    answer = whole[0] if whole else "q"
+    if those and whole is None and not count.is_dry:
+        answer = click.prompt("approve all, reject all, one by one, or quit", type=click.Choice(["a", "r", "o", "q"]), default="q")
+    if answer == "o":
+        decide_each(unit, those, count, console)
+    elif answer != "q":
+        unit.decide_all(those, values.State.Approved if answer == "a" else values.State.Rejected, count, blind)
+    return answer != "q" or count.is_dry
+
+
 @click.command(name="approve")
 @click.option("--unit", type=options.UNIT, required=True, help="The unit.")
 @click.option("--proposer", type=options.PERSON, help="Only what this person has proposed.")
 @click.option("--kind", type=click.Choice([it.name for it in values.Kind]), help="Only changes of this kind.")
 @click.option("--all", "whole", type=click.Choice(["approve", "reject"]), help="Decides of all that are shown, without asking.")
+@click.option("--blind", is_flag=True, help="Approves records whose priority cannot be read, too.")
 @options.dry_run
 @options.connected
-def command(unit: str, proposer: str | None, kind: str | None, whole: str | None, dry_run: bool, **words: typing.Any) -> int:
+def command(unit: str, proposer: str | None, kind: str | None, whole: str | None, blind: bool, dry_run: bool, **words: typing.Any) -> int:
     """Shows the proposals that wait in a unit, and approves or rejects them.
 
-    Each is shown beside what is in force, with the priority that a record will get by the matrix in force. That can be read if it was approved as a
-    change; of the matrix of the opening no call says it (see office open). Then all that were shown are approved or rejected, or one by one. The
-    caller is an Approver of the unit. Nobody decides what they proposed themselves: such proposals are only counted.
+    Each is shown beside what is in force, with the priority that a record will get by the matrix in force. Matrices come first, and are decided
+    before the rest is shown, since the priorities of records come of them. A priority can be read if a matrix was approved as a change; no call gives
+    the matrix of the opening (see office open). Records whose priority cannot be read are not approved all at once, unless --blind says so. All that
+    were shown are approved or rejected, or one by one. The caller is an Approver of the unit. Nobody decides what they proposed themselves: such
+    proposals are only counted.
 
     May be stopped at any moment and typed again: what is decided does not wait any more.
 
@@ -135,16 +168,8 @@ def command(unit: str, proposer: str | None, kind: str | None, whole: str | None
             click.echo(f"{tally.plural(found.notes, 'note')} of office successor: whoever has left it takes it back")
         if len(waiting) < len(meant):
             click.echo(f"{tally.plural(len(meant) - len(waiting), 'proposal')} of your own: somebody else decides")
-        for it in waiting:
-            found.shown(it).show(console)
-        click.echo(f"{tally.plural(len(waiting), 'proposal')} shown")
-        answer = whole[0] if whole else "q"
-        if waiting and whole is None and not dry_run:
-            answer = click.prompt("approve all, reject all, one by one, or quit", type=click.Choice(["a", "r", "o", "q"]), default="q")
-        if answer == "o":
-            decide_each(found, waiting, count, console)
-        elif answer != "q":
-            state = values.State.Approved if answer == "a" else values.State.Rejected
-            for it in tally.over(waiting, "decides"):
-                found.decide(it, state, count)
+        first = [it for it in waiting if it.kind is values.Kind.matrix]
+        rest = [it for it in waiting if it not in first]
+        if (not first or show_and_decide(found, first, whole, blind, count, console)) and (rest or not first):
+            show_and_decide(found, rest, whole, blind, count, console)
     return count.status()

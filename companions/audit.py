@@ -62,10 +62,12 @@ class Call:
 
 @dataclasses.dataclass(frozen=True)
 class Log:
-    """The calls of a log in the order of their moments, and how many lines could not be read."""
+    """The calls of a log in the order of their moments, how many lines could not be read, and the moment of the last line, also of one that only
+    reads."""
 
     calls: list[Call]
     damaged: int
+    until: datetime.datetime | None = None
 
     def begin(self) -> datetime.datetime | None:
         return self.calls[0].moment if self.calls else None
@@ -121,16 +123,19 @@ def read_log(paths: collections.abc.Iterable[pathlib.Path]) -> Log:
     """The whole log, of files and folders."""
     found: list[Call] = []
     damaged = 0
+    until: datetime.datetime | None = None
     for path in paths:
         for file in files_in(path):
             try:
                 for line in lines_in(file):
                     call = read_line(line)
                     damaged += call is None
+                    if call is not None and (until is None or call.moment > until):
+                        until = call.moment
                     # a call that only reads and was answered says nothing that a report has
                     if call is not None and (call.method == "POST" or call.is_refused):
                         found.append(call)
             except OSError as error:
                 raise connection.Trouble(f"{file}: {error.strerror or error}") from error
     found.sort(key=lambda it: it.moment)
-    return Log(found, damaged)
+    return Log(found, damaged, until)

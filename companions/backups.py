@@ -174,6 +174,9 @@ class Books:
         for moment, tag, kind in self.rows.execute("SELECT moment_s, tag, kind_no FROM events WHERE unit = ? ORDER BY seq", (unit,)):
             yield Event(moment, tag, EVENTS[kind])
 
+    def newest_event(self, unit: str) -> datetime.datetime | None:
+        return moment_or_none(self.rows.execute("SELECT max(moment_s) FROM events WHERE unit = ?", (unit,)).fetchone()[0])
+
     def count(self, unit: str, table: str) -> int:
         """How many rows a unit has in a table."""
         return int(self.rows.execute(f"SELECT count(*) FROM {table} WHERE unit = ?", (unit,)).fetchone()[0])

@@ -275,6 +275,19 @@ class Office:
         path = f"/units/{unit}/alarms/{tag}/remove-from-service"
         return self.make(path, {"words": words}, stands, "AlreadyOutOfService", is_once=True)[0]
 
+    def unshelve(self, unit: str, tag: str) -> Outcome:
+        def stands() -> str | None:
+            return "" if all(it.tag != tag for it in self.shelves(unit)) else None
+
+        return self.make(f"/units/{unit}/alarms/{tag}/unshelve", {}, stands, "ConditionNotShelved", is_once=True)[0]
+
+    def place_in_service(self, unit: str, tag: str) -> Outcome:
+        def stands() -> str | None:
+            status = self.status(unit, tag)
+            return "" if status is not None and not status.out_of_service else None
+
+        return self.make(f"/units/{unit}/alarms/{tag}/place-in-service", {}, stands, "NotOutOfService", is_once=True)[0]
+
     def import_events(self, unit: str, body: bytes) -> tuple[int, int]:
         """How many rows are new, and how many are repeated. An import may be repeated, since each row counts once."""
         said = json.loads(self.link.change(f"/units/{unit}/imports", body, self.stands_nowhere).text)

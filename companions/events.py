@@ -10,8 +10,11 @@ file has the office's columns (seq, moment, tag, event), or these among others, 
     [values.event]
     "ALM" = "ACT"
     [moments]
-    format = "%d.%m.%Y %H:%M:%S"     # as of Python's strptime; otherwise that of the office, or any of ISO 8601
+    format = "%d.%m.%Y %H:%M:%S"     # as of Python's strptime, with a time of day; otherwise ISO 8601 to the second
     zone = "Europe/Berlin"           # otherwise UTC
+    twice = "order"                  # the hour that comes twice is told by the order of the rows; otherwise by a column `offset`, as +02:00
+    [skip]
+    event = ["INFO", "OPERATOR"]     # rows that are left out
 """
 
 import collections.abc
@@ -21,26 +24,36 @@ import datetime
 import functools
 import itertools
 import pathlib
+import re
 import typing
 import zoneinfo
 
-from companions import sheets, values
+from companions import pages, sheets, values
 
 COLUMNS = ("seq", "moment", "tag", "event")
+OTHERS = ("unit", "offset")
 HEADER = ",".join(COLUMNS).encode()
 MARK = b"\xef\xbb\xbf"
 # no row that the office takes is as long; of a longer one so much is sent
 LONGEST_ROW = 1_000
 # what has to be the same bytes in every encoding that a mapping names, as lines and fields are told apart by them
 PLAIN = '\r\n,;\t"0'
+# a moment in ISO 8601 with its time of day to the second: of a date or a week alone the time would be invented
+ISO = re.compile(r"[0-9]{4}-?[0-9]{2}-?[0-9]{2}[T ][0-9]{2}:?[0-9]{2}:?[0-9]{2}([.,][0-9]+)?(Z|[+-][0-9]{2}(:?[0-9]{2})?)?")
+TIMES_OF_DAY = ({"%c"}, {"%X"}, {"%H", "%M"}, {"%I", "%p", "%M"})
 
 
 @dataclasses.dataclass(frozen=True)
 class Row:
-    """A row as the office takes it, and the line of the file on which it begins."""
+    """A row as the office takes it, the line of the file on which it begins, and what stands there if that is something else."""
 
     line: int
     text: bytes
+    written: bytes | None = None
+
+    @property
+    def original(self) -> bytes:
+        return self.text if self.written is None else self.written
 
 
 @dataclasses.dataclass(frozen=True)
@@ -51,14 +64,6 @@ class Piece:
 
     def body(self) -> bytes:
         return b"\n".join([HEADER, *(it.text for it in self.rows), b""])
-
-    def split(self, record: int) -> "tuple[Piece, Piece]":
-        """The rows before a record, of which the header is the first, and those from it on."""
-        return Piece(self.rows[: record - 2]), Piece(self.rows[record - 2 :])
-
-    def line(self, record: int) -> int:
-        """The line of the file on which a record of the piece begins."""
-        return self.rows[record - 2].line if 2 <= record < len(self.rows) + 2 else 1
 
 
 class BadHeader(Exception):
@@ -72,7 +77,7 @@ def pieces(rows: collections.abc.Iterable[Row]) -> collections.abc.Iterator[Piec
     size = 0
     for row in rows:
         if len(row.text) > LONGEST_ROW:
-            row = Row(row.line, row.text[:LONGEST_ROW])
+            row = Row(row.line, row.text[:LONGEST_ROW], row.original)
         if held and (len(held) == values.MAX_FILE_ROWS or size + len(row.text) + 1 > room):
             yield Piece(held)
             held, size = [], 0
@@ -96,36 +101,108 @@ class Lines:
                 self.line += 1
 
 
+OFFSET = re.compile(r"([+-])([0-9]{2}):?([0-9]{2})")
+EARLY, LATE = 0, 1  # which of the two times is meant, in the hour through which a clock goes twice
+NO_TIME = datetime.datetime.min
+TURN = datetime.timedelta(minutes=10)  # so much at least a clock goes back in that hour; rows that are less out of order say nothing
+
+
 @dataclasses.dataclass(frozen=True)
 class Moments:
-    """How a file writes moments."""
+    """How a file writes moments. With `in_order` its rows stand in the order of time."""
 
     form: str | None = None
     zone: datetime.tzinfo = datetime.timezone.utc
+    in_order: bool = False
 
-    def text(self, written: str) -> str:
+    def text(self, written: str, fold: int | None = None, offset: str | None = None) -> str:
         """A moment as the office writes it; what is none stays as it is."""
-        if self.form is None and values.MOMENT.fullmatch(written):
+        if self.form is None and offset is None and values.MOMENT.fullmatch(written):
             return written
         try:
-            found = datetime.datetime.fromisoformat(written) if self.form is None else datetime.datetime.strptime(written, self.form)
-            return values.text_of(found if found.tzinfo else self.in_zone(found))
+            found = self.read(written)
+            if offset is not None and found.tzinfo is None:
+                found = found.replace(tzinfo=offset_of(offset))
+            return values.text_of(found if found.tzinfo else self.in_zone(found, fold))
         except (ValueError, OverflowError):
             return written
 
-    def in_zone(self, local: datetime.datetime) -> datetime.datetime:
-        """ValueError for a time of the hour that a clock goes through twice, or leaps over."""
-        once, again = local.replace(tzinfo=self.zone, fold=0), local.replace(tzinfo=self.zone, fold=1)
-        if once.utcoffset() != again.utcoffset():
+    def read(self, written: str) -> datetime.datetime:
+        if self.form is not None:
+            return datetime.datetime.strptime(written, self.form)
+        if not ISO.fullmatch(written):
+            raise ValueError("no time of day")
+        return datetime.datetime.fromisoformat(written)
+
+    def in_zone(self, local: datetime.datetime, fold: int | None) -> datetime.datetime:
+        """ValueError for a time that a clock leaps over, and for one of the hour that it goes through twice if nothing says which is meant."""
+        early, late = (local.replace(tzinfo=self.zone, fold=it) for it in (EARLY, LATE))
+        if early.utcoffset() == late.utcoffset():
+            return early
+        if fold is None or not self.comes_twice(local):
             raise ValueError("not one moment")
-        return once
+        return late if fold == LATE else early
+
+    def comes_twice(self, local: datetime.datetime) -> bool:
+        early, late = (local.replace(tzinfo=self.zone, fold=it).utcoffset() for it in (EARLY, LATE))
+        return early is not None and late is not None and early > late
+
+    def local_twice(self, written: str) -> datetime.datetime | None:
+        """The local time of a moment that comes twice; None of any other."""
+        try:
+            found = self.read(written)
+        except (ValueError, OverflowError):
+            return None
+        return found if found.tzinfo is None and self.comes_twice(found) else None
+
+
+def offset_of(text: str) -> datetime.timezone:
+    """The time zone of an offset as +02:00; ValueError if it is none."""
+    found = OFFSET.fullmatch(text)
+    if found is None:
+        raise ValueError("not an offset")
+    length = datetime.timedelta(hours=int(found[2]), minutes=int(found[3]))
+    return datetime.timezone(-length if found[1] == "-" else length)
+
+
+Item = typing.TypeVar("Item")
+
+
+def folds(items: collections.abc.Iterable[tuple[Item, datetime.datetime | None]]) -> collections.abc.Iterator[tuple[Item, int | None]]:
+    """Which of the two hours each item is in, whose local time is given if it comes twice, and NO_TIME if it has none. Items wait until the clock
+    goes back among them, once: those before it are in the early hour, the others in the late one. Otherwise nothing says it."""
+    held: list[tuple[Item, datetime.datetime]] = []
+    for item, local in items:
+        if local is NO_TIME:
+            yield item, None
+            continue
+        if held and (local is None or local - held[0][1] > datetime.timedelta(days=1)):
+            yield from settled(held)
+            held = []
+        if local is None:
+            yield item, None
+        else:
+            held.append((item, local))
+    yield from settled(held)
+
+
+def settled(held: collections.abc.Sequence[tuple[Item, datetime.datetime]]) -> collections.abc.Iterator[tuple[Item, int | None]]:
+    back = [at for at in range(1, len(held)) if held[at][1] < held[at - 1][1]]
+    is_clear = len(back) == 1 and held[back[0] - 1][1] - held[back[0]][1] >= TURN
+    for at, (item, _) in enumerate(held):
+        yield item, None if not is_clear else EARLY if at < back[0] else LATE
 
 
 def read_moments(path: pathlib.Path | None, members: object) -> Moments:
-    if not isinstance(members, dict) or set(members) - {"format", "zone"} or not all(isinstance(it, str) for it in members.values()):
-        raise sheets.Wrong(f"{path}: [moments] has format and zone, and nothing else")
+    if not isinstance(members, dict) or set(members) - {"format", "zone", "twice"} or not all(isinstance(it, str) for it in members.values()):
+        raise sheets.Wrong(f"{path}: [moments] has format and zone and twice, and nothing else")
+    if members.get("twice") not in (None, "order"):
+        raise sheets.Wrong(f"{path}: the value of twice is 'order', for a file whose rows stand in the order of time")
+    form = members.get("format")
+    if form is not None and not any(it <= set(re.findall("%[A-Za-z]", form)) for it in TIMES_OF_DAY):
+        raise sheets.Wrong(f"{path}: the format {form!r} has no time of day: an event needs its hour and minute")
     try:
-        return Moments(members.get("format"), zoneinfo.ZoneInfo(members.get("zone", "UTC")))
+        return Moments(form, zoneinfo.ZoneInfo(members.get("zone", "UTC")), "twice" in members)
     except (zoneinfo.ZoneInfoNotFoundError, ValueError, OSError) as error:
         raise sheets.Wrong(f"{path}: {members.get('zone')!r} is not the name of a time zone") from error
 
@@ -143,17 +220,28 @@ class Columns:
         return lines if self.places is None else self.mapped(lines, self.places)
 
     def mapped(self, lines: collections.abc.Iterable[Row], places: dict[str, int]) -> collections.abc.Iterator[Row]:
-        encoding, unit_at = self.reader.mapping.encoding, places.get("unit")
+        found, reader = self.fields_of(lines, places), self.reader
+        if not reader.moments.in_order:
+            for row, fields in found:
+                yield reader.row(row, fields, places, None)
+            return
+        local = ((it, reader.moments.local_twice(it[1][places["moment"]]) if it[1] else NO_TIME) for it in found)
+        for (row, fields), fold in folds(local):
+            yield reader.row(row, fields, places, fold)
+
+    def fields_of(self, lines: collections.abc.Iterable[Row], places: dict[str, int]) -> collections.abc.Iterator[tuple[Row, list[str]]]:
+        """The lines that are wanted, with their fields; without any, a line that has another number of them."""
+        mapping, unit_at, event_at = self.reader.mapping, places.get("unit"), places["event"]
         for row in lines:
-            fields = [it.strip() for it in split(row.text.decode(encoding, "surrogateescape"), self.delimiter)]
+            fields = [it.strip() for it in split(row.text.decode(mapping.encoding, "surrogateescape"), self.delimiter)]
             if not any(fields):
                 continue
             if len(fields) != self.width:
-                # so the office says FieldCount
-                yield Row(row.line, b"-")
-            elif unit_at is None or self.reader.mapping.meant("unit", fields[unit_at]) == self.reader.unit:
-                texts = map(quoted, self.reader.texts(fields, places))
-                yield Row(row.line, ",".join(texts).encode("utf-8", "surrogateescape"))
+                yield row, []
+            elif unit_at is not None and mapping.meant("unit", fields[unit_at]) != self.reader.unit:
+                continue
+            elif fields[event_at] not in self.reader.skipped:
+                yield row, fields
 
 
 class Reader:
@@ -161,11 +249,12 @@ class Reader:
 
     def __init__(self, unit: str, path: pathlib.Path | None = None) -> None:
         self.unit = unit
-        self.mapping = sheets.read_mapping(path, (*COLUMNS, "unit"), ("moments",))
+        self.mapping = sheets.read_mapping(path, (*COLUMNS, *OTHERS), ("moments", "skip"))
         if PLAIN.encode(self.mapping.encoding) != PLAIN.encode():
             raise sheets.Wrong(f"{path}: events are not read in {self.mapping.encoding}: save them as UTF-8")
-        moments = read_moments(path, self.mapping.more.get("moments", {}))
-        self.moment = functools.lru_cache(maxsize=4_096)(moments.text)
+        self.moments = read_moments(path, self.mapping.more.get("moments", {}))
+        self.moment = functools.lru_cache(maxsize=4_096)(self.moments.text)
+        self.skipped = read_skipped(path, self.mapping.more.get("skip", {}))
 
     def rows(self, blocks: collections.abc.Iterable[bytes]) -> collections.abc.Iterable[Row]:
         """The rows of a whole file."""
@@ -183,20 +272,43 @@ class Reader:
         decoded = text.decode(self.mapping.encoding, "surrogateescape")
         delimiter = self.mapping.delimiter or sheets.delimiter_of(decoded)
         names = [" ".join(it.split()) for it in split(decoded, delimiter)]
-        places = {it: names.index(self.mapping.header(it)) for it in (*COLUMNS, "unit") if self.mapping.header(it) in names}
+        wanted = [it for it in (*COLUMNS, *OTHERS) if it != "offset" or it in self.mapping.columns]
+        places = {it: names.index(self.mapping.header(it)) for it in wanted if self.mapping.header(it) in names}
         twice = [it for it in places if names.count(self.mapping.header(it)) > 1]
         if twice:
             raise BadHeader(f"the column {self.mapping.header(twice[0])!r} stands twice")
-        lacking = [self.mapping.header(it) for it in (*COLUMNS, *(set(self.mapping.columns) & {"unit"})) if it not in places]
+        lacking = [self.mapping.header(it) for it in (*COLUMNS, *sorted(set(self.mapping.columns) & set(OTHERS))) if it not in places]
         if lacking:
             raise BadHeader(f"there is no column {', '.join(map(repr, lacking))}; the columns are {', '.join(names)}")
         return Columns(self, delimiter, len(names), places)
 
-    def texts(self, fields: list[str], places: dict[str, int]) -> collections.abc.Iterator[str]:
-        """What the office is sent of a line."""
+    def row(self, row: Row, fields: list[str], places: dict[str, int], fold: int | None) -> Row:
+        """What the office is sent of a line. Of one that has another number of fields the office says FieldCount."""
+        if not fields:
+            return Row(row.line, b"-", row.text)
+        texts = ",".join(map(quoted, self.texts(fields, places, fold)))
+        return Row(row.line, texts.encode("utf-8", "surrogateescape"), row.text)
+
+    def texts(self, fields: list[str], places: dict[str, int], fold: int | None) -> collections.abc.Iterator[str]:
+        offset = self.mapping.meant("offset", fields[places["offset"]]) if "offset" in places else None
         for column in COLUMNS:
-            text = self.mapping.meant(column, fields[places[column]])
-            yield self.moment(text) if column == "moment" else text
+            text = self.mapping.meant(column, bare(fields[places[column]]))
+            yield self.moment(text, fold, offset) if column == "moment" else text
+
+
+def read_skipped(path: pathlib.Path | None, members: object) -> frozenset[str]:
+    """The kinds of events that are left out, as the file writes them."""
+    if not isinstance(members, dict) or set(members) - {"event"}:
+        raise sheets.Wrong(f"{path}: [skip] has event, and nothing else")
+    found = members.get("event", [])
+    if not isinstance(found, list) or not all(isinstance(it, str) for it in found):
+        raise sheets.Wrong(f"{path}: the event of [skip] is a list of texts")
+    return frozenset(found)
+
+
+def bare(text: str) -> str:
+    """A field without the apostrophe that a table has in front of what looks like a formula."""
+    return text[1:] if text.startswith("'") and text[1:].startswith(pages.FORMULA) else text
 
 
 def split(text: str, delimiter: str) -> list[str]:

@@ -8,7 +8,7 @@ import typing
 
 import click
 
-from companions import backups, calls, changes, charts, connection, lists, options, pages, values
+from companions import audit, backups, calls, changes, charts, connection, lists, newest, options, pages, removals, values
 
 WEEK = datetime.timedelta(days=7)
 HOURS = click.IntRange(1, values.MAX_FLOOD_PERIODS * values.FLOOD_PERIOD // 3_600)
@@ -16,12 +16,12 @@ HOURS = click.IntRange(1, values.MAX_FLOOD_PERIODS * values.FLOOD_PERIOD // 3_60
 
 @dataclasses.dataclass(frozen=True)
 class Out:
-    """An alarm that is out of service. Since when, by whom and why is None where no backup says it."""
+    """An alarm that is out of service, with what is known of who took it out."""
 
     tag: str
     state: str
     priority: str | None
-    why: backups.OutOfService | None
+    removal: removals.Removal
 
 
 @dataclasses.dataclass(frozen=True)
@@ -39,6 +39,7 @@ class UnitPage:
     """What a unit hands over. `ending` is None where no backup says which grants end."""
 
     unit: str
+    newest: newest.Newest
     shelved: list[lists.Shelf]
     suppressed: list[lists.Alarm]
     out_of_service: list[Out]
@@ -90,30 +91,65 @@ def proposals_of(office: calls.Office, unit: str, books: backups.Books | None) -
     return [Proposal(it.number, name_of(it), it.proposer, it.proposed) for it in asked if it is not None and it.state is values.State.Proposed]
 
 
+@dataclasses.dataclass(frozen=True)
+class Asked:
+    """What the office says of a unit."""
+
+    unit: str
+    alarms: list[lists.Alarm]
+    shelves: list[lists.Shelf]
+    standing: list[lists.Standing]
+    floods: list[lists.Flood]
+    proposals: list[Proposal]
+
+
+def ask_unit(office: calls.Office, unit: str, shift: tuple[datetime.datetime, datetime.datetime], books: backups.Books | None) -> Asked:
+    found = office.alarms(unit), office.shelves(unit), office.standing(unit), office.floods(unit, *shift)
+    return Asked(unit, *found, proposals_of(office, unit, books))
+
+
+@dataclasses.dataclass(frozen=True)
+class Sources:
+    """What a page is made of beside the office: the audit log, read after the office was asked, and the states of feeds."""
+
+    log: audit.Log | None
+    feeds: collections.abc.Mapping[str, datetime.datetime]
+    limit: datetime.timedelta
+
+
 def unit_page(
-    office: calls.Office, unit: str, shift: tuple[datetime.datetime, datetime.datetime], at: datetime.datetime, books: backups.Books | None
+    asked: Asked, shift: tuple[datetime.datetime, datetime.datetime], at: datetime.datetime, books: backups.Books | None, sources: Sources
 ) -> UnitPage:
-    alarms = office.alarms(unit)
-    known = {it.tag: it.out for it in books.alarms(unit)} if books else {}
-    out = [Out(it.tag, it.state, it.priority, known.get(it.tag)) for it in alarms if it.out_of_service]
+    unit = asked.unit
+    found = removals.Removals(unit, at, books, sources.log)
+    out = [Out(it.tag, it.state, it.priority, found.of(it.tag)) for it in asked.alarms if it.out_of_service]
     ending = [it for it in books.grants(unit) if it.end is not None and at < it.end <= at + WEEK] if books else None
     return UnitPage(
         unit,
-        sorted(office.shelves(unit), key=lambda it: (it.until, it.tag)),
-        [it for it in alarms if it.suppressed],
+        newest.of_unit(unit, at, asked.standing, books, sources.feeds.get(unit), sources.limit),
+        sorted(asked.shelves, key=lambda it: (it.until, it.tag)),
+        [it for it in asked.alarms if it.suppressed],
         out,
-        by_urgency(office.standing(unit)),
-        office.floods(unit, *shift),
-        proposals_of(office, unit, books),
+        by_urgency(asked.standing),
+        asked.floods,
+        asked.proposals,
         None if ending is None else sorted(ending, key=lambda it: (it.end or at, it.person)),
         books.moment() if books else None,
     )
 
 
-def page_of(office: calls.Office, units: collections.abc.Sequence[str], hours: int, books: collections.abc.Mapping[str, backups.Books]) -> Page:
+def page_of(
+    office: calls.Office,
+    units: collections.abc.Sequence[str],
+    hours: int,
+    books: collections.abc.Mapping[str, backups.Books],
+    sources: collections.abc.Callable[[], Sources],
+) -> Page:
     person, at = office.caller()
     shift = shift_before(at, hours)
-    return Page(person, at, *shift, [unit_page(office, unit, shift, at, books.get(unit)) for unit in units])
+    asked = [ask_unit(office, unit, shift, books.get(unit)) for unit in units]
+    found = sources()
+    return Page(person, at, *shift, [unit_page(it, shift, at, books.get(it.unit), found) for it in asked])
 
 
 def text_of(page: Page, form: str) -> str:
@@ -127,17 +163,30 @@ def text_of(page: Page, form: str) -> str:
 @click.option("--units", type=options.Units(), default="all", help="The units with commas.  [default: all in which you hold a role]")
 @click.option("--hours", type=HOURS, default=8, show_default=True, help="How long the shift was that ends.")
 @options.backup_of_each
+@click.option("--log", "logs", type=options.FOLDER, multiple=True, help="A file of the audit log, or a folder of them.")
+@click.option("--feed", "feeds", type=options.FILE, multiple=True, help="The state that office feed --state writes; one for each unit.")
+@click.option("--event-limit", type=click.IntRange(1), default=15, show_default=True, help="Minutes without an event, above which the page warns.")
 @click.option("--format", "form", type=click.Choice(["text", "html", "json"]), default="text", show_default=True, help="HTML prints on A4.")
 @click.option("--out", type=click.Path(dir_okay=False, path_type=pathlib.Path), help="The file to write.  [default: standard output]")
 @options.connected
 def command(
-    units: tuple[str, ...], hours: int, paths: tuple[pathlib.Path, ...], form: str, out: pathlib.Path | None, **words: typing.Any
+    units: tuple[str, ...],
+    hours: int,
+    paths: tuple[pathlib.Path, ...],
+    logs: tuple[pathlib.Path, ...],
+    feeds: tuple[pathlib.Path, ...],
+    event_limit: int,
+    form: str,
+    out: pathlib.Path | None,
+    **words: typing.Any,
 ) -> int:
     """Writes one page for the shift that takes over.
 
     It has what is shelved (until when, by whom, why), suppressed by design and out of service, what stands by priority and age, the floods of the
-    shift that ends, the proposals that wait, and the grants that end within a week. Who took an alarm out of service, when and why, and when grants
-    end no call says: these are taken from the newest backup, and the page says of which moment it is. All moments are UTC. The caller holds any role
+    shift that ends, the proposals that wait, and the grants that end within a week. When grants end no call says: that is taken from the newest
+    backup, and the page says of which moment it is. Who took an alarm out of service is taken from the audit log of the proxy, if it is given and has
+    all lines until now, otherwise "not known" stands beside what the backup or the log had last. The newest event is that of the feed's state, or the
+    newest that backup and lists have. All moments are UTC. The caller holds any role
     in each unit. The command changes nothing.
 
     Status: 0 written, 1 refused, 2 the command line is wrong, 3 the office cannot be reached.
@@ -146,7 +195,11 @@ def command(
         meant = units or tuple(sorted(office.units()))
         if not meant:
             raise connection.Trouble("you hold a role in no unit")
-        page = page_of(office, meant, hours, books)
+
+        def sources() -> Sources:
+            return Sources(audit.read_log(logs) if logs else None, newest.read_states(feeds), datetime.timedelta(minutes=event_limit))
+
+        page = page_of(office, meant, hours, books, sources)
     try:
         pages.write(text_of(page, form), out)
     except OSError as error:

@@ -8,9 +8,12 @@ import types
 import click
 
 import companions
-from companions import approve, connection, feed, filling, handover, joining, leaving, load, opening, reporting, sheets, successor
+from companions import approve, at_hand, connection, feed, filling, handover, holders, joining, leaving, load, opening, reporting, sheets, successor
 
-MODULES = (opening, joining, leaving, load, approve, feed, handover, reporting, filling, successor)
+MODULES = (opening, joining, leaving, load, approve, feed, handover, reporting, filling, successor, holders)
+COMMANDS = (
+    *(it.command for it in MODULES), at_hand.show, at_hand.shelves, at_hand.shelve, at_hand.unshelve, at_hand.out, at_hand.back,
+)
 
 
 @click.group(context_settings={"help_option_names": ["-h", "--help"], "max_content_width": 140})
@@ -29,10 +32,10 @@ def office() -> None:
 SIGN_ON = """Sign-on: OFFICE_USER and OFFICE_PASSWORD, or OFFICE_TOKEN, in the environment; or an entry of ~/.netrc (or the file that NETRC names)
 with the proxy's host. For trials --as and --at in place of it."""
 
-for it in MODULES:
-    if any(option.name == "caller" for option in it.command.params):
-        it.command.epilog = SIGN_ON
-    office.add_command(it.command)
+for it in COMMANDS:
+    if any(option.name == "caller" for option in it.params):
+        it.epilog = SIGN_ON
+    office.add_command(it)
 
 
 def stop(number: int, frame: types.FrameType | None) -> None:

@@ -1,11 +1,15 @@
 """Pages for people: templates, and the forms in which they write values."""
 
 import collections.abc
+import csv
 import dataclasses
 import datetime
 import enum
+import io
 import json
 import pathlib
+import shutil
+import stat
 import typing
 
 import click
@@ -60,11 +64,45 @@ def json_text(value: object) -> str:
     return json.dumps(plain(value), indent=2, ensure_ascii=False) + "\n"
 
 
+FORMULA = ("=", "+", "-", "@", "\t", "\r", "\n")  # how a text begins that a spreadsheet may take for a formula
+
+
+def harmless(cell: typing.Any) -> typing.Any:
+    """A cell as a CSV file has it. A text that a spreadsheet may run as a formula gets an apostrophe in front, as OWASP advises."""
+    value = plain(cell)
+    return f"'{value}" if isinstance(value, str) and value.startswith(FORMULA) else value
+
+
+def csv_text(header: collections.abc.Sequence[str], rows: collections.abc.Iterable[collections.abc.Sequence[object]]) -> str:
+    written = io.StringIO(newline="")
+    writer = csv.writer(written)
+    writer.writerow(map(harmless, header))
+    writer.writerows(map(harmless, row) for row in rows)
+    return written.getvalue()
+
+
+def is_replaceable(out: pathlib.Path) -> bool:
+    """Whether a file may be replaced by one that is renamed to it: a regular file, or none. Devices, pipes and what a process has open are not."""
+    if out.absolute().parts[1] in ("dev", "proc"):
+        return False
+    try:
+        return stat.S_ISREG(out.stat().st_mode)
+    except FileNotFoundError:
+        return True
+
+
 def write(text: str, out: pathlib.Path | None) -> None:
-    """To a file, which is there as a whole or not at all; or to standard output."""
+    """Writes a file, which is there as a whole or not at all; or to standard output. A link is followed. Into a device or a pipe the text is
+    written as it stands."""
     if out is None:
         click.echo(text, nl=False)
-        return
-    beside = out.with_name(f".{out.name}.new")
-    beside.write_text(text, encoding="utf-8")
-    beside.replace(out)
+    elif is_replaceable(out):
+        file = out.resolve()
+        beside = file.with_name(f".{file.name}.new")
+        beside.write_text(text, encoding="utf-8")
+        if file.exists():
+            shutil.copymode(file, beside)
+        beside.replace(file)
+    else:
+        with out.open("w", encoding="utf-8") as opened_file:
+            opened_file.write(text)

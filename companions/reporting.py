@@ -3,17 +3,15 @@
 import calendar
 import collections
 import collections.abc
-import csv
 import dataclasses
 import datetime
-import io
 import pathlib
 import re
 
 import click
 import markupsafe
 
-from companions import audit, backups, changes, charts, connection, floods, lists, options, pages, shelvings
+from companions import audit, backups, changes, charts, connection, floods, lists, newest, options, pages, shelvings
 
 LOG = pathlib.Path("/var/log/shelfoffice")
 MOST = 10
@@ -234,8 +232,12 @@ def notes(log: audit.Log, month: Month, books: ByUnit, units: collections.abc.It
     for unit in units:
         if unit not in books:
             found.append(f"{unit} is in no backup that was named: its changes and floods are not known, nor how its one-shot shelves ended.")
-        elif books[unit].moment() < month.until:
-            found.append(f"The backup of {unit} is of {pages.minute(books[unit].moment())}: what came later in the month is not in it.")
+            continue
+        moment = books[unit].moment()
+        age = newest.of_moments({"in the backup": books[unit].newest_event(unit)}, moment, newest.LIMIT)
+        found.append(f"{unit}, by the backup of {pages.minute(moment)}: {age.words()}.")
+        if moment < month.until:
+            found.append(f"The backup of {unit} is of {pages.minute(moment)}: what came later in the month is not in it.")
     if log.damaged:
         found.append(f"Lines of the log that are damaged, and left out: {log.damaged:,}.")
     doubtful = [it for it in log.calls if it.is_open and month.has(it.moment)]
@@ -264,14 +266,6 @@ def report_of(log: audit.Log, month: Month, name: str, books: ByUnit, meant: tup
     )
 
 
-def csv_text(header: collections.abc.Sequence[str], rows: collections.abc.Iterable[collections.abc.Sequence[object]]) -> str:
-    written = io.StringIO(newline="")
-    writer = csv.writer(written)
-    writer.writerow(header)
-    writer.writerows([pages.plain(cell) for cell in row] for row in rows)
-    return written.getvalue()
-
-
 def tables(report: Report) -> dict[str, str]:
     """The CSV files beside the page."""
     kinds = ("unit", "tag", "kind", "start", "end", "seconds", "how it ended", "person", "words")
@@ -282,11 +276,11 @@ def tables(report: Report) -> dict[str, str]:
     )
     flooded = ((of.unit, it.start, it.until, it.total, it.peak) for of in report.floods for it in of.floods)
     return {
-        "shelvings": csv_text(kinds, shelved),
-        "changes": csv_text(heads, decided),
-        "refusals": csv_text(("names", "call", "person", "unit", "count"), map(dataclasses.astuple, report.refused)),
-        "grants": csv_text(("unit", "moment", "what", "person", "role", "end", "by"), map(dataclasses.astuple, report.granted)),
-        "floods": csv_text(("unit", "start", "until", "activations", "most in ten minutes"), flooded),
+        "shelvings": pages.csv_text(kinds, shelved),
+        "changes": pages.csv_text(heads, decided),
+        "refusals": pages.csv_text(("names", "call", "person", "unit", "count"), map(dataclasses.astuple, report.refused)),
+        "grants": pages.csv_text(("unit", "moment", "what", "person", "role", "end", "by"), map(dataclasses.astuple, report.granted)),
+        "floods": pages.csv_text(("unit", "start", "until", "activations", "most in ten minutes"), flooded),
     }
 
 

@@ -4,8 +4,8 @@ Everything is read from a backup; what is shelved and out of service now is aske
 the same line is typed by the administrator, a steward and an engineer, one after the other.
 
 What was done before is recognised in the new unit, and not done again, also after people have worked there. A unit and its alarms stay for ever, and
-so does a proposal, whatever was decided of it. What leaves nothing once it has ended has a note (carrying.py). Roles are granted as long as nobody
-holds any of them there.
+so does a proposal, whatever was decided of it. What leaves nothing once it has ended has a note (carrying.py). While roles are granted a name that
+nobody signs on with is a Viewer there, and says that they are not all granted.
 """
 
 import collections.abc
@@ -24,6 +24,7 @@ Role = values.Role
 # the limit of an alarm whose limit an approver put into force, until one does so here
 FIRST_LIMIT = 60
 MOST_NAMES = 3
+GRANTING = "successor."  # how the name begins that is a Viewer while roles are granted
 
 
 @dataclasses.dataclass(frozen=True)
@@ -118,13 +119,25 @@ class Succession:
         words = f"open {self.to} with the matrix in force, the quota {self.old.quota}, and {steward} as its steward"
         self.count.make(words, functools.partial(self.office.open_unit, self.to, steward, self.old.matrix, self.old.quota))
 
+    @property
+    def granting(self) -> str:
+        """A name that nobody signs on with. It is a Viewer of the new unit from before the first grant until after the last, so that a command
+        that was stopped in between finishes its grants."""
+        return GRANTING + self.old.unit.lower()
+
     def grant(self) -> None:
-        """Grants what is held, as long as nobody but stewards holds any of it in the new unit, and that has no alarm: what is lacking later may have
-        been taken."""
-        held = [it for it in self.old.grants if it.holds_at(self.at) and it.person != leaving.NOBODY]
+        """Grants what is held, unless it was done before: what is lacking later may have been taken. It was not done while `granting` is a Viewer,
+        nor while nobody but stewards holds any of it in the new unit, and that has no alarm."""
+        held = [it for it in self.old.grants if it.holds_at(self.at) and it.person != leaving.NOBODY and not it.person.startswith(GRANTING)]
         others = [it for it in held if it.role is not Role.Steward]
         lacking = [it for it in others if not self.office.holds(self.to, it.person, it.role)]
-        is_first = len(lacking) == len(others) and not self.office.alarms(self.to)
+        was_stopped = self.office.holds(self.to, self.granting, Role.Viewer) and len(held) < values.MAX_GRANTS
+        is_first = was_stopped or (len(lacking) == len(others) and not self.office.alarms(self.to))
+        marks = is_first and len(held) < values.MAX_GRANTS and not self.count.is_dry
+        if was_stopped:
+            click.echo(f"the command was stopped while it granted roles in {self.to}: it goes on")
+        elif marks:
+            self.office.grant(self.to, self.granting, Role.Viewer)
         for it in tally.over(held, "grants"):
             if not is_first and it.person not in self.again:
                 self.count.there += it not in lacking
@@ -135,6 +148,8 @@ class Succession:
             else:
                 words = f"{it.person} is {it.role.name} in {self.to}" + (f" until {values.text_of(it.end)}" if it.end else "")
                 self.count.make(words, functools.partial(self.office.grant, self.to, it.person, it.role, it.end))
+        if marks:
+            self.office.take_role(self.to, self.granting, Role.Viewer)
 
     def has_left(self, grant: backups.Grant) -> bool:
         """Whether the role was taken in the full unit since the backup, as far as the caller can see it."""
@@ -263,8 +278,8 @@ def command(backup: pathlib.Path, unit: str, to: str, steward: str | None, again
 
     All is read from the backup; of what is shelved and out of service the full unit is asked, too. The list at the end says what a person still has
     to decide. May be stopped at any moment and typed again, also while people work in the new unit: what they have ended there is not shelved and not
-    taken out of service again; what was rejected or taken back is not proposed again; and no roles are granted once some are held there, or it has an
-    alarm. Where only a person knows what was done, since the command was stopped at it, the list says so, and --again does it.
+    taken out of service again; what was rejected or taken back is not proposed again; and no roles are granted once all were. Where only a person
+    knows what was done, since the command was stopped at it, the list says so, and --again does it.
 
     Status: 0 done, 1 refused, 2 the command line is wrong, 3 the office cannot be reached.
     """

@@ -50,6 +50,7 @@ class Tally:
         self.is_dry, self.hopeless = is_dry, hopeless
         self.done = self.there = 0
         self.refused: list[str] = []
+        self.unlisted = 0  # what was refused besides, and is listed elsewhere
         self.shown = 0
 
     def __enter__(self) -> "Tally":
@@ -62,7 +63,7 @@ class Tally:
             click.echo("stopped before the end: what is done stands; type the same line again, and it goes on")
         if kind is None or is_stopped:
             words = "would be done" if self.is_dry else "done"
-            click.echo(f"{words} {self.done:,}, there already {self.there:,}, refused {len(self.refused):,}")
+            click.echo(f"{words} {self.done:,}, there already {self.there:,}, refused {len(self.refused) + self.unlisted:,}")
 
     def show_refused(self) -> None:
         """Prints each refusal once."""
@@ -94,4 +95,4 @@ class Tally:
         return True
 
     def status(self) -> int:
-        return 1 if self.refused else 0
+        return 1 if self.refused or self.unlisted else 0

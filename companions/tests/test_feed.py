@@ -16,7 +16,7 @@ import hypothesis
 import pytest
 from hypothesis import strategies
 
-from companions import calls, connection, events, feed, sheets, tally
+from companions import calls, connection, events, feed, newest, sheets, tally, values
 from companions.tests import plant as plants
 from companions.tests.plant import Plant, office as typed
 
@@ -67,6 +67,20 @@ def test_a_mapping_names_columns_words_and_moments(tmp_path: pathlib.Path) -> No
     ]
 
 
+WITHOUT_A_TIME = ("2026-11-28", "20261128", "2026-W48-6", "2026W486", "2026-11-28T10", "2026-11-28T10:00", "2026-11-28 10", "10:00:00")
+TEN_O_CLOCK = ("2026-11-28T10:00:01Z", "2026-11-28 10:00:01", "2026-11-28T11:00:01+01:00", "20261128T100001Z", "2026-11-28 10:00:01,25")
+
+
+@pytest.mark.parametrize("text", WITHOUT_A_TIME)
+def test_the_time_of_a_day_is_never_invented(text: str) -> None:
+    assert rows_of(f"{HEADER}1,{text},A,ACT\n".replace("tag", " tag")) == [(2, f"1,{text},A,ACT".encode())]
+
+
+@pytest.mark.parametrize("text", TEN_O_CLOCK)
+def test_moments_of_iso_8601_are_mapped(text: str) -> None:
+    assert rows_of(f'{HEADER}1,"{text}",A,ACT\n'.replace("tag", " tag")) == [(2, b"1,2026-11-28T10:00:01Z,A,ACT")]
+
+
 def test_a_wide_file_is_read_to_the_end_of_its_lines() -> None:
     names = ",".join(f"column {number}" for number in range(200))
     text = f"seq,{names},moment,tag,event\n1,{'x' * 5_000}{',' * 200}2026-03-01T08:00:01Z,A,ACT\n"
@@ -96,6 +110,8 @@ def test_which_unit_a_line_is_of_is_never_guessed(tmp_path: pathlib.Path) -> Non
     ("encoding = 'utf-16'", "events are not read in utf-16: save them as UTF-8"),
     ("encoding = 'cp037'", "events are not read in cp037: save them as UTF-8"),
     ("[moments]\nform = 'x'", "[moments] has format and zone"),
+    ("[moments]\nformat = '%d.%m.%Y'", "the format '%d.%m.%Y' has no time of day"),
+    ("[moments]\nformat = '%d.%m.%Y %H'", "has no time of day"),
     ("[moments]\nzone = 'Europe/Atlantis'", "'Europe/Atlantis' is not the name of a time zone"),
     ("[columns]\nnumber = 'x'", "number is not known here"),
 ])
@@ -184,23 +200,92 @@ BAD: dict[str, tuple[str | bytes, str]] = {
 
 
 @pytest.mark.parametrize("cause", BAD)
-def test_a_bad_file_is_set_aside_with_the_offices_line_and_cause(plant: Plant, cause: str) -> None:
+def test_a_bad_row_is_kept_aside_with_the_offices_line_and_cause(plant: Plant, cause: str) -> None:
     text, words = BAD[cause]
     folder = spool(plant, a=text, b=HEADER + line(9))
     said = typed("feed", folder, "--unit", "U1", *plant.words("ann"))
     assert said.returncode == 1 and f"refused: a.csv: {words}" in said.stdout, said.stdout
-    assert names(folder) == ["bad/a.csv", "bad/a.csv.txt", "done/b.csv"]
+    is_whole = "Header" in words
+    assert names(folder) == ["bad/a.csv", "bad/a.csv.txt", *([] if is_whole else ["done/a.csv"]), "done/b.csv"]
     assert (folder / "bad/a.csv.txt").read_text().startswith(words)
-    assert (folder / "bad/a.csv").read_bytes() == (text.encode() if isinstance(text, str) else text)
-    before = [(1,)] if cause == "MomentAhead" else []
+    raw = text.encode() if isinstance(text, str) else text
+    lines = [it for it in raw.splitlines() if it]
+    assert (folder / "bad/a.csv").read_bytes() == (raw if is_whole else lines[0] + b"\n" + lines[-1] + b"\n")
+    before = [(1,)] if len(lines) == 3 and not is_whole else []
     assert plant.rows("SELECT seq FROM events ORDER BY seq") == [*before, (9,)]
+
+
+def test_the_rows_before_and_after_bad_ones_go_in_and_mended_ones_follow(plant: Plant) -> None:
+    rows = [line(it, second=it // 20) for it in range(1, 301)]
+    bad = {7: ",tag?,", 8: ",Z,", 9: ",a,", 150: ",Z,", 299: ",Z,", 300: ",Z,"}
+    text = "".join(it.replace(",A,", bad.get(number, ",A,")) for number, it in enumerate(rows, 1))
+    folder = spool(plant, a=HEADER + text)
+    said = typed("feed", folder, "--unit", "U1", *plant.words("ann"))
+    assert said.returncode == 1 and "a.csv: 294 new, 0 repeated" in said.stdout and "done 294, there already 0, refused 6" in said.stdout, said.stdout
+    causes = [it.split(": ")[:2] for it in (folder / "bad/a.csv.txt").read_text().splitlines()]
+    assert sorted(causes) == sorted([f"line {it + 1}", "BadTag" if it in (7, 9) else "TagUnknown"] for it in bad)
+    # typed again with the same rows nothing is added to the bad ones; the rows that are mended go in
+    spool(plant, a=HEADER + text)
+    said = typed("feed", folder, "--unit", "U1", *plant.words("ann"))
+    assert "done 0, there already 294, refused 6" in said.stdout and len((folder / "bad/a.csv").read_bytes().splitlines()) == 7
+    mended = (folder / "bad/a.csv").read_text()
+    spool(plant, mended=mended.replace(",Z,", ",A,").replace(",a,", ",A,").replace(",tag?,", ",A,"))
+    assert typed("feed", folder, "--unit", "U1", *plant.words("ann")).returncode == 0
+    assert plant.rows("SELECT count(*), min(seq), max(seq) FROM events") == [(300, 1, 300)]
+
+
+def test_the_newest_event_is_kept_for_others(plant: Plant) -> None:
+    state = plant.folder / "U1.json"
+    folder = spool(plant, a=HEADER + line(1) + line(9) + line(5, tag="Z"))
+    assert typed("feed", folder, "--unit", "U1", "--state", state, *plant.words("ann")).returncode == 1
+    assert newest.read_state(state) == ("U1", values.moment_of("2026-03-01T08:00:09Z"))
+    # a later file with earlier events puts nothing back
+    spool(plant, b=HEADER + line(2))
+    assert typed("feed", folder, "--unit", "U1", "--state", state, *plant.words("ann")).returncode == 0
+    assert newest.read_state(state)[1] == values.moment_of("2026-03-01T08:00:09Z")
+
+
+def test_kinds_that_are_not_wanted_are_left_out(plant: Plant, tmp_path: pathlib.Path) -> None:
+    path = tmp_path / "map.toml"
+    path.write_text('[skip]\nevent = ["INFO", "SYS"]\n')
+    folder = spool(plant, a=HEADER + line(1) + line(2, tag="?", event="INFO") + line(3, event="SYS") + line(4))
+    said = typed("feed", folder, "--unit", "U1", "--map", path, *plant.words("ann"))
+    assert said.returncode == 0 and "done 2, there already 0, refused 0" in said.stdout
+
+
+BERLIN = '[moments]\nformat = "%d.%m.%Y %H:%M:%S"\nzone = "Europe/Berlin"\n'
+
+
+def test_the_hour_that_comes_twice_is_told_by_an_offset(tmp_path: pathlib.Path) -> None:
+    path = tmp_path / "map.toml"
+    path.write_text('[columns]\noffset = "DST"\n' + BERLIN + '[values.offset]\n"S" = "+02:00"\n"W" = "+01:00"\n')
+    rows = "".join(f"{number},25.10.2026 02:30:00,A,ACT,{it}\n" for number, it in enumerate(("S", "W", "+01:00", "?"), 1))
+    assert [it.decode().split(",")[1] for _, it in rows_of("seq,moment,tag,event,DST\n" + rows, events.Reader("U1", path))] == [
+        "2026-10-25T00:30:00Z", "2026-10-25T01:30:00Z", "2026-10-25T01:30:00Z", "25.10.2026 02:30:00"]
+
+
+@pytest.mark.parametrize("times, wanted", [
+    # the clock goes back among the rows, once
+    ("01:59:58 02:10:00 02:59:59 02:00:01 02:50:00 03:00:00", "23:59:58 00:10:00 00:59:59 01:00:01 01:50:00 02:00:00"),
+    # nothing says it: these are for the office to refuse
+    ("01:59:58 02:10:00 02:40:00 03:00:00", "23:59:58 - - 02:00:00"),
+    # rows that are out of order by seconds say nothing, nor does a clock that goes back twice
+    ("02:10:00 02:09:59 03:00:00", "- - 02:00:00"),
+    ("02:50:00 02:10:00 02:50:00 02:10:00", "- - - -"),
+])
+def test_the_hour_that_comes_twice_is_told_by_the_order(tmp_path: pathlib.Path, times: str, wanted: str) -> None:
+    path = tmp_path / "map.toml"
+    path.write_text(BERLIN + 'twice = "order"\n')
+    rows = "".join(f"{number},25.10.2026 {it},A,ACT\n" for number, it in enumerate(times.split(), 1))
+    found = [it.decode().split(",")[1] for _, it in rows_of(HEADER + rows, events.Reader("U1", path))]
+    assert [it[11:19] if it.endswith("Z") else "-" for it in found] == wanted.split()
 
 
 def test_large_files_are_cut_and_lines_counted_over_the_pieces(plant: Plant) -> None:
     good = [line(it, tag=TAGS[it % 3], second=it // 10) for it in range(1, 20_002)]
     folder = spool(plant, a=HEADER + "".join(good), b=HEADER + "\n".join(good[:10_001]) + "x,y\n")
     said = typed("feed", folder, "--unit", "U1", *plant.words("ann"))
-    assert "a.csv: 20,001 new, 0 repeated" in said.stdout
+    assert "a.csv: 20,001 new, 0 repeated" in said.stdout and "b.csv: 0 new, 10,001 repeated" in said.stdout
     assert "refused: b.csv: line 20003: FieldCount" in said.stdout
     assert plant.rows("SELECT count(*) FROM events") == [(20_001,)]
 
@@ -303,9 +388,21 @@ def test_a_spool_is_followed(plant: Plant) -> None:
         (folder / ".b.csv").write_text(HEADER + line(2))
         spool(plant, c="x\n")
         plants.wait_for("the bad file", lambda: "bad/c.csv" in names(folder))
+        # one that always grows stops no other, though its name comes first
+        with (folder / "a-grows.csv").open("w") as growing:
+            growing.write(HEADER)
+            spool(plant, d=HEADER + line(3))
+
+            def is_done() -> bool:
+                growing.write(line(4))
+                growing.flush()
+                return "done/d.csv" in names(folder)
+
+            plants.wait_for("a file after one that grows", is_done)
+            (folder / "a-grows.csv").unlink()
         (folder / ".b.csv").rename(folder / "b.csv")
         plants.wait_for("the second file", lambda: "done/b.csv" in names(folder))
-        assert count(plant) == 2
+        assert count(plant) == 3
 
 
 def test_a_growing_file_is_followed_and_its_successor(plant: Plant) -> None:
@@ -322,11 +419,32 @@ def test_a_growing_file_is_followed_and_its_successor(plant: Plant) -> None:
             path.rename(plant.folder / "events.1")
             path.write_text(HEADER + line(4))
         plants.wait_for("four rows", lambda: count(plant) == 4)
+        # a bad row does not end it
         with path.open("a") as growing:
-            growing.write("x\n")
-        assert process.wait(20) == 1
+            growing.write("x\n" + line(5))
+        plants.wait_for("five rows", lambda: count(plant) == 5)
+        assert process.poll() is None
+        process.terminate()
+        assert process.wait(20) == 130
         assert process.stdout is not None and "refused: events.csv: line 3: FieldCount" in process.stdout.read()
-    assert path.read_text().endswith("x\n")
+    assert (plant.folder / "bad/events.csv").read_text() == HEADER + "x\n"
+
+
+@pytest.mark.parametrize("more", [0, 10])
+def test_a_growing_file_that_is_written_anew_in_its_place_is_read_from_its_begin(plant: Plant, more: int) -> None:
+    """As by copytruncate, or an export of the last events: the same file, of the same size or longer."""
+    path = plant.folder / "events.csv"
+    path.write_text(HEADER + "".join(line(it) for it in range(11, 31)))
+    with following(path, "--unit", "U1", "--follow", "--every", "0.05", *plant.words("ann")) as process:
+        plants.wait_for("the first rows", lambda: count(plant) == 20)
+        node = path.stat().st_ino
+        with path.open("r+") as again:
+            again.write(HEADER + "".join(line(it) for it in range(31, 51 + more)))
+        assert path.stat().st_ino == node
+        plants.wait_for("the other rows", lambda: count(plant) == 40 + more)
+        assert process.poll() is None
+        process.terminate()
+        assert process.stdout is not None and "events.csv was written anew in its place: it is read from its begin" in process.stdout.read()
 
 
 def test_a_growing_file_is_followed_through_kills(plant: Plant) -> None:

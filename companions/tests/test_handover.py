@@ -49,14 +49,15 @@ HANDOVER OF U1, U2 AT 2026-03-01 10:00 UTC, written for vic
 The shift from 2026-03-01 02:00 to 2026-03-01 10:00
 
 ==== U1 ====
+last event 2026-03-01 06:40, 3 h 20 min ago (by the backup of 2026-03-01 08:25), TOO OLD: does the feed run?
 
 Shelved: 1
   A                        timed    until 2026-03-01 10:30 by ann: pump <test>
 Suppressed by design: 1
   C
 Out of service: 2
-  C                        -  since 2026-03-01 08:10 by moe: valve & cable
-  D                        -  not in the backup
+  C                        -  not known (backup of 2026-03-01 08:25: since 2026-03-01 08:10 by moe: valve & cable)
+  D                        -  not known (backup of 2026-03-01 08:25)
 Standing: 2
   P1 B                        Unacknowledged since 2026-03-01 06:30, 3 h 30 min
   -  A                        Unacknowledged since 2026-03-01 06:00, 4 h, shelved
@@ -68,7 +69,7 @@ Proposals that wait: 2
       3 limit of B: 60 s, by eve since 2026-03-01 09:40
 Grants that end within a week: 1
   con                              Viewer     ends 2026-03-05 12:00
-Who took an alarm out of service and when grants end: by the backup of 2026-03-01 08:25
+When grants end: by the backup of 2026-03-01 08:25
 
 """
     assert "Shelved: 0" in second and "Standing: 0" in second and "Proposals that wait: 0" in second
@@ -76,7 +77,7 @@ Who took an alarm out of service and when grants end: by the backup of 2026-03-0
 
 def test_without_a_backup_the_page_says_what_is_not_known(plant: Plant) -> None:
     said = handover(plant, "--units", "U1")
-    assert "not in the backup" in said and "Grants that end within a week: not known without a backup" in said
+    assert "not known (no backup and no line of an audit log has it)" in said and "Grants that end within a week: not known without a backup" in said
     assert "      2 limit of A: 60 s, by eve since 2026-03-01 08:00" in said
 
 
@@ -104,13 +105,69 @@ class Tags(html.parser.HTMLParser):
         self.texts.append(data)
 
 
+def log_line(moment: str, person: str, request: str, body: str = "", status: int = 200) -> str:
+    members = {"moment": moment, "id": "0" * 32, "address": "127.0.0.1", "name": person, "person": person, "request": request}
+    return json.dumps(members | {"body": body, "status": status, "office": str(status), "seconds": "0.001"}) + "\n"
+
+
+def out_of_service(plant: Plant, *words: object) -> str:
+    """What the page says of C."""
+    said = handover(plant, "--units", "U1", *words)
+    return next(it for it in said.splitlines() if it.startswith("  C  ")).split(None, 2)[2]
+
+
+def test_why_an_alarm_is_out_of_service_is_never_that_of_a_removal_before(plant: Plant) -> None:
+    """moe took C out before the backup; mia places it in service and takes it out anew, for another reason."""
+    backup, log = plant.copy("20260301T082500Z"), plant.folder / "audit.log"
+    path = "/units/U1/alarms/C/"
+    first = log_line("2026-03-01T08:10:00Z", "moe", f"POST {path}remove-from-service", '{"words":"valve & cable"}')
+    read = log_line(AT, "vic", "GET /units/U1/alarms")
+    known = "since 2026-03-01 08:10 by moe: valve & cable"
+    log.write_text(first + read)
+    assert out_of_service(plant, "--backup", backup, "--log", log) == f"{known} (audit log to 2026-03-01 10:00)"
+    # a log that begins after the removal, and before the backup
+    log.write_text(log_line("2026-03-01T08:20:00Z", "ann", "POST /units/U1/imports") + read)
+    assert out_of_service(plant, "--backup", backup, "--log", log) == f"{known} (backup of 2026-03-01 08:25)"
+    # something newer may exist: after the log, before it, or in a call without an answer
+    log.write_text(first)
+    assert out_of_service(plant, "--backup", backup, "--log", log) == f"not known (audit log to 2026-03-01 08:10: {known})"
+    log.write_text(log_line("2026-03-01T08:30:00Z", "ann", "POST /units/U1/imports") + read)
+    assert out_of_service(plant, "--backup", backup, "--log", log) == f"not known (backup of 2026-03-01 08:25: {known})"
+    log.write_text(first + log_line("2026-03-01T09:00:00Z", "mia", f"POST {path}place-in-service", "", 504) + read)
+    assert out_of_service(plant, "--backup", backup, "--log", log) == "not known (audit log to 2026-03-01 10:00)"
+
+    plant.call("ste", "2026-03-01T09:00:00Z", "/units/U1/grants", {"person": "mia", "role": "Maintainer"})
+    plant.call("mia", "2026-03-01T09:10:00Z", f"{path}place-in-service", {})
+    plant.call("mia", "2026-03-01T09:20:00Z", f"{path}remove-from-service", {"words": "gas test"})
+    assert out_of_service(plant, "--backup", backup) == f"not known (backup of 2026-03-01 08:25: {known})"
+    placed = log_line("2026-03-01T09:10:00Z", "mia", f"POST {path}place-in-service")
+    again = log_line("2026-03-01T09:20:00Z", "mia", f"POST {path}remove-from-service", '{"words":"gas test"}')
+    log.write_text(first + placed + again + read)
+    assert out_of_service(plant, "--backup", backup, "--log", log) == "since 2026-03-01 09:20 by mia: gas test (audit log to 2026-03-01 10:00)"
+
+
+def test_the_age_of_the_newest_event_is_on_the_page(plant: Plant) -> None:
+    state = plant.folder / "U1.json"
+    state.write_text('{"unit": "U1", "event": "2026-03-01T09:52:00Z"}')
+    said = handover(plant, "--units", "U1", "--feed", state)
+    assert "last event 2026-03-01 09:52, 8 min ago (by the feed)\n" in said
+    said = handover(plant, "--units", "U1", "--feed", state, "--event-limit", "5")
+    assert "last event 2026-03-01 09:52, 8 min ago (by the feed), TOO OLD: does the feed run?\n" in said
+    assert "last event: none is known" in handover(plant, "--units", "U2")
+    assert 'class="warning">last event 2026-03-01 06:30' in handover(plant, "--units", "U1", "--format", "html")
+    state.write_text("{}")
+    said = typed("handover", "--feed", state, *plant.words("vic", AT)).stdout
+    assert "is not the state of a feed" in said
+
+
 def test_the_page_as_html(plant: Plant) -> None:
     out = plant.folder / "page.html"
     assert handover(plant, "--backup", plant.copy("backup"), "--format", "html", "--out", out) == ""
     page = Tags(out.read_text())
     assert page.open_tags == []
     texts = {it.strip() for it in page.texts}
-    assert {"pump <test>", "valve & cable", "Handover of U1, U2", "con", "12"} <= texts
+    assert {"pump <test>", "Handover of U1, U2", "con", "12"} <= texts
+    assert any(it.startswith("not known (backup of ") and it.endswith("by moe: valve & cable)") for it in texts)
     text = out.read_text()
     assert "size: A4" in text and text.count("<svg") == 1 and text.count('class="bar"') == 1
     assert "http" not in text.replace("http://www.w3.org/2000/svg", "")

@@ -9,7 +9,7 @@ import typing
 
 import pytest
 
-from companions import audit, floods, shelvings, values
+from companions import audit, floods, reporting, shelvings, values
 from companions.backups import opened
 from companions.calls import Office
 from companions.connection import Target
@@ -219,6 +219,15 @@ def test_the_page_says_what_it_cannot(plant: Plant) -> None:
     assert any("U1 is in no backup that was named" in it for it in without.texts)
     shelved = table(plant.folder / "out", "shelvings")
     assert shelved[2][4:7] == ["", "", "not known: the unit is in no backup"]
+
+
+def test_words_that_are_a_formula_are_a_text_in_the_tables() -> None:
+    begin, end = values.EPOCH, values.END_OF_TIME
+    shelving = shelvings.Shelving("U1", "-A", "timed", begin, end, "ended by ann", "ann", "=HYPERLINK(1)")
+    refused = reporting.Refused("AlarmUnknown", "timed-shelve", "-ann", "U1", 2)
+    tables = reporting.tables(reporting.Report("2026-03", ["U1"], [shelving], [], [], [], [refused], [], [], []))
+    assert tables["shelvings"].splitlines()[1].startswith("U1,'-A,timed,2000-01-01") and tables["shelvings"].endswith(",ann,'=HYPERLINK(1)\r\n")
+    assert tables["refusals"].splitlines()[1] == "AlarmUnknown,timed-shelve,'-ann,U1,2"
 
 
 def test_most_and_longest(plant: Plant) -> None:

@@ -216,6 +216,31 @@ def test_killed_at_any_step_it_ends_in_the_books_of_one_clean_run(plant: Plant) 
         assert of_unit(plant, unit) == of_unit(plant, "CLEAN")
 
 
+def test_grants_that_were_stopped_are_finished_when_the_line_is_typed_again(plant: Plant) -> None:
+    plant.copy("backup")
+    for person in TYPISTS[:2]:
+        assert run_until(plant, person, "CLEAN", None)
+    wanted, numbers = of_unit(plant, "CLEAN")["grants"], set[int]()
+    for steps in range(4, 48, 3):
+        unit = f"G{steps}"
+        assert run_until(plant, "root", unit, None) and not run_until(plant, "ste", unit, steps)
+        numbers.add(len(of_unit(plant, unit)["grants"]))
+        assert run_until(plant, "ste", unit, None)
+        assert of_unit(plant, unit)["grants"] == wanted, f"killed at step {steps}"
+    # the kills met every stage, from the opening to the last grant
+    assert {1, 3, 5, 7, len(wanted)} <= numbers
+
+
+def test_a_role_that_was_taken_after_all_were_granted_stays_taken(plant: Plant) -> None:
+    plant.copy("backup")
+    for person in TYPISTS[:2]:
+        assert run_until(plant, person, "U2", None)
+    assert plant.call("ste", LATER, "/units/U2/withdrawals", {"person": "ann", "role": "Operator"}) == {"done": True}
+    status, said = succeed(plant, "ste")
+    assert status == 0 and "ann: not Operator in U2, where roles were granted before; --again ann grants it" in decisions(said)
+    assert plant.rows("SELECT count(*) FROM grants WHERE unit = 'U2' AND person IN ('ann', 'successor.u1')") == [(0,)]
+
+
 def test_the_command_itself_is_killed(plant: Plant) -> None:
     plant.copy("backup")
     chosen, kills = random.Random(2), 0

@@ -24,15 +24,29 @@ async function whatStands(stands) {
     }
 }
 
-// `done` makes what is said of the office's answer, `failed` may show a refusal in its own way, `stands` asks what stands and gives it
-// in words. Whether the call was accepted.
-export async function act(form, {subject, path, body = "", done, failed, stands}) {
+// Why a call is not to be sent, in words, if `changed` finds a reason or gets no answer.
+async function whyNot(subject, changed) {
+    try {
+        return await changed();
+    } catch (error) {
+        return `${subject}: ${error.words ?? error.message} Nothing was sent.`;
+    }
+}
+
+// `changed` says why the call is not to be sent, or gives null; `done` makes what is said of the office's answer, `failed` may show a
+// refusal in its own way, `stands` asks what stands and gives it in words. Whether the call was accepted.
+export async function act(form, {subject, path, body = "", changed = () => null, done, failed, stands}) {
     if (form.hasAttribute("data-busy")) {
         return false;
     }
     setBusy(form, true);
     sayAnswer(form, `Asking the office about ${subject}…`, "");
     try {
+        const reason = await whyNot(subject, changed);
+        if (reason !== null) {
+            sayAnswer(form, reason, "refused");
+            return false;
+        }
         const text = await ask("POST", path, body);
         sayAnswer(form, done(text), "done");
         return true;

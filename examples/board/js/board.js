@@ -13,6 +13,7 @@ import "./keys.js";
 import {whilePrinting} from "./looks.js";
 import {runAllDown} from "./marks.js";
 import {forgetMatrix, showMatrix} from "./matrix.js";
+import {askNewest, showNewest} from "./newest.js";
 import {focusChange, forgetProposals, showChanges} from "./proposals.js";
 import {lookAtRecords} from "./pricing.js";
 import {showPrice} from "./record.js";
@@ -22,7 +23,7 @@ import {askNow, askOn, eachRound, outOfDate} from "./rounds.js";
 import {askSeveral, forgetSeveral, showSeveral} from "./several.js";
 import {clockText, dateText} from "./texts.js";
 import {momentNow} from "./time.js";
-import {sayNotice, showTrouble, showWaiting} from "./trouble.js";
+import {areListsOld, sayNotice, showTrouble, showWaiting} from "./trouble.js";
 import {askUnits, showUnits} from "./units.js";
 import {showUntil} from "./work.js";
 
@@ -173,16 +174,24 @@ function showHeld() {
 
 // ---- Each second
 
+// The clock runs only while the lists are refreshed; else it stands at the moment that they are of.
+function showClock(isOld) {
+    const moment = isOld ? here.answeredAt : momentNow();
+    const text = moment === null ? "" : `${dateText(moment)} ${clockText(moment)} UTC${isOld ? ", not refreshed" : ""}`;
+    if ($("clock").dataset.text !== text) {
+        $("clock").dataset.text = text;
+        $("clock").replaceChildren(...text === "" ? [] : [make("span", "date", text.slice(0, 10)), text.slice(10)]);
+    }
+}
+
 function tick() {
-    const now = momentNow();
-    if (now !== null) {
-        const text = `${dateText(now)} ${clockText(now)}`;
-        if ($("clock").dataset.text !== text) {
-            $("clock").dataset.text = text;
-            $("clock").replaceChildren(make("span", "date", dateText(now)), ` ${clockText(now)} UTC`);
-        }
+    const isOld = here.unit !== null && areListsOld();
+    document.body.classList.toggle("stale", isOld);
+    showClock(isOld);
+    if (momentNow() !== null && !isOld) {
         runAllDown();
         showUntil();
+        showNewest();
     }
     showWaiting();
 }
@@ -210,7 +219,7 @@ document.addEventListener("visibilitychange", () => {
     }
 });
 
-[() => askUnits(showHeld), askAlarms, askSeveral, askFloods, askAlarm, askChanges, askInForce].forEach(eachRound);
+[() => askUnits(showHeld), askAlarms, askSeveral, askFloods, askAlarm, askChanges, askInForce, askNewest].forEach(eachRound);
 whilePrinting(() => {
     showAlarms();
     showChanges();

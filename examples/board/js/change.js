@@ -150,5 +150,7 @@ export function showChange() {
     const own = isOwn(change);
     $("own").hidden = !(isWaiting && own && holds("Approver"));
     $("approve").hidden = $("reject").hidden = !(isWaiting && !own && holds("Approver"));
+    // until the page knows what the record comes to, or that no call says it
+    $("approve").disabled = isWaiting && change.kind === "record" && (parts.price === null || parts.price.isLooking === true);
     $("withdraw").hidden = !(isWaiting && own && holds("Engineer"));
 }

@@ -1,7 +1,7 @@
 // The keyboard's place is never lost. If what has it is hidden, disabled or taken away, the next control of the same part gets it, else
-// the heading of the part, else that of the view.
+// the heading of the part, else that of the view. A button that changes something in the office never gets it this way.
 
-const CONTROLS = "a[href], button, input, select, summary";
+const CONTROLS = "a[href], button:not([data-acts]), input, select, summary";
 const PARTS = "li, form, section, .panel, dialog, nav, header, main";
 let last = null; // what has or had the keyboard, and the parts that it is in, the innermost first
 

@@ -17,6 +17,7 @@ export const here = {
     alarms: new Map(), // by tag, each with its shelf
     standing: new Map(), // the moments since which alarms are active, by tag
     answeredAt: null, // the moment of the last whole round
+    listedAt: -Infinity, // when the page got it, by the clock of the browser
     isPricing: false, // whether the priority of a record that is being drawn up is looked for
     isComparing: false, // whether a matrix is compared with the records in force
     isUnitsDue: true, // whether the units are asked for in the next round, because roles may have changed

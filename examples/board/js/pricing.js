@@ -36,7 +36,7 @@ export function priceOf(unit, record, held) {
     if (held && held.severity === record.severity && held.response === record.response) {
         return {priority: held.priority, words: "", isKnown: true};
     }
-    return {priority: null, isKnown: false, words: matrix === null
+    return {priority: null, isKnown: false, isLooking: matrix === null, words: matrix === null
         ? "Looking for the matrix in force…"
         : "not known: no matrix was approved yet, and no call gives the one that the unit was opened with"};
 }

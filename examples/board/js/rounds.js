@@ -4,7 +4,7 @@
 import {Trouble} from "./asking.js";
 
 const ROUND = 5000; // milliseconds between two rounds
-const LONGEST_PAUSE = 60000; // the longest pause, after errors
+const LONGEST_PAUSE = 8000; // the longest pause, after errors: so the page is back within ten seconds of the office
 const DAY = 86400000;
 
 const parts = [];

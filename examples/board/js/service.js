@@ -48,9 +48,9 @@ function readLine(line) {
     }
 }
 
-// Asks once a minute for the lines; a site that has none is not asked again.
-export async function askRemovals() {
-    if (!isOffered || performance.now() - askedAt < SELDOM) {
+// Asks for the lines once a minute, or at once; a site that has none is not asked again.
+export async function askRemovals({atOnce = false} = {}) {
+    if (!isOffered || (!atOnce && performance.now() - askedAt < SELDOM)) {
         return;
     }
     askedAt = performance.now();
@@ -65,8 +65,11 @@ export async function askRemovals() {
     }
 }
 
+// the last removal of an alarm that is known, or undefined
+export const removalOf = (unit, tag) => acts.get(keyOf(unit, tag));
+
 export function serviceText(unit, tag) {
-    const act = acts.get(keyOf(unit, tag));
+    const act = removalOf(unit, tag);
     return act
         ? `out of service\nby ${act.person}, since ${plainMoment(act.moment)}: “${act.words}”`
         : "out of service\nNo call says who, since when and why. The audit log of the proxy has it, in its last line with "

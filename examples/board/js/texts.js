@@ -92,7 +92,7 @@ const LONGEST = 604800; // seconds, a week
 export const isUnit = (text) => /^[A-Z0-9]{1,8}$/.test(text);
 export const isTag = (text) => /^[A-Z0-9._-]{1,24}$/.test(text);
 export const isPerson = (text) => /^[a-z0-9.-]{1,32}$/.test(text);
-export const isRemark = (text) => /^[ -~]{1,120}$/.test(text);
+export const isRemark = (text) => /^[ -~]{1,120}$/.test(text) && text.trim() !== "";
 export const isMoment = (text) => /^20\d\d-\d\d-\d\dT\d\d:\d\d:\d\dZ$/.test(text)
     && new Date(text).toString() !== "Invalid Date" && momentText(Date.parse(text)) === text;
 
@@ -101,7 +101,7 @@ export const isMoment = (text) => /^20\d\d-\d\d-\d\dT\d\d:\d\d:\d\dZ$/.test(text
 const UNITS = [["d", 86400, /^d(ays?)?$/], ["h", 3600, /^h(ours?)?$/], ["min", 60, /^min(utes?)?$/], ["s", 1, /^s(ec(onds?)?)?$/]];
 
 export function secondsOf(text) {
-    const typed = text.trim().toLowerCase();
+    const typed = text.trim().toLowerCase().replace(/(\d),(\d)/g, "$1.$2");
     if (!/^(\d{1,9}|(\d{1,6}(\.\d{1,4})?\s*[a-z]+\s*)+)$/.test(typed)) {
         return null;
     }

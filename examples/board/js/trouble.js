@@ -2,14 +2,19 @@
 
 import {askAnew, waitingSeconds} from "./asking.js";
 import {$, say} from "./elements.js";
-import {here} from "./here.js";
+import {here, isShut} from "./here.js";
 import {askNow, outOfDate, secondsToNext} from "./rounds.js";
 import {clockText} from "./texts.js";
 
+const LONGEST_ROUND = 20000; // milliseconds after which lists are called old
 const LONG = 3; // seconds that an answer takes before the page says so
 let isWaiting = false; // whether the line is there because an answer takes long
 let isSignedOff = false;
 let refusedAt = -Infinity;
+
+// Whether the lists are not being refreshed: there is a trouble, the unit gives no answers, or none came for a while.
+export const areListsOld = () => !$("trouble").hidden || (isShut() && here.view !== "several")
+    || performance.now() - here.listedAt > LONGEST_ROUND;
 
 export function sayNotice(text) {
     say($("notice-words"), text);
@@ -18,7 +23,6 @@ export function sayNotice(text) {
 
 function showLine(words) {
     $("trouble").hidden = words === null;
-    document.body.classList.toggle("stale", words !== null);
     if (words !== null) {
         const old = here.answeredAt === null ? "" : ` The lists are those of ${clockText(here.answeredAt)}.`;
         say($("trouble-words"), words + old);
@@ -31,7 +35,9 @@ function showLine(words) {
 export function showTrouble(words, name = "") {
     isWaiting = false;
     isSignedOff = name === "401";
-    if (words !== null) {
+    if (words === null) {
+        here.listedAt = performance.now();
+    } else {
         here.isUnitsDue = true;
         if (name === "NotGranted" && performance.now() - refusedAt > 20000) {
             refusedAt = performance.now();

@@ -4,10 +4,11 @@ import {act} from "./acting.js";
 import {onAlarm, shown} from "./alarm.js";
 import {get} from "./asking.js";
 import {$, areRight, say, sayAnswer} from "./elements.js";
+import {makeDrawn} from "./drawn.js";
 import {here, keeps} from "./here.js";
 import {SHELF_COLUMNS, askList} from "./lists.js";
-import {rememberRemoval} from "./service.js";
-import {REMARK_WANTED, LENGTH_WANTED, clockText, isRemark, leftText, lengthText, momentText, secondsOf} from "./texts.js";
+import {askRemovals, rememberRemoval, removalOf} from "./service.js";
+import {REMARK_WANTED, LENGTH_WANTED, clockText, isRemark, leftText, lengthText, momentText, plainMoment, secondsOf} from "./texts.js";
 import {momentNow} from "./time.js";
 
 const HOUR = 3600; // seconds, which the form proposes unless the alarm's limit is less
@@ -15,27 +16,73 @@ const shelving = $("shelving");
 const service = $("service");
 let filledFor = null; // the unit and the alarm that the forms were filled for
 
+// ---- What the forms are drawn from
+
+const shelfKey = (shelf) => (shelf ? [shelf.kind, shelf.start, shelf.person, shelf.words].join("\n") : "");
+const serviceState = (alarm, unit) => ({isOut: alarm.out_of_service, removal: removalOf(unit, alarm.tag)});
+
+async function askShelf(unit, tag) {
+    const {rows} = await askList(`/units/${unit}/shelves`, "SHELVES", SHELF_COLUMNS, unit);
+    return rows.find((row) => row.tag === tag);
+}
+
+async function askService(unit, tag) {
+    const alarm = await get(`/units/${unit}/alarms/${tag}`);
+    if (alarm.out_of_service) {
+        await askRemovals({atOnce: true});
+    }
+    return alarm;
+}
+
 // what stands of an alarm, in words
 async function standsOf(unit, tag) {
-    const alarm = await get(`/units/${unit}/alarms/${tag}`);
-    const shelves = await askList(`/units/${unit}/shelves`, "SHELVES", SHELF_COLUMNS, unit);
-    const shelf = shelves.rows.find((row) => row.tag === tag);
+    const {out_of_service: isOut} = await askService(unit, tag);
+    const shelf = await askShelf(unit, tag);
     const kind = shelf?.kind === "timed" ? "for a time" : "one-shot";
     const left = shelf && leftText(Number(shelf.left));
     const shelved = shelf ? `shelved ${kind} by ${shelf.person}, ${left} left: “${shelf.words}”` : "not shelved";
-    return `${tag} is ${shelved}, and ${alarm.out_of_service ? "out of service" : "in service"}.`;
+    const removal = isOut && removalOf(unit, tag);
+    const by = removal ? ` by ${removal.person} since ${plainMoment(removal.moment)}: “${removal.words}”` : "";
+    return `${tag} is ${shelved}, and ${isOut ? `out of service${by}` : "in service"}.`;
 }
 
-async function call(form, action, body, done) {
+const tell = () => standsOf(here.unit, here.tag);
+const shelfDrawn = makeDrawn(shelving, {
+    now: () => shown.alarm && (shown.alarm.shelf === "Unshelved" ? "" : shelfKey(here.alarms.get(shown.tag)?.shelf) || shown.alarm.shelf),
+    ask: async () => shelfKey(await askShelf(here.unit, here.tag)),
+    differs: (one, other) => one !== other,
+    draw(key) {
+        say($("how"), key !== "" ? "Shelve it otherwise" : "Shelve it");
+        $("unshelve").hidden = key === "";
+    },
+    tell,
+});
+const serviceDrawn = makeDrawn(service, {
+    now: () => shown.alarm && serviceState(shown.alarm, here.unit),
+    ask: async () => serviceState(await askService(here.unit, here.tag), here.unit),
+    // a removal that is known on one side alone may be the same
+    differs: (one, other) => one.isOut !== other.isOut || (one.removal && other.removal && one.removal.moment !== other.removal.moment),
+    draw({isOut}) {
+        $("remove").disabled = $("service-words").disabled = isOut;
+        $("place").disabled = !isOut;
+        $("service-remark").hidden = isOut;
+    },
+    tell,
+});
+
+async function call(form, drawn, action, body, done) {
     const {unit, tag} = here;
     const path = `/units/${unit}/alarms/${tag}/${action}`;
     const stands = () => standsOf(unit, tag);
-    const accepted = await act(form, {subject: tag, path, body: body && JSON.stringify(body), done: () => `${tag} ${done}`, stands});
+    const accepted = await act(form, {
+        subject: tag, path, body: body && JSON.stringify(body), changed: drawn.changed, done: () => `${tag} ${done}`, stands,
+    });
     if (accepted && action === "remove-from-service") {
         rememberRemoval(unit, tag, {person: here.person, moment: momentText(momentNow()), words: body.words});
     }
     if (accepted && here.unit === unit && here.tag === tag) {
         form.querySelector(".remark").value = "";
+        drawn.renew();
     }
 }
 
@@ -59,20 +106,8 @@ function showWork() {
         $("seconds").value = lengthText(Math.min(alarm.limit, HOUR));
         $(alarm.shelf === "TimedShelved" ? "one-shot" : "timed").checked = true;
     }
-    const isShelved = alarm.shelf !== "Unshelved";
-    say($("how"), isShelved ? "Shelve it otherwise" : "Shelve it");
-    if (!isShelved && document.activeElement === $("unshelve")) {
-        $("shelve").focus();
-    }
-    $("unshelve").hidden = !isShelved;
-    const [one, other] = alarm.out_of_service ? ["place", "remove"] : ["remove", "place"];
-    if (document.activeElement === $(other) && !service.hasAttribute("data-busy")) {
-        $(one).hidden = false;
-        $(one).focus();
-    }
-    $(one).hidden = false;
-    $(other).hidden = true;
-    $("service-remark").hidden = alarm.out_of_service;
+    shelfDrawn.refresh(key);
+    serviceDrawn.refresh(key);
     showUntil();
 }
 
@@ -90,28 +125,29 @@ function shelve(event) {
     const isTimed = $("timed").checked;
     const isRight = areRight(shelving, [
         [$("seconds"), !isTimed || seconds !== null, `For how long? Give ${LENGTH_WANTED}.`],
-        [$("words"), isRemark(words), `Say why: ${REMARK_WANTED}.`],
+        [$("words"), isRemark(words), `Say why: ${REMARK_WANTED}, and not blanks alone.`],
     ]);
     if (isRight && isTimed) {
-        call(shelving, "timed-shelve", {seconds, words}, `is shelved for ${lengthText(seconds)}.`);
+        call(shelving, shelfDrawn, "timed-shelve", {seconds, words}, `is shelved for ${lengthText(seconds)}.`);
     } else if (isRight) {
-        call(shelving, "one-shot-shelve", {words}, "is shelved until it returns to normal.");
+        call(shelving, shelfDrawn, "one-shot-shelve", {words}, "is shelved until it returns to normal.");
     }
 }
 
+// Each button does what it says; Enter in the words takes the alarm out of service.
 function serve(event) {
     event.preventDefault();
     const words = $("service-words").value;
-    if (shown.alarm.out_of_service) {
-        call(service, "place-in-service", "", "is in service again.");
-    } else if (areRight(service, [[$("service-words"), isRemark(words), `Say why: ${REMARK_WANTED}.`]])) {
-        call(service, "remove-from-service", {words}, "is out of service.");
+    if (event.submitter === $("place")) {
+        call(service, serviceDrawn, "place-in-service", "", "is in service again.");
+    } else if (areRight(service, [[$("service-words"), isRemark(words), `Say why: ${REMARK_WANTED}, and not blanks alone.`]])) {
+        call(service, serviceDrawn, "remove-from-service", {words}, "is out of service.");
     }
 }
 
 onAlarm(showWork);
 shelving.addEventListener("submit", shelve);
-$("unshelve").addEventListener("click", () => call(shelving, "unshelve", "", "is no longer shelved."));
+$("unshelve").addEventListener("click", () => call(shelving, shelfDrawn, "unshelve", "", "is no longer shelved."));
 service.addEventListener("submit", serve);
 $("seconds").addEventListener("input", showUntil);
 shelving.addEventListener("change", showUntil);

@@ -244,19 +244,15 @@ class Page:
     def go(self, rest):
         self.value(f"location.hash = {json.dumps(rest)}")
 
-    def await_text(self, selector, wanted, seconds=15):
+    def await_text(self, selector, wanted, seconds=15, moves=None):
         """Waits until the text of an element is, or matches."""
         shown = lambda: self.text(selector)
         is_wanted = wanted.fullmatch if isinstance(wanted, re.Pattern) else wanted.__eq__
-        if not self.is_within(lambda: is_wanted(shown()) not in (None, False), seconds):
-            said = [text for text in self.texts(".answer, #trouble, #notice") if text]
-            sys.exit(f"{selector}, not within {seconds} s\n  expected {wanted}\n  but got  {shown()}\n  focus {self.focus()}, said {said}")
-
-    def is_within(self, test, seconds):
         try:
-            return wait_for("", test, seconds)
-        except SystemExit:
-            return False
+            wait_for(selector, lambda: is_wanted(shown()) not in (None, False), seconds, moves)
+        except SystemExit as error:
+            said = [text for text in self.texts(".answer, #trouble, #notice") if text]
+            sys.exit(f"{error}\n  expected {wanted}\n  but got  {shown()}\n  focus {self.focus()}, said {said}")
 
     # ---- keys
 
@@ -275,8 +271,7 @@ class Page:
         return self.value(FOCUS)
 
     def await_focus(self, wanted, what):
-        if not self.is_within(lambda: self.focus() == wanted, 5):
-            expect(self.focus(), wanted, what)
+        wait_for(f"{what}: {wanted}, not {self.focus()}", lambda: self.focus() == wanted, 5)
 
     def tab_to(self, wanted, most=60, back=False):
         """Presses Tab until the control has the keyboard: by its id, its name or its text."""

@@ -5,7 +5,7 @@ import re
 import time
 
 from trying.browser import Page
-from trying.common import expect, moment_now, wait_for
+from trying.common import expect, moment_now, moment_text, wait_for
 
 AHEAD = datetime.datetime(2099, 1, 1)
 
@@ -66,8 +66,13 @@ def try_role_that_ends(site, browser):
     expect(page.is_shown("#trouble"), False, "a trouble, though the notice says it")
     expect(page.texts("#unit option") or page.value("[...document.querySelector('#unit').options].map((option) => option.text)"),
            ["U6", "U5, ended"], "the units")
+    # the lists are grey and say of when they are, also once the notice is closed; no clock runs
+    page.press("notice-close")
+    page.await_text("#clock", re.compile(r"[\d-]{10} [\d:]{8} UTC, not refreshed"))
+    clock, left = page.text("#clock"), page.texts(".left")
     before = len(page.requests())
     time.sleep(6)
+    expect((page.text("#clock"), page.texts(".left"), page.value("document.body.classList.contains('stale')")), (clock, left, True), "old lists")
     asked = [path for _, path in page.requests()[before:]]
     expect([path for path in asked if path.startswith("/units/U5")], [], "what is asked of a unit without a role")
     page.check_looks("a unit without a role")
@@ -78,7 +83,8 @@ def try_role_that_ends(site, browser):
     expect(page.value("document.querySelector('#words').value"), "and another one", "the words after all")
     page.tab_to("words")
     page.key("Enter")
-    page.await_text("#shelving .answer", re.compile(r"PT-1: The alarm is shelved in this way already\. .*|PT-1 is shelved .*"))
+    page.await_text("#shelving .answer", re.compile(r"Nothing was sent, because this has changed meanwhile\. PT-1 is shelved for a time by roy, .*"
+                                                        r"|PT-1: The alarm is shelved in this way already\. .*|PT-1 is shelved .*"))
 
     # another unit is chosen by hand: then the ended one is gone
     change_role(site, "withdrawals", "Operator")
@@ -235,7 +241,28 @@ def try_stranger(site, browser):
     return [page]
 
 
+def try_newest(site, browser):
+    """How old the newest event is, by the file of the feed: shown, named once it is above the limit, and missing."""
+    page = Page(browser, site.address("vic", "#U1"))
+    page.await_text("#newest", "Last event: not known here")
+    file = site.folder / "board/feed-U1.json"
+    for minutes, wanted, kind in [
+        (3, r"Last event (\S+ )?\d\d:\d\d, 3 min ago", ""), (16, r"Last event (\S+ )?\d\d:\d\d, 16 min ago\. Does the feed run\?", "caution"),
+    ]:  # fmt: skip
+        moment = moment_now() - datetime.timedelta(minutes=minutes, seconds=10)
+        file.write_text(f'{{"unit": "U1", "event": "{moment_text(moment)}"}}')
+        page.send("Page.reload")
+        page.await_text("#newest", re.compile(wanted))
+        expect(page.value("document.querySelector('#newest').className"), kind, "how the age looks")
+        page.check_looks("the age of the newest event")
+        page.check_narrow("the age of the newest event")
+    file.unlink()
+    print("the age of the newest event is shown, and named above 15 min")
+    return page
+
+
 def try_ending(site, browser):
     return [
         *try_role_that_ends(site, browser), *try_sign_on(site, browser), *try_stranger(site, browser), *try_unit_ahead(site, browser),
+        try_newest(site, browser),
     ]  # fmt: skip

@@ -5,7 +5,7 @@ import json
 
 from trying.common import moment_now, moment_text
 
-PEOPLE = ["root", "ste", "eve", "kim", "amy", "moe", "ann", "bob", "vic", "tom", "una", "roy", "max", "tim", "<b>x"]
+PEOPLE = ["root", "ste", "eve", "kim", "amy", "moe", "ann", "bob", "vic", "tom", "una", "roy", "max", "tim", "pat", "mia", "<b>x"]
 ROLES = [
     ("ann", "Operator"), ("bob", "Operator"), ("eve", "Engineer"), ("kim", "Engineer"), ("kim", "Approver"), ("amy", "Approver"),
     ("moe", "Maintainer"), ("vic", "Viewer"),

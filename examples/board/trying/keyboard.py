@@ -4,7 +4,7 @@ import sys
 import time
 
 from trying.browser import Page
-from trying.common import expect, wait_for
+from trying.common import expect, is_within, wait_for
 
 # the controls of the view that is shown, by what the focus is called; what decides or is tried elsewhere is left out
 CONTROLS = """[...document.querySelectorAll("main :is(a[href], button, input:not([type=file], [type=text]), select, summary)")]
@@ -23,7 +23,7 @@ def walk(page, address, most=14):
     for name in names:
         if page.value("location.hash") != address:
             page.go(address)
-            page.is_within(lambda: name in page.value(CONTROLS), 5)
+            is_within(lambda: name in page.value(CONTROLS), 5)
         if name not in page.value(CONTROLS):
             continue  # a control that another one shows
         page.tab_to(name, 120)

@@ -6,11 +6,11 @@ import re
 from trying.browser import Page
 from trying.common import expect, wait_for
 
-RIGHT = {"45 min": 2700, "2 h": 7200, "1 d 6 h": 108000, "90": 90, "1.5 h": 5400, "2 days 3 hours": 183600, "1h30min": 5400, "7 d": 604800,
+RIGHT = {"45 min": 2700, "2 h": 7200, "1 d 6 h": 108000, "90": 90, "1.5 h": 5400, "1,5 h": 5400, "2 days 3 hours": 183600, "1h30min": 5400, "7 d": 604800,
          "1 S": 1, " 10 minutes 5 seconds ": 605}  # fmt: skip
 SHOWN = {2700: "45 min", 7200: "2 h", 108000: "1 d 6 h", 90: "1 min 30 s", 5400: "1 h 30 min", 183600: "2 d 3 h", 604800: "7 d", 1: "1 s",
          605: "10 min 5 s"}  # fmt: skip
-WRONG = ["", "0", "0 s", "8 d", "604801", "1 h 1 d", "5 min 5 min", "-5 min", "1.5 s", "2 x", "1e3", "h", "0x10", "1,5 h", "2 h <b>", "٣ h"]
+WRONG = ["", "0", "0 s", "8 d", "604801", "1 h 1 d", "5 min 5 min", "-5 min", "1.5 s", "2 x", "1e3", "h", "0x10", "1,5", "1,,5 h", "2 h <b>", "٣ h"]
 WANTED = "a time of 1 s to 7 d, as 45 min, 2 h or 1 d 6 h"
 
 

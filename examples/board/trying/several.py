@@ -4,7 +4,7 @@ import re
 import time
 
 from trying.browser import Page
-from trying.common import expect, rows_of, wait_for
+from trying.common import expect, is_reached, rows_of, wait_for
 from trying.shown import DASH, shelves_of
 
 ORDER = ["P1", "P2", "P3", "P4", "-", "N"]
@@ -48,7 +48,7 @@ def try_several(site, browser, pictures):
     page.await_focus("several-title", "the focus in the view")
     expect(page.value("location.hash"), "#units=U1,U2", "the address")
     check = lambda: page.value(LINES % "standing") == wanted_standing(site, ["U1", "U2"])
-    if not page.is_within(check, 12):
+    if not is_reached(check, 12):
         expect(page.value(LINES % "standing"), wanted_standing(site, ["U1", "U2"]), "the standing alarms of both units")
     expect(page.value(LINES % "shelved"), wanted_shelved(site, ["U1", "U2"]), "the shelved alarms of both units")
     units = {line[1] for line in page.value(LINES % "shelved")}

@@ -3,7 +3,7 @@
 import datetime
 import sys
 
-from trying.common import expect, moment_now, moment_text, rows_of, wait_for
+from trying.common import expect, is_reached, moment_now, moment_text, rows_of, wait_for
 
 STATES = {
     "Normal": "Normal",
@@ -180,7 +180,7 @@ def check_alarm(site, page, tag):
         )
 
     page.await_text("#alarm-title", tag)
-    if not page.is_within(is_shown, 12):
+    if not is_reached(is_shown, 12):
         shown = [page.facts(f"#{place}") for place in ("alarm-facts", "record-facts", "origin-facts")]
         sys.exit(f"{tag}\n  expected {wanted_facts(site, tag)}\n  but got  {shown}")
 
@@ -215,6 +215,6 @@ def check_changes(site, page, person, count=20):
         ]
         for change in changes
     ]
-    if not page.is_within(lambda: page.value(CHANGES) == wanted, 12):
+    if not is_reached(lambda: page.value(CHANGES) == wanted, 12):
         sys.exit(f"the changes\n  expected {wanted}\n  but got  {page.value(CHANGES)}")
     return changes

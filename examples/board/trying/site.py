@@ -11,7 +11,7 @@ import subprocess
 import threading
 import time
 
-from trying.common import expect, free_port, moment_text, wait_for
+from trying.common import Progress, expect, free_port, moment_text, wait_for
 
 FAULT = b'{"fault":"Store"}'
 
@@ -24,7 +24,8 @@ class Relay(socketserver.ThreadingTCPServer):
     def __init__(self, port, office_port):
         super().__init__(("127.0.0.1", port), Relayed)
         self.office_port = office_port
-        self.calls = []  # what changes something, as method, path and body
+        self.calls = []  # what changes something, as path and body
+        self.asked = []  # the methods of all requests, in their order
         self.is_losing = False  # whether answers to such calls get lost after the office has given them
         self.delay = 0  # seconds that such an answer is kept back
         self.faulty_path = None  # the beginning of paths that are answered so
@@ -41,6 +42,7 @@ class Relayed(socketserver.StreamRequestHandler):
         if not head:
             return
         method, path = head.split(b" ")[:2]
+        self.server.asked.append(method)
         if method == b"POST":
             self.server.calls.append((path.decode(), body))
         is_faulty_path = self.server.faulty_path and path.decode().startswith(self.server.faulty_path)
@@ -74,6 +76,7 @@ class Relayed(socketserver.StreamRequestHandler):
             self.wfile.write(head + body)
         except ConnectionError:
             pass  # the proxy is gone
+        Progress.lists += path.endswith((b"/standing", b"/shelves"))
 
     def read_message(self, stream):
         head, length = b"", 0
