@@ -45,7 +45,16 @@ pub fn in_memory(alloc: Global, admin: Person) -> Result<Tables<FileStore<Memory
         db: MemoryFile::new(alloc),
     };
     match open_over(alloc, files) {
-        Ok(conn) => create_books(alloc, conn, admin),
+        Ok(conn) => match create_books(alloc, conn, admin) {
+            Ok(mut books) => {
+                books.set_in_memory();
+                Ok(books)
+            }
+            // Files in memory fail only if they cannot grow.
+            Err(StoreFault::Fault(_)) => Err(StoreFault::Fault(Fault::Memory)),
+            Err(fault) => Err(fault),
+        },
         Err(fault) => Err(fault),
     }
+}
 }

@@ -49,12 +49,7 @@ impl Ports for Recorded {
 
     ghost number_of = { λ number. number };
 
-    fn next(
-        &mut self,
-        connections: &[Connection],
-        clients: &mut [u64],
-        may_wait: bool,
-    ) -> Ready {
+    fn next(&mut self, connections: &[Connection], clients: &mut [u64], may_wait: bool) -> Ready {
         self.script.next(connections, clients, may_wait)
     }
 

@@ -63,12 +63,7 @@ impl Ports for Script {
 
     ghost number_of = { λ number. number };
 
-    fn next(
-        &mut self,
-        connections: &[Connection],
-        _clients: &mut [u64],
-        _may_wait: bool,
-    ) -> Ready {
+    fn next(&mut self, connections: &[Connection], _clients: &mut [u64], _may_wait: bool) -> Ready {
         self.most_open = self.most_open.max(connections.len());
         self.turns = self.turns.saturating_add(1);
         if self.turns > TURNS {
