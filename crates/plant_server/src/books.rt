@@ -57,4 +57,3 @@ pub fn in_memory(alloc: Global, admin: Person) -> Result<Tables<FileStore<Memory
         Err(fault) => Err(fault),
     }
 }
-}
