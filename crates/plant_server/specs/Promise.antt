@@ -12,7 +12,7 @@ use Rattle.plant_office.specs.Failures.{AreAnsweredBeforeFailure}
 use Rattle.plant_store_memory.specs.{Memory.{memory}, declared.file.MemoryFile.{MemoryFile}}
 use Rattle.plant_server.specs.{Crashes.{HoldWholeBooks}, Files.{HoldDatabase, HoldOldBooks, HoldsStill}}
 use Rattle.plant_server.specs.OverFiles.{AreAnsweredBy, AreServed, Begins, IsClosing, IsHonestAfter, IsRefusal, IsUntouched, Place, RanOnFiles, closing_text}
-use Rattle.plant_server.specs.{Services.{HasServed}, Streams.{Bytes, IsSaid, Lines, Streams, within}}
+use Rattle.plant_server.specs.{Nets.{Nets}, Services.{HasServed}, Streams.{Bytes, IsSaid, Lines, Streams, within}}
 use Rattle.plant_server.specs.Statuses.{code, help_text, migrated_text, no_rows_text, refusal_text, status_of_command_line, status_of_migration, unmigrated_text, unopened_text}
 use Rattle.plant_server.specs.declared.{remains.Left.{Left}, statuses.ExitStatus.{ExitStatus}}
 use Rattle.plant_server.specs.declared.remains.Left.TheVariants as left
@@ -116,3 +116,9 @@ module _ {D N F : Type 0} {g : Ghosts D} where
     pub status : ExitStatus
     pub obeyed : IsObeyed h place line s status after
     pub told : number ≡ code status
+
+-- The promise about some net and about what is left of some files: those of the machine, of which no code shows anything.
+abbrev pub IsKeptOnSome : {D N E : Type 0} → (F : Type 0) → (g : Ghosts D) → Ghosts N → (List ℕ → Result ℕ E → Type 0)
+    → (List ℕ → Result ℕ E → Type 0) → Place D → List (List ℕ) → (Nets → Streams) → ℕ → Type 0
+IsKeptOnSome {D} {N} F g h gives_port gives place words streams number =
+    (nets : Nets) × ((after : Left D N F g) × IsKept gives_port gives h place words (streams nets) number after)

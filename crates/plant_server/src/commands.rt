@@ -10,7 +10,8 @@ ghost use Rattle.plant_server_options.specs.{CommandLines.{IsReadAs}, declared.w
 ghost use Rattle.plant_books.specs.Contents.{no_units};
 ghost use Rattle.plant_office.specs.Enduring.{books_state};
 ghost use Rattle.plant_server.specs.{Crashes.{IsWhole}, OverFiles.{IsClosing, closing_text, place_of}, Parts.{BooksServed, IsServedAnew}};
-ghost use Rattle.plant_server.specs.Promise.{IsDone, IsDoneInMemory, IsDoneOnFile, IsKept, IsMigration, IsObeyed};
+ghost use Rattle.plant_server.specs.Promise.{IsDone, IsDoneInMemory, IsDoneOnFile, IsKept, IsKeptOnSome, IsMigration, IsObeyed};
+ghost use Rattle.sqlite_disk.specs.declared.Unknown.{Unknown as AnyStart};
 ghost use Rattle.plant_server.specs.{Nets.{nets_of}, Services.{HasServed}};
 ghost use Rattle.plant_server.specs.Streams.{Bytes, IsSaid, lines_of, streams_of, within};
 ghost use Rattle.plant_store_statements.specs.Keeping.{Represents};
@@ -22,7 +23,7 @@ ghost use Rattle.plant_server.specs.Statuses as statuses;
 use crate::books::in_memory;
 use crate::files::in_file;
 use crate::migrations::migrate_file;
-use crate::nets::Net;
+use crate::nets::{HostNet, Net};
 use crate::places::Located;
 use crate::remains::{Left, close_left, leave};
 use crate::reports::{report_command_line_error, report_migration, report_unopened};
@@ -36,7 +37,7 @@ use plant_store::Tables;
 use plant_types::Person;
 use plant_types::limits::MAX_CACHED_ROWS;
 use plant_wire::{Inlet, Outlet};
-use sqlite::{Alter, File, FileFrom, FileStore, Start};
+use sqlite::{Alter, File, FileFrom, FileStore, Start, Unknown};
 use sqlite_disk::Disk;
 use std::alloc::Global;
 use std::convert::AsStr;
@@ -378,17 +379,13 @@ fn obey<S: AsStr, F: Start + Located, P: Net, I: Inlet, O: Outlet + Write, E: Wr
     }
 }
 
-/// Does what the command line asks for, the program's own name first, and returns the exit status: 0 if the input ended
-/// and every request was answered, if all connections of the port were served, if the older file was migrated, or for
-/// help; 2 if the command line is wrong; 3 if the file keeps no books of this administrator or can't be opened, or
-/// can't be migrated, or memory ran out as books were opened, or a failure shut the store of a service that was to
-/// serve all connections that come; 4, 5, 6 or 7 if the session over the streams ended by broken input, a failed read,
-/// a failed write, or because memory ran out, and 7 also if memory ran out as the command line was read or before any
-/// of many connections was accepted; 8 if listening on the port or accepting a connection failed.
+/// Does what the command line asks for over a net and the files of a start, and returns the exit status and what is left
+/// of the files. `command` says which status stands for what.
 ///
 /// `Promise` states in full what is answered, and what the files hold then and after a crash at any moment. For that,
-/// `start` stands for what the files at a path hold as they are opened, and what is left of them is handed back.
-pub fn command<S: AsStr, F: Start + Located, P: Net, I: Inlet, O: Outlet + Write, E: Write>(
+/// `start` stands for what the files at a path hold as they are opened, `net` shows what comes and goes over its
+/// connections, and what is left of the files is handed back.
+pub fn command_over<S: AsStr, F: Start + Located, P: Net, I: Inlet, O: Outlet + Write, E: Write>(
     rt: &HostRuntime,
     net: &mut P,
     words: &[S],
@@ -407,4 +404,34 @@ pub fn command<S: AsStr, F: Start + Located, P: Net, I: Inlet, O: Outlet + Write
 {
     let (status, left) = obey(rt, net, words, inlet, outlet, errors, start);
     (status.code(), left)
+}
+
+/// Does what the command line asks for, the program's own name first, and returns the exit status: 0 if the input ended
+/// and every request was answered, if all connections of the port were served, if the older file was migrated, or for
+/// help; 2 if the command line is wrong; 3 if the file keeps no books of this administrator or can't be opened, or
+/// can't be migrated, or memory ran out as books were opened, or a failure shut the store of a service that was to
+/// serve all connections that come; 4, 5, 6 or 7 if the session over the streams ended by broken input, a failed read,
+/// a failed write, or because memory ran out, and 7 also if memory ran out as the command line was read or before any
+/// of many connections was accepted; 8 if listening on the port or accepting a connection failed.
+///
+/// It is `command_over` this machine's net and files, of which no code can show anything: the clause is the same, about
+/// some net and some files.
+pub fn command<S: AsStr, I: Inlet, O: Outlet + Write, E: Write>(
+    rt: &HostRuntime,
+    words: &[S],
+    inlet: &mut I,
+    outlet: &mut O,
+    errors: &mut E,
+) -> u8
+    ensures { IsKeptOnSome AnyStart ⟦<FileFrom<Unknown> as Disk>⟧ ⟦<File as Disk>⟧
+        ⟦<u16 as FromStr>⟧.from_str_gives ⟦<u64 as FromStr>⟧.from_str_gives
+        (place_of ⟦<Unknown as Located>⟧.path (image_at ⟦<Unknown as Start>⟧) (λ files. IsFresh true files.log × IsFresh false files.db))
+        (map S.text words.now)
+        (λ nets. streams_of nets I.Inlet O.Outlet O.Write E.Write
+        (inlet.old, outlet.old, errors.old) (inlet.new, outlet.new, errors.new))
+        result }
+{
+    let mut net = HostNet::new(rt);
+    let (status, _) = command_over(rt, &mut net, words, inlet, outlet, errors, Unknown);
+    status
 }

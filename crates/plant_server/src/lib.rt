@@ -17,7 +17,7 @@ mod services;
 mod sockets;
 mod statuses;
 
-pub use commands::{FileOffice, command, serve_file};
+pub use commands::{FileOffice, command, command_over, serve_file};
 pub use laws::promises_are_kept;
 pub use migrations::{Migrated, migrate_file};
 pub use nets::{HostNet, Net, Standing};

@@ -9,7 +9,6 @@ use plant_tests_clients::Failing;
 use plant_tests_examples::{BASE, Exchanges, LOOKED_AT, SHELVED, numbered};
 use plant_tests_sites::root;
 use plant_wire::{FromRead, ToWrite};
-use sqlite::Unknown;
 use std::alloc::Global;
 use std::io;
 use std::io::{Read, Write};
@@ -102,16 +101,7 @@ fn served<'a>(
     let nothing: &[u8] = b"";
     let mut input = FromRead::new(nothing);
     let mut output = ToWrite::new(&mut clients);
-    let mut net = HostNet::new(rt);
-    let (status, _) = command(
-        rt,
-        &mut net,
-        words.as_slice(),
-        &mut input,
-        &mut output,
-        &mut errors,
-        Unknown,
-    );
+    let status = command(rt, words.as_slice(), &mut input, &mut output, &mut errors);
     drop(output);
     (status, clients, errors)
 }

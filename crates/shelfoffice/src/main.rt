@@ -2,9 +2,8 @@
 //! status.
 #![tactic(auto)]
 
-use plant_server::{ExitStatus, HostNet};
+use plant_server::ExitStatus;
 use plant_wire::{FromRead, ToWrite};
-use sqlite::Unknown;
 use std::env;
 use std::process::ExitCode;
 
@@ -22,15 +21,6 @@ fn main(rt: HostRuntime) -> ExitCode {
     let mut input = FromRead::new(rt.stdin());
     let mut output = ToWrite::new(rt.stdout());
     let mut errors = rt.stderr();
-    let mut net = HostNet::new(&rt);
-    let (status, _) = plant_server::command(
-        &rt,
-        &mut net,
-        words.as_slice(),
-        &mut input,
-        &mut output,
-        &mut errors,
-        Unknown,
-    );
+    let status = plant_server::command(&rt, words.as_slice(), &mut input, &mut output, &mut errors);
     ExitCode::from(status)
 }

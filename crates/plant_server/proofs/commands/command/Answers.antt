@@ -1,6 +1,4 @@
 use Rattle.plant_server.proofs.commands.command.Goals as goal
 
 pub returns : goal.returns
-returns g c =
-    let did = c.obey-status.ensures in
-    record { line = did.0; read = did.1; status = _; obeyed = did.2; told = c.code.ensures }
+returns g c = (_, (_, c.command_over-status.ensures))
