@@ -44,7 +44,7 @@ const ALL: [Asked; 10] = [
     Asked::MineUnits,
 ];
 
-const OF_THE_UNIT: [Asked; 9] = [
+const OF_THE_UNIT: [Asked; 10] = [
     Asked::Taken,
     Asked::Rows,
     Asked::Status,
@@ -53,6 +53,7 @@ const OF_THE_UNIT: [Asked; 9] = [
     Asked::Record,
     Asked::Change,
     Asked::Approval,
+    Asked::Held,
     Asked::MineUnits,
 ];
 
@@ -68,18 +69,7 @@ const OF_THE_ROW: [Asked; 8] = [
     Asked::Approval,
 ];
 
-/// What reads the roles of `ann`.
-const OF_ROLES: [Asked; 8] = [
-    Asked::Rows,
-    Asked::Status,
-    Asked::Shelves,
-    Asked::Withdrawal,
-    Asked::Record,
-    Asked::Change,
-    Asked::Approval,
-    Asked::MineUnits,
-];
-
+/// What reads the grants of `ann`.
 const OF_ANN: [Asked; 9] = [
     Asked::Rows,
     Asked::Status,
@@ -147,12 +137,9 @@ const OUTSIDE: [(&str, &[Asked]); 49] = [
         &OF_SHELVES,
     ),
     // a role
-    ("UPDATE grants SET role_no = 0 WHERE role_no = 2", &OF_ROLES),
-    ("UPDATE grants SET role_no = 7 WHERE role_no = 2", &OF_ROLES),
-    (
-        "UPDATE grants SET role_no = -6 WHERE role_no = 2",
-        &OF_ROLES,
-    ),
+    ("UPDATE grants SET role_no = 0 WHERE role_no = 2", &OF_ANN),
+    ("UPDATE grants SET role_no = 7 WHERE role_no = 2", &OF_ANN),
+    ("UPDATE grants SET role_no = -6 WHERE role_no = 2", &OF_ANN),
     // the moment of an end
     (
         "UPDATE grants SET end_s = 3155760000 WHERE role_no = 2",
