@@ -87,7 +87,8 @@ def lines_in(path: pathlib.Path) -> collections.abc.Iterator[bytes]:
     """The lines of a file, as far as it can be read."""
     with gzip.open(path, "rb") if path.name.endswith(".gz") else path.open("rb") as opened_file:
         try:
-            yield from opened_file
+            # each line of the log follows a line feed of its own
+            yield from (it for it in opened_file if it.strip())
         except (EOFError, zlib.error, gzip.BadGzipFile):
             # what is cut off counts as a damaged line
             yield b"cut off"

@@ -279,7 +279,8 @@ class Reader:
             raise BadHeader(f"the column {self.mapping.header(twice[0])!r} stands twice")
         lacking = [self.mapping.header(it) for it in (*COLUMNS, *sorted(set(self.mapping.columns) & set(OTHERS))) if it not in places]
         if lacking:
-            raise BadHeader(f"there is no column {', '.join(map(repr, lacking))}; the columns are {', '.join(names)}")
+            # without the names that are there: the first line of a file that is none of events may be anything
+            raise BadHeader(f"there is no column {', '.join(map(repr, lacking))} among the {len(names)} of the first line")
         return Columns(self, delimiter, len(names), places)
 
     def row(self, row: Row, fields: list[str], places: dict[str, int], fold: int | None) -> Row:

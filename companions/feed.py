@@ -8,16 +8,16 @@ before and after it are imported.
 import collections.abc
 import dataclasses
 import datetime
-import itertools
 import math
 import os
 import pathlib
+import statistics
 import time
 import typing
 
 import click
 
-from companions import calls, connection, events, newest, options, tally, values
+from companions import calls, connection, events, newest, options, spool, tally, values
 
 DONE, BAD = "done", "bad"
 LONGEST_PAUSE = 60.0
@@ -25,7 +25,9 @@ MOST_LISTED = 10  # bad rows of a file that are printed; all stand in its file o
 GROWS_LONG = 60.0  # seconds after which a file that still grows is named
 MOST_READ = 16_777_216  # bytes of a growing file that are read between two looks
 COMPARED = 1_024  # bytes at the begin of a growing file, and before the place that was read to
-Mark = tuple[int, int, int]
+GREATEST_STEP = 10_000_000  # by how much the number of an event may be beyond the greatest before
+NUMBER_DIGITS = 18
+Opener = collections.abc.Callable[[str, int], int]
 
 
 @dataclasses.dataclass(frozen=True)
@@ -43,6 +45,12 @@ def fault_of(rows: list[events.Row], refusal: connection.Refusal) -> Fault:
         raise refusal
     # the header is the first record
     return Fault(rows[int(refusal.value["line"]) - 2], str(refusal.value["cause"]), refusal.line)
+
+
+def number_of(row: events.Row) -> int | None:
+    """The number of a row; None if it has none, which the office says."""
+    text = events.split(row.text.decode(errors="replace"), ",")[0]
+    return int(text) if text.isascii() and text.isdigit() and len(text) <= NUMBER_DIGITS else None
 
 
 def moment_of(row: events.Row) -> datetime.datetime:
@@ -88,16 +96,16 @@ class BadRows:
         """Keeps a row, and gives what is said of it."""
         row, words = fault.row, f"line {fault.row.line}: {fault.cause}: {fault.said}"
         self.count += 1
-        file = self.folder / self.name
-        if not self.known and file.exists():
-            self.known = set(file.read_bytes().splitlines())
-        if row.original not in self.known:
-            self.folder.mkdir(exist_ok=True)
-            with file.open("ab") as rows, file.with_name(file.name + ".txt").open("a", encoding="utf-8") as causes:
-                causes.write(f"{words}: {row.original.decode(errors='replace')}\n")
-                causes.flush()
-                rows.write(b"".join(it + b"\n" for it in ([] if self.known else [self.header]) + [row.original]))
-            self.known |= {self.header, row.original}
+        with spool.opened(self.folder) as folder:
+            if not self.known and folder.has(self.name):
+                with folder.open(self.name, "rb") as rows:
+                    self.known = set(rows.read().splitlines())
+            if row.original not in self.known:
+                with folder.open(self.name, "ab") as rows, folder.open(self.name + ".txt", "ab") as causes:
+                    causes.write(words.encode() + b": " + row.original + b"\n")
+                    causes.flush()
+                    rows.write(b"".join(it + b"\n" for it in ([] if self.known else [self.header]) + [row.original]))
+                self.known |= {self.header, row.original}
         return words
 
 
@@ -116,11 +124,15 @@ class Feeding:
     bad: BadRows | None = None
     newest: datetime.datetime | None = None  # the moment of the newest event that was imported
     named: datetime.datetime | None = None  # the one that was said to be too old
+    greatest_step: int = GREATEST_STEP  # 0 for any
+    greatest: int | None = None  # the greatest number that was sent
+    strangers: set[str] = dataclasses.field(default_factory=set)  # those that were said
 
     def send(self, piece: events.Piece) -> tuple[int, int]:
         """Imports a piece. A row that the office does not take is kept aside; while there are many, the rows go in small pieces."""
         sent = Sent()
-        rows, size = piece.rows, len(piece.rows)
+        rows = self.rows_in_reach(piece)
+        size = len(rows)
         while rows:
             part = events.Piece(rows[:size])
             fault = self.send_good(part, sent)
@@ -133,13 +145,38 @@ class Feeding:
             rows, size = rows[:before] + rows[before + 1 :], max(before, 1)
         return sent.new, sent.repeated
 
+    def rows_in_reach(self, piece: events.Piece) -> list[events.Row]:
+        """The rows whose numbers are not far beyond the greatest before, or at first beyond that in the middle. One that is far beyond would end the
+        unit's feed: each event with a lesser number and a later moment would be out of order. It is kept aside."""
+        if self.greatest_step == 0:
+            return piece.rows
+        found = []
+        for row in piece.rows:
+            number = number_of(row)
+            if number is not None:
+                if self.greatest is None:
+                    self.greatest = statistics.median_low(it for it in map(number_of, piece.rows) if it is not None)
+                if number > self.greatest + self.greatest_step:
+                    self.keep_aside(Fault(row, "NumberFarAhead", f"more than {self.greatest_step:,} beyond {self.greatest}: see --greatest-step"))
+                    continue
+                self.greatest = max(self.greatest, number)
+            found.append(row)
+        return found
+
     def note_newest(self) -> None:
-        """Keeps the moment of the newest event that was imported, also one of a run before this."""
+        """Keeps the moment of the newest event that was imported, also one of a run before this, and the greatest number."""
         if self.state is None or self.newest is None:
             return
         if self.state.is_file():
             self.newest = max(self.newest, newest.read_state(self.state)[1])
-        newest.write_state(self.state, self.unit, self.newest)
+        newest.write_state(self.state, self.unit, self.newest, self.greatest)
+
+    def say_strangers(self, folder: pathlib.Path) -> list[str]:
+        """What is in a spool folder under the name of a file of events, and is none; what was not said before."""
+        found = spool.strangers_in(folder)
+        said = [f"{it} is not a regular file of this folder, and is not read" for it in found if it not in self.strangers]
+        self.strangers = set(found)
+        return said
 
     def say_age(self) -> None:
         """Names the newest event once it is too old, and again once another one has come and is too old, too."""
@@ -214,10 +251,10 @@ class Feeding:
             if new or repeated:
                 click.echo(f"{name}: {new:,} new, {repeated:,} repeated")
 
-    def import_file(self, path: pathlib.Path, bad: pathlib.Path) -> None:
+    def import_file(self, path: pathlib.Path, bad: pathlib.Path, opener: Opener | None = None) -> None:
         """Imports a file, with its bad rows to a folder, or raises Bad for its header. A dry run only counts its rows."""
         try:
-            with path.open("rb") as opened_file:
+            with open(path, "rb", opener=opener) as opened_file:
                 lines = events.Lines().rows(events.chunks_of(opened_file))
                 head = next(lines, None)
                 if head is None:
@@ -233,9 +270,10 @@ class Feeding:
                     self.say_bad()
         except events.BadHeader as error:
             raise Bad(1, "Header", str(error)) from error
-        except FileNotFoundError:
-            click.echo(f"{path.name} is there no longer", err=True)
         except OSError as error:
+            if isinstance(error, FileNotFoundError) and error.filename == str(path):
+                click.echo(f"{path.name} is there no longer", err=True)
+                return
             raise connection.Trouble(f"{error.filename or path}: {error.strerror}") from error
 
     def say_bad(self) -> None:
@@ -249,12 +287,12 @@ class Feeding:
         """Imports files of a folder in this order. One that is done goes to the folder `done`, a bad one to `bad`, with what the office said."""
         for name in names:
             path, bad = folder / name, None
-            before = mark_of(path)
+            before = spool.mark_of(path)
             try:
-                self.import_file(path, self.bad_folder or folder / BAD)
+                self.import_file(path, self.bad_folder or folder / BAD, spool.open_regular)
             except Bad as error:
                 bad = error
-            after = mark_of(path)
+            after = spool.mark_of(path)
             if after not in (None, before):
                 # what has come since was not read
                 click.echo(f"{name} was written meanwhile, and stays in the folder", err=True)
@@ -266,15 +304,18 @@ class Feeding:
             if bad is not None:
                 set_aside(path, str(bad))
             else:
-                path.rename(place_in(folder / DONE, name))
+                with spool.opened(folder / DONE) as done:
+                    done.take(path, done.free_name(name))
 
     def follow_spool(self, folder: pathlib.Path) -> typing.NoReturn:
         """Imports what is there and what comes, for ever. A file is taken once it has not changed between two looks. One that still grows does not
         stop the others, since the office takes events in any order."""
-        seen: dict[str, Mark | None] = {}
+        seen: dict[str, spool.Mark | None] = {}
         first: dict[str, float] = {}
         while True:
-            marks = {it: mark_of(folder / it) for it in names_in(folder)}
+            for words in self.say_strangers(folder):
+                click.echo(words, err=True)
+            marks = {it: spool.mark_of(folder / it) for it in spool.names_in(folder)}
             growing = [it for it in marks if seen.get(it) != marks[it]]
             first = {it: first.get(it, time.monotonic()) for it in growing}
             for name in growing:
@@ -364,35 +405,13 @@ class Growing:
             return False
 
 
-def names_in(folder: pathlib.Path) -> list[str]:
-    """The files of a spool folder: *.csv, in the order of their names. One that begins with a dot is still being written."""
-    return sorted(it.name for it in folder.glob("*.csv") if it.is_file() and not it.name.startswith("."))
-
-
-def mark_of(path: pathlib.Path) -> Mark | None:
-    """What changes with a file; None if there is none."""
-    try:
-        found = path.stat()
-    except FileNotFoundError:
-        return None
-    return found.st_ino, found.st_size, found.st_mtime_ns
-
-
-def place_in(folder: pathlib.Path, name: str) -> pathlib.Path:
-    """A place for a file in a folder, under its name or one with a number."""
-    folder.mkdir(exist_ok=True)
-    numbers = itertools.count(2)
-    place = folder / name
-    while place.exists():
-        place = folder / f"{name}.{next(numbers)}"
-    return place
-
-
 def set_aside(path: pathlib.Path, said: str) -> None:
     """Moves a bad file away, after it was written beside it why."""
-    place = place_in(path.parent / BAD, path.name)
-    place.with_name(place.name + ".txt").write_text(said + "\n")
-    path.rename(place)
+    with spool.opened(path.parent / BAD) as folder:
+        name = folder.free_name(path.name)
+        with folder.open(name + ".txt", "wb") as cause:
+            cause.write(said.encode() + b"\n")
+        folder.take(path, name)
 
 
 @click.command(name="feed")
@@ -403,6 +422,7 @@ def set_aside(path: pathlib.Path, said: str) -> None:
 @click.option("--bad", type=click.Path(file_okay=False, path_type=pathlib.Path), help="Where bad rows go.  [default: DIR/bad, or bad beside FILE]")
 @click.option("--state", type=click.Path(dir_okay=False, path_type=pathlib.Path), help="A file to write, with the moment of the newest event.")
 @click.option("--every", type=click.FloatRange(0.05, 3_600), default=2.0, show_default=True, help="With --follow: seconds between two looks.")
+@click.option("--greatest-step", type=click.IntRange(0), default=GREATEST_STEP, show_default=True, help="How far a number may leap; 0: any.")
 @click.option("--longest-wait", type=click.FloatRange(0), default=3_600.0, show_default=True, help="Seconds to wait for the office's clock.")
 @options.dry_run
 @options.connected
@@ -414,6 +434,7 @@ def command(
     bad: pathlib.Path | None,
     state: pathlib.Path | None,
     every: float,
+    greatest_step: int,
     longest_wait: float,
     dry_run: bool,
     **words: typing.Any,
@@ -422,10 +443,10 @@ def command(
 
     DIR is a spool folder: its files *.csv are imported in the order of their names, and a file that is done goes to DIR/done. A row that the office
     does not take goes to DIR/bad/NAME, and to NAME.txt beside it with its line, its cause and the office's answer; the rows before and after it are
-    imported. Mend the rows in DIR/bad/NAME and put that file into DIR. A file without the columns goes to DIR/bad as a whole. Let the control system
-    write under a name that begins with a dot, and rename the file once it is whole; one that still grows waits, and does not stop the others. FILE is
-    a single file; with --follow it may grow, be replaced by one of its name, or be written anew in its place. A file that was replaced while no
-    command ran is imported by its new name.
+    imported. Mend the rows in DIR/bad/NAME and put that file into DIR. A file without the columns goes to DIR/bad whole. Only regular files of DIR
+    are read, and no links. Let the control system write under a name that begins with a dot, and rename the file once it is whole; one that still
+    grows waits, and does not stop the others. FILE is a single file; with --follow it may grow, be replaced by one of its name, or be written anew in
+    its place. A file that was replaced while no command ran is imported by its new name.
 
     The files have the columns seq, moment, tag and event, also among others, and as the mapping names them; each event is one line. They are sent in
     pieces of at most 10,000 rows and 1 MiB. Where the office says MomentAhead, the rest waits until its clock has passed the moment. No state is
@@ -447,6 +468,8 @@ def command(
         [skip]
         event = ["INFO"]              # rows that are not wanted
 
+    A row whose number is more than --greatest-step beyond the greatest before goes to DIR/bad: by it the office would refuse all that follows.
+
     --state writes the moment of the newest event to a file, for office handover and the board. With --follow the command says so if that is more than
     15 minutes ago.
 
@@ -460,14 +483,17 @@ def command(
         raise click.UsageError("--dry-run does not go with --follow")
     reader = events.Reader(unit, mapping)
     with options.office_of(**words) as office, tally.Tally(dry_run) as count:
-        feeding = Feeding(office, unit, reader, count, longest_wait, every, state, bad)
+        feeding = Feeding(office, unit, reader, count, longest_wait, every, state, bad, greatest_step=greatest_step)
+        if state is not None:
+            feeding.greatest = newest.greatest_of(state)
         try:
             if follow and source.is_dir():
                 feeding.follow_spool(source)
             if follow:
                 feeding.follow_file(source)
             if source.is_dir():
-                feeding.import_spool(source, names_in(source))
+                count.refused += [f"refused: {it}" for it in feeding.say_strangers(source)]
+                feeding.import_spool(source, spool.names_in(source))
             else:
                 feeding.import_file(source, bad or source.parent / BAD)
         except Bad as error:

@@ -50,9 +50,19 @@ def of_unit(
     return of_moments(found, at, limit)
 
 
-def write_state(path: pathlib.Path, unit: str, moment: datetime.datetime) -> None:
-    """The state of a feed, for the handover and the board."""
-    pages.write(json.dumps({"unit": unit, "event": values.text_of(moment)}) + "\n", path)
+def write_state(path: pathlib.Path, unit: str, moment: datetime.datetime, greatest: int | None = None) -> None:
+    """The state of a feed, for the handover and the board; and the greatest number, for the feed."""
+    members = {"unit": unit, "event": values.text_of(moment)} | ({} if greatest is None else {"seq": greatest})
+    pages.write(json.dumps(members) + "\n", path)
+
+
+def greatest_of(path: pathlib.Path) -> int | None:
+    """The greatest number that a feed has sent, if its state has one."""
+    try:
+        found = json.loads(path.read_text(encoding="utf-8")).get("seq")
+    except (OSError, ValueError, AttributeError):
+        return None
+    return found if isinstance(found, int) else None
 
 
 def read_state(path: pathlib.Path) -> tuple[str, datetime.datetime]:

@@ -43,7 +43,7 @@ def enter(room):
     os.chroot(room / "root")
     os.chdir("/")
     os.environ["PATH"] = PATH
-    for stand_in in "systemctl", "journalctl":
+    for stand_in in "systemctl", "journalctl", "timedatectl":
         shutil.copy(TOP / "scripts/systemctl", f"/usr/local/bin/{stand_in}")
     # by this a package's scripts see that systemd runs
     pathlib.Path("/run/systemd/system").mkdir(parents=True)

@@ -77,8 +77,9 @@ class Plant:
         folder = self.folder / "proxy"
         if not folder.exists():
             subprocess.run([DEPLOY / "on-loopback", folder, "root", "ste", *ROLES], check=True)
-            site = folder / "site"
-            site.write_text(site.read_text().replace("8080", str(self.port)).replace("8081", str(self.proxy_port)))
+            for name, usual, port in ("site", "8080", self.port), ("site.d/listen.conf", "8081", self.proxy_port):
+                file = folder / name
+                file.write_text(file.read_text().replace(usual, str(port)))
         words = ["nginx", "-c", str(folder / "nginx.conf"), "-e", str(folder / "error.log")]
         # a session of its own: nginx has a worker, which a kill has to reach, too
         self.proxy = subprocess.Popen(words, env=os.environ | {"TZ": "UTC"}, start_new_session=True)

@@ -17,6 +17,7 @@ import pytest
 from hypothesis import strategies
 
 from companions import calls, connection, events, feed, newest, sheets, tally, values
+from companions import spool as spools
 from companions.tests import plant as plants
 from companions.tests.plant import Plant, office as typed
 
@@ -301,8 +302,80 @@ def test_a_folder_in_which_nothing_can_be_moved_is_named(plant: Plant) -> None:
     folder = spool(plant, a=HEADER + line(1))
     (folder / "done").write_text("")
     said = typed("feed", folder, "--unit", "U1", *plant.words("ann"))
-    assert said.returncode == 1 and "spool/done: File exists" in said.stdout and "done 1, there already 0, refused 0" in said.stdout
+    assert said.returncode == 1 and "spool/done: Not a directory" in said.stdout and "done 1, there already 0, refused 0" in said.stdout
     assert "a.csv" in names(folder)
+
+
+@pytest.mark.parametrize("what", ["environment", "file", "pipe", "folder"])
+def test_nothing_but_regular_files_of_the_folder_is_read(plant: Plant, what: str, tmp_path: pathlib.Path, monkeypatch: pytest.MonkeyPatch) -> None:
+    monkeypatch.setenv("OFFICE_PASSWORD", "first-secret")
+    secret = tmp_path / "secret.csv"
+    secret.write_text(HEADER + "second-secret,x,A,ACT\n")
+    folder = spool(plant, b=HEADER + line(1))
+    if what == "pipe":
+        os.mkfifo(folder / "a.csv")
+    elif what == "folder":
+        (folder / "a.csv").mkdir()
+    else:
+        (folder / "a.csv").symlink_to("/proc/self/environ" if what == "environment" else secret)
+    words = plants.command("feed", folder, "--unit", "U1", *plant.words("ann"))
+    said = subprocess.run(words, capture_output=True, text=True, timeout=60)
+    assert said.returncode == 1 and "refused: a.csv is not a regular file of this folder, and is not read" in said.stdout, said
+    assert names(folder) == (["a.csv"] if what in ("file", "environment") else []) + ["done/b.csv"]
+    written = [it.read_bytes() for it in folder.rglob("*") if it.is_file() and not it.is_symlink()]
+    assert not any(b"secret" in it for it in [said.stdout.encode(), said.stderr.encode(), *written])
+
+
+def test_a_header_that_is_wrong_shows_nothing_of_the_file(plant: Plant) -> None:
+    folder = spool(plant, a="OFFICE_PASSWORD=secret,x\n")
+    said = typed("feed", folder, "--unit", "U1", *plant.words("ann"))
+    words = "there is no column 'seq', 'moment', 'tag', 'event' among the 2 of the first line"
+    assert f"refused: a.csv: line 1: Header: {words}" in said.stdout, said.stdout
+    assert "secret" not in said.stdout + (folder / "bad/a.csv.txt").read_text()
+
+
+@pytest.mark.parametrize("link", ["bad", "bad/a.csv", "bad/a.csv.txt"])
+def test_nothing_is_written_through_a_link(plant: Plant, link: str, tmp_path: pathlib.Path) -> None:
+    folder = spool(plant, a=HEADER + line(1, tag="Z"))
+    target = tmp_path / "target"
+    if link == "bad":
+        target.mkdir()
+    else:
+        (folder / "bad").mkdir()
+        target.write_text("its own\n")
+    (folder / link).symlink_to(target)
+    said = typed("feed", folder, "--unit", "U1", *plant.words("ann"))
+    assert said.returncode != 0, said.stdout
+    assert list(target.iterdir()) == [] if link == "bad" else target.read_text() == "its own\n"
+
+
+@pytest.mark.parametrize("mode, wanted", [(0o2770, "2770 660"), (0o755, "755 644")])
+def test_who_may_write_to_the_spool_may_put_mended_files_back(plant: Plant, mode: int, wanted: str) -> None:
+    folder = spool(plant, a=HEADER + line(1, tag="Z"))
+    folder.chmod(mode)
+    assert typed("feed", folder, "--unit", "U1", *plant.words("ann")).returncode == 1
+    for name in "bad", "done":
+        assert f"{(folder / name).stat().st_mode & 0o7777:o}" == wanted.split()[0]
+    for name in "bad/a.csv", "bad/a.csv.txt":
+        assert f"{(folder / name).stat().st_mode & 0o7777:o}" == wanted.split()[1]
+
+
+def test_a_number_far_beyond_the_others_is_not_sent(plant: Plant) -> None:
+    state = plant.folder / "U1.json"
+    poison = "999999999999,2026-03-01T08:00:03Z,A,RTN\n"
+    folder = spool(plant, a=HEADER + line(1) + poison + line(4), b=HEADER + line(5))
+    said = typed("feed", folder, "--unit", "U1", "--state", state, *plant.words("ann"))
+    assert said.returncode == 1, said.stdout
+    assert "refused: a.csv: line 3: NumberFarAhead: more than 10,000,000 beyond 4: see --greatest-step" in said.stdout, said.stdout
+    assert plant.rows("SELECT seq FROM events ORDER BY seq") == [(1,), (4,), (5,)]
+    assert (folder / "bad/a.csv").read_text() == HEADER + poison
+    # a file of this row alone: the number before is that of an earlier run
+    spool(plant, c=HEADER + poison)
+    assert "more than 10,000,000 beyond 5" in typed("feed", folder, "--unit", "U1", "--state", state, *plant.words("ann")).stdout
+    far = line(20_000_000, second=9)
+    spool(plant, d=HEADER + far)
+    assert typed("feed", folder, "--unit", "U1", "--state", state, "--greatest-step", "0", *plant.words("ann")).returncode == 0
+    assert plant.rows("SELECT max(seq) FROM events") == [(20_000_000,)]
 
 
 def test_it_waits_until_the_offices_clock_has_passed_a_moment(plant: Plant) -> None:
@@ -505,7 +578,7 @@ def run_until(plant: Plant, unit: str, folder: pathlib.Path, steps: int | None) 
         patch.setattr(pathlib.Path, "rename", killed_rename)
         try:
             with tally.Tally() as found:
-                feed.Feeding(office, unit, events.Reader(unit), found, 0.0, 0.0).import_spool(folder, feed.names_in(folder))
+                feed.Feeding(office, unit, events.Reader(unit), found, 0.0, 0.0).import_spool(folder, spools.names_in(folder))
         except Kill:
             return False
     return True
@@ -551,7 +624,7 @@ def test_any_order_and_any_kills_end_in_the_books_of_one_clean_run(long_plant: P
                 for steps in data.draw(strategies.lists(strategies.integers(0, 12), max_size=6)):
                     run_until(long_plant, unit, folder, steps)
             assert run_until(long_plant, unit, folder, None)
-            assert feed.names_in(folder) == []
+            assert spools.names_in(folder) == []
     for table, columns in ("events", "seq, moment_s, tag, kind_no"), ("alarms", "tag, state_no, suppressed, active_s, return_s"):
         rows = [long_plant.rows(f"SELECT {columns} FROM {table} WHERE unit = '{it}' ORDER BY 1") for it in (clean, killed)]
         assert rows[0] == rows[1] and len(rows[0]) == (len(lines) if table == "events" else len(TAGS))
@@ -563,7 +636,7 @@ def test_killed_again_and_again_it_loses_and_repeats_nothing(plant: Plant) -> No
     folder = spool(plant, **{f"f{it:02}": HEADER + "".join(rows[it * 5_000 : (it + 1) * 5_000]) for it in range(8)})
     chosen, kills = random.Random(1), 0
     words = plants.command("feed", folder, "--unit", "U1", *plant.words("ann"))
-    while feed.names_in(folder):
+    while spools.names_in(folder):
         process = subprocess.Popen(words, stdout=subprocess.DEVNULL)
         try:
             process.wait(0.5 + chosen.random())

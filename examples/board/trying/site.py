@@ -123,15 +123,18 @@ class Site:
         self.replace(
             "site",
             ("127.0.0.1:8080", f"127.0.0.1:{self.relay_port}"),
-            ("127.0.0.1:8081", f"127.0.0.1:{self.port}"),
             # the relay ends each connection after its request
             ("    keepalive 16;\n", ""),
         )
+        self.replace("site.d/listen.conf", ("127.0.0.1:8081", f"127.0.0.1:{self.port}"))
         # nginx knows two offices, and leaves it to the relay to tell which of them a list is asked of
         (self.folder / "offices").write_text("A shelfoffice;\nB shelfoffice;\n")
         self.replace(
-            "snippets/shelfoffice.conf",
+            "snippets/shelfoffice-call.conf",
             ('proxy_set_header Connection "";', "proxy_set_header Connection close;"),
+        )
+        self.replace(
+            "snippets/shelfoffice.conf",
             ("    rewrite ^/offices/[^/]+(/units|/shelves)$ $1;\n", ""),
         )
 
