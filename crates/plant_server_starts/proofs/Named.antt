@@ -108,7 +108,7 @@ module _ (ran : List Call → List Answer → Type 0) where
       it.sent.made,
       record {
         result = it.result;
-        sent = record { events = it.sent.events; count = it.sent.count; connections = it.sent.connections; made = (refl, refl); answered = it.sent.answered; goes = it.sent.goes; ends = it.sent.ends; fair = it.sent.fair; steady = it.sent.steady; bounded = it.sent.bounded; in_order = it.sent.in_order; caused = it.sent.caused; offered = it.sent.offered; stops = it.sent.stops };
+        sent = record { events = it.sent.events; count = it.sent.count; connections = it.sent.connections; made = (refl, refl); answered = it.sent.answered; goes = it.sent.goes; ends = it.sent.ends; fair = it.sent.fair; steady = it.sent.steady; bounded = it.sent.bounded; soon = it.sent.soon; heeded = it.sent.heeded; in_order = it.sent.in_order; caused = it.sent.caused; offered = it.sent.offered; stops = it.sent.stops };
         status = it.status;
         said = it.said;
         shut = it.shut;
