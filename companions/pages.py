@@ -25,6 +25,11 @@ def minute(moment: datetime.datetime | None) -> str:
     return "" if moment is None else moment.astimezone(datetime.timezone.utc).strftime("%Y-%m-%d %H:%M")
 
 
+def number(value: float) -> str:
+    """A number as a page has it: thousands apart, and no more than two places."""
+    return f"{value:,.2f}".rstrip("0").rstrip(".") if value % 1 else f"{value:,.0f}"
+
+
 def environment() -> jinja2.Environment:
     found = jinja2.Environment(
         loader=jinja2.FileSystemLoader(TEMPLATES),
@@ -36,6 +41,7 @@ def environment() -> jinja2.Environment:
     )
     found.filters["minute"] = minute
     found.filters["length"] = values.length_of
+    found.filters["number"] = number
     return found
 
 
