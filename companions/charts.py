@@ -60,17 +60,22 @@ def bars(
     return markupsafe.Markup("\n".join([*parts, "</svg>"]))
 
 
-def of_floods(floods: collections.abc.Sequence[lists.Flood], begin: datetime.datetime, until: datetime.datetime) -> markupsafe.Markup:
-    """The floods of a shift: each as wide as it lasted, as high as its worst ten minutes."""
+def of_floods(
+    floods: collections.abc.Sequence[lists.Flood], begin: datetime.datetime, until: datetime.datetime, zone: datetime.tzinfo | None = None
+) -> markupsafe.Markup:
+    """The floods of a shift: each as wide as it lasted, as high as its worst ten minutes. The hours are those of a zone, or of UTC."""
     whole = (until - begin).total_seconds()
+
+    def hour(moment: datetime.datetime) -> str:
+        return f"{moment.astimezone(zone or datetime.timezone.utc):%H:%M}"
 
     def place(moment: datetime.datetime) -> float:
         return (moment - begin).total_seconds() / whole
 
-    found = [Bar(place(it.start), place(it.until), it.peak, f"{it.start:%H:%M} to {it.until:%H:%M}: {it.total} activations") for it in floods]
+    found = [Bar(place(it.start), place(it.until), it.peak, f"{hour(it.start)} to {hour(it.until)}: {it.total} activations") for it in floods]
     step = max(1, round(whole / 3_600 / 8))
     hours = [begin + datetime.timedelta(hours=it) for it in range(0, int(whole // 3_600) + 1, step)]
-    return bars(found, [Mark(place(it), f"{it:%H:%M}") for it in hours if 0.02 < place(it) < 0.98], "floods of the shift")
+    return bars(found, [Mark(place(it), hour(it)) for it in hours if 0.02 < place(it) < 0.98], "floods of the shift")
 
 
 def line_of_floods(floods: collections.abc.Sequence[lists.Flood], begin: datetime.datetime, until: datetime.datetime) -> str:

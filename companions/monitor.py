@@ -7,7 +7,7 @@ import pathlib
 
 import click
 
-from companions import audit, backups, connection, keeping, measuring, monitor_pages, newest, options, pages, reporting, targets, values
+from companions import audit, backups, connection, descriptions, keeping, measuring, monitor_pages, newest, options, pages, reporting, targets, values
 
 TOGETHER = "all units together"
 ALARMS_OF_ONE_HOUR, ALARMS_OF_TEN_MINUTES = 30, 10
@@ -120,6 +120,7 @@ class Sources:
     books: Books
     log: audit.Log | None
     settings: targets.Settings
+    described: descriptions.Described = descriptions.NONE
     silences: dict[str, keeping.Silences] = dataclasses.field(default_factory=dict)
 
 
@@ -172,7 +173,7 @@ def notes(sources: Sources) -> list[str]:
         " missing here.",
         "An activation is an ACT of an alarm that was not active, also of one that is shelved, out of service or suppressed by design."
         " Floods are those of the office: more than 10 activations in ten minutes begin one, and fewer than 5 end it.",
-        "Priorities are those of the backup, also for activations before they were in force. Targets are for the alarms that one operator looks after.",
+        "Priorities are those of the backup, also for activations before they were in force. Targets are for the alarms of one operator.",
     ]
     if sources.log is None:
         found.append("No audit log was given. So of shelves only the last one of each alarm is known, unless somebody ended it; and of removals from"
@@ -192,7 +193,7 @@ def page_of(units: list[str], sources: Sources) -> monitor_pages.Page:
     if len(units) > 1:
         sections.insert(0, section_of(TOGETHER, units, measuring.together(pasts.values()), sources))
     name = "all events" if sources.month is None else f"{sources.month.begin:%Y-%m}"
-    return monitor_pages.Page(name, units, notes(sources), sources.settings, sections)
+    return monitor_pages.Page(name, units, notes(sources), sources.settings, sections, sources.described)
 
 
 def units_of(books: Books, meant: collections.abc.Sequence[str]) -> list[str]:
@@ -211,6 +212,7 @@ def units_of(books: Books, meant: collections.abc.Sequence[str]) -> list[str]:
 @click.option("--month", metavar="YEAR-MONTH", help="The month, as 2026-03.  [default: all events]")
 @click.option("--units", type=options.Units(), default="all", help="With commas.  [default: all of the backup]")
 @click.option("--log", "logs", type=options.FOLDER, multiple=True, help="A file of the audit log, or a folder of them, for shelves and removals.")
+@options.described
 @click.option("--targets", "aims", type=options.FILE, help="A TOML file with rules and targets of the plant's own.")
 @click.option("--out", type=click.Path(file_okay=False, path_type=pathlib.Path), default=".", help="The folder to write.  [default: here]")
 def command(
@@ -218,6 +220,7 @@ def command(
     month: str | None,
     units: tuple[str, ...],
     logs: tuple[pathlib.Path, ...],
+    described: pathlib.Path | None,
     aims: pathlib.Path | None,
     out: pathlib.Path,
 ) -> int:
@@ -231,9 +234,10 @@ def command(
     Status: 0 written, 1 the log or the backup cannot be read, 2 the command line is wrong.
     """
     span = None if month is None else reporting.month_of(month)
+    about = descriptions.read(described)
     settings, log = targets.read_settings(aims), audit.read_log(logs) if logs else None
     with backups.opened_all(paths) as books:
-        page = page_of(units_of(books, units), Sources(span, books, log, settings))
+        page = page_of(units_of(books, units), Sources(span, books, log, settings, about))
     name = "monitor" if month is None else f"monitor-{month}"
     try:
         monitor_pages.write(page, out, name)

@@ -8,7 +8,7 @@ import pathlib
 
 import markupsafe
 
-from companions import charts, keeping, lists, measuring, pages, targets
+from companions import charts, descriptions, keeping, lists, measuring, pages, targets
 
 MOST_ROWS = 20  # of a list on the page; the tables beside it have all
 
@@ -87,6 +87,7 @@ class Page:
     notes: list[str]
     settings: targets.Settings
     sections: list[Section]
+    described: descriptions.Described = dataclasses.field(metadata=pages.UNSAID)
 
 
 def days_chart(section: Section, aim: float) -> markupsafe.Markup:
@@ -103,6 +104,8 @@ def json_of(page: Page) -> str:
     plain = pages.plain(page)
     for section in plain["sections"]:
         section |= section.pop("lists")
+        for row in (row for name in ("frequent", "chattering", "fleeting", "stale", "kept") for row in section[name]):
+            row["about"] = page.described.words(row["unit"], row["tag"])
         if len(page.sections) > 1 and section["name"] not in page.units:
             for name in ("chattering", "fleeting", "stale", "kept"):
                 del section[name]
@@ -124,6 +127,12 @@ def rows_of(page: Page, what: collections.abc.Callable[[Section], collections.ab
     return found
 
 
+def alarms_text(page: Page, heads: tuple[str, ...], what: collections.abc.Callable[[Section], collections.abc.Iterable[object]]) -> str:
+    """A table of alarms, each with its description at the end."""
+    rows = ([*row, page.described.words(str(row[1]), str(row[2]))] for row in rows_of(page, what))
+    return pages.csv_text(("of", "unit", "tag", *heads, "about"), rows)
+
+
 def tables(page: Page) -> dict[str, str]:
     """The CSV files beside the page."""
     alone = units_of(page)
@@ -132,22 +141,22 @@ def tables(page: Page) -> dict[str, str]:
         for section in page.sections for it in section.lists.floods
     )
     heads = ("of", "priority", "alarms", "activations", "alarms percent", "activations percent", "target percent")
-    kept = ("of", "unit", "tag", "how", "times", "seconds", "of unknown length")
     return {
         "figures": pages.csv_text(("of", "figure", "value", "target", "unit", "at"), rows_of(page, lambda it: it.figures)),
         "days": pages.csv_text(("of", "day", "activations"), rows_of(page, lambda it: it.days)),
-        "frequent": pages.csv_text(("of", "unit", "tag", "activations", "share"), rows_of(page, lambda it: it.lists.frequent)),
+        "frequent": alarms_text(page, ("activations", "share"), lambda it: it.lists.frequent),
         "floods": pages.csv_text(("of", "start", "until", "seconds", "activations", "most in ten minutes"), floods),
-        "chattering": pages.csv_text(("of", "unit", "tag", "bursts", "activations", "last"), rows_of(alone, lambda it: it.lists.chattering)),
-        "fleeting": pages.csv_text(("of", "unit", "tag", "times", "shortest"), rows_of(alone, lambda it: it.lists.fleeting)),
-        "stale": pages.csv_text(("of", "unit", "tag", "since", "end", "seconds"), rows_of(alone, lambda it: it.lists.stale)),
+        "chattering": alarms_text(alone, ("bursts", "activations", "last"), lambda it: it.lists.chattering),
+        "fleeting": alarms_text(alone, ("times", "shortest"), lambda it: it.lists.fleeting),
+        "stale": alarms_text(alone, ("since", "end", "seconds"), lambda it: it.lists.stale),
         "priorities": pages.csv_text(heads, rows_of(page, lambda it: it.priorities)),
-        "kept-silent": pages.csv_text(kept, rows_of(alone, lambda it: it.kept)),
+        "kept-silent": alarms_text(alone, ("how", "times", "seconds", "of unknown length"), lambda it: it.kept),
     }
 
 
 def html_of(page: Page, name: str) -> str:
-    members = {"page": page, "name": name, "days_chart": days_chart, "most": MOST_ROWS, "ways": (keeping.SHELVED, keeping.OUT, keeping.DESIGN)}
+    ways = keeping.SHELVED, keeping.OUT, keeping.DESIGN
+    members = {"page": page, "name": name, "days_chart": days_chart, "about": page.described.words, "most": MOST_ROWS, "ways": ways}
     return pages.render("monitor.html", members)
 
 

@@ -5,7 +5,7 @@ import json
 
 import pytest
 
-from companions import handover as handover_command, values
+from companions import shifts, values
 from companions.tests.plant import Plant, office as typed
 
 AT = "2026-03-01T10:00:00Z"
@@ -191,7 +191,8 @@ def test_the_page_as_json(plant: Plant) -> None:
     ("2099-12-31T23:59:59Z", "2099-12-31T15:50:00Z", "2099-12-31T23:50:00Z"),
 ])
 def test_the_shift_before_a_moment(at: str, begin: str, until: str) -> None:
-    assert tuple(map(values.text_of, handover_command.shift_before(values.moment_of(at), 8))) == (begin, until)
+    found = shifts.before(values.moment_of(at), 8)
+    assert (values.text_of(found.begin), values.text_of(found.until)) == (begin, until)
 
 
 def test_a_unit_without_a_role_is_refused(plant: Plant) -> None:

@@ -229,7 +229,7 @@ def test_the_tables_have_all_rows_and_no_formula(made: Made) -> None:
     made.events("U1", ENDS + [it for number in range(40) for it in comes("-1", BEGIN + 1_000 * number, 3)])
     out = monitor(made)
     with (out / "monitor-2026-03-frequent.csv").open(newline="") as opened_file:
-        assert list(csv.reader(opened_file))[1] == ["U1", "U1", "'-1", "40", "1.0"]
+        assert list(csv.reader(opened_file))[1] == ["U1", "U1", "'-1", "40", "1.0", ""]
     assert sorted(it.name for it in out.iterdir()) == sorted(
         ["monitor-2026-03.html", "monitor-2026-03.json",
          *(f"monitor-2026-03-{it}.csv" for it in
