@@ -1,7 +1,7 @@
 // Signing off at a shared console. A browser keeps the last name and password until it is closed. So the page lets it sign on as somebody
 // who holds nothing, by a path of the site that takes this name alone, and begins anew.
 
-import {$, say} from "./elements.js";
+import {$} from "./elements.js";
 import {sayNotice} from "./trouble.js";
 import {forgetUnits} from "./units.js";
 
@@ -26,5 +26,4 @@ $("sign-off").addEventListener("click", signOff);
 
 export const showSignOff = (person) => {
     $("sign-off").hidden = person === "";
-    say($("sign-off"), `Sign off ${person}`);
 };

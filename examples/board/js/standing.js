@@ -1,6 +1,6 @@
 // The standing alarms of the unit: those that ask for attention first, then by priority, then the latest; or in another order.
 
-import {$, fill, make, makeLink, say} from "./elements.js";
+import {$, fill, make, makeLink, put, say} from "./elements.js";
 import {addressOf, here} from "./here.js";
 import {isSuppressed, isUnacknowledged, makeFlags, makeMark, makeState} from "./marks.js";
 import {sortedBy} from "./order.js";
@@ -25,14 +25,17 @@ const standingList = {
             state.show(alarm);
             flags.show(alarm);
             say(since, sinceText(alarm.since));
+            put(since, "class", isOfToday(alarm.since) ? "since" : "since long");
         };
         return {node, show};
     },
 };
 
+const isOfToday = (since) => momentNow() - Date.parse(since) < DAY;
+
 export function sinceText(since) {
     const begin = Date.parse(since);
-    return momentNow() - begin < DAY ? `since ${minuteText(begin)}` : `since ${plainMoment(since).slice(0, 16)}`;
+    return isOfToday(since) ? `since ${minuteText(begin)}` : `since ${plainMoment(since).slice(0, 16)}`;
 }
 
 export const sortedStanding = () => sortedBy($("sort-standing").value, rows, (alarm) => alarm.since);

@@ -160,7 +160,7 @@ def try_drawing(page, unit, tag, browser):
 
 def try_signing_off(site, browser):
     page = Page(browser, site.address("vic", "#U1"))
-    page.press("Sign off vic")
+    page.press("sign-off")
     wait_for("nothing of vic is shown", lambda: "401" in page.value("document.title"), 20)
     page.send("Page.navigate", url=f"http://127.0.0.1:{site.port}/board/")
     wait_for("the browser has forgotten vic", lambda: "401" in page.value("document.title"), 20)
