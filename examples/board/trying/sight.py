@@ -159,11 +159,14 @@ def try_drawing(page, unit, tag, browser):
 
 
 def try_signing_off(site, browser):
+    """The browser forgets the name and the password, and nothing of the page stays."""
     page = Page(browser, site.address("vic", "#U1"))
     page.press("sign-off")
-    wait_for("nothing of vic is shown", lambda: "401" in page.value("document.title"), 20)
-    page.send("Page.navigate", url=f"http://127.0.0.1:{site.port}/board/")
-    wait_for("the browser has forgotten vic", lambda: "401" in page.value("document.title"), 20)
+    is_gone = "document.querySelector('#alarm-table') === null"
+    wait_for("nothing of vic is shown", lambda: page.value(is_gone), 20)
+    wait_for("vic is forgotten", lambda: 'user "signed-off" was not found' in (site.folder / "error.log").read_text(), 20)
+    status = page.send("Page.navigate", url=f"http://127.0.0.1:{site.port}/board/?again").get("errorText", "")
+    expect((status, page.value(is_gone)), ("net::ERR_INVALID_AUTH_CREDENTIALS", True), "the board for whoever comes next")
     browser.send("Target.closeTarget", targetId=page.target)
 
 
