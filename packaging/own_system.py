@@ -96,7 +96,7 @@ class System:
     def begin(self):
         self.group.mkdir(exist_ok=True)
         script = 'echo $$ >"$0/cgroup.procs"; shift 0; exec unshare --mount --uts --ipc --pid --net --cgroup --fork --kill-child bash -c "$1" begin "$2" "$3"'
-        self.process = subprocess.Popen(["bash", "-c", script, self.group, BEGIN, self.room, self.base], stdin=subprocess.DEVNULL)
+        self.process = subprocess.Popen(["bash", "-c", script, self.group, BEGIN, self.room, self.base], stdin=subprocess.DEVNULL, stderr=subprocess.DEVNULL)
         until = time.monotonic() + 120
         state = ""
         while not state.startswith(("running", "degraded")):
