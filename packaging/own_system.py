@@ -32,9 +32,10 @@ mount -o remount,bind,ro "$root/proc/sys"
 mount -t sysfs -o ro sysfs "$root/sys"
 mount -t cgroup2 cgroup2 "$root/sys/fs/cgroup"
 mount -t tmpfs -o mode=755 tmpfs "$root/dev"
-for it in null zero full random urandom tty; do
-    touch "$root/dev/$it"
-    mount --bind "/dev/$it" "$root/dev/$it"
+# nodes of its own: systemd changes the rights of some
+for it in "null 1 3" "zero 1 5" "full 1 7" "random 1 8" "urandom 1 9" "tty 5 0"; do
+    set -- "$1" "$2" $it
+    mknod -m 666 "$root/dev/$3" c "$4" "$5"
 done
 mkdir "$root/dev/pts" "$root/dev/shm"
 mount -t devpts -o newinstance,ptmxmode=0666,mode=620 devpts "$root/dev/pts"
@@ -50,7 +51,9 @@ mkdir -p "$root/old"
 cd "$root"
 pivot_root . old
 umount -l /old
-exec env -i container=try PATH=/usr/sbin:/usr/bin:/sbin:/bin /lib/systemd/systemd --system systemd.unified_cgroup_hierarchy=1
+# neither this machine's clock nor its modules are the system's to set
+exec env -i container=try PATH=/usr/sbin:/usr/bin:/sbin:/bin setpriv --bounding-set=-sys_time,-sys_module,-sys_rawio,-sys_boot \
+    /lib/systemd/systemd --system systemd.unified_cgroup_hierarchy=1
 """
 
 
