@@ -69,9 +69,13 @@ def make_base(base):
     """A Debian 12 in this folder, if it is not there yet; some five minutes, and the only part that needs a network."""
     if (base / "made").exists():
         return
-    if base.exists():
-        shutil.rmtree(base)
-    base.mkdir(parents=True)
+    # what an earlier run has begun goes; another folder is never touched
+    if (base / "begun").exists():
+        shutil.rmtree(base / "root", ignore_errors=True)
+    elif base.exists() and any(base.iterdir()):
+        sys.exit(f"{base} is not empty, and not of this script")
+    base.mkdir(parents=True, exist_ok=True)
+    (base / "begun").write_text("")
     print(f"debootstrap makes a Debian 12 in {base}", flush=True)
     run("debootstrap", "--variant=minbase", f"--include={','.join(THERE)}", "bookworm", base / "root", MIRROR)
     (base / "root/etc/apt/apt.conf.d/90try").write_text('APT::Get::Assume-Yes "true";\nAPT::Keep-Downloaded-Packages "true";\n')
