@@ -95,12 +95,12 @@ module _ {D N F : Type 0} {g : Ghosts D} (h : Ghosts N) (parts : PartsAnswerThei
   of_calls : (place : Place D) (path : List ℕ) (admin : Name) (after : Left D N F g) (store : FileStore D g) (calls : List Call) (answers : List Answer)
       → RanOnFiles (Begins place path) admin store after calls answers → CallPromises place path admin after store calls answers
   of_calls place path admin after store calls answers ran = record {
-    answered = λ w begins honest. (ran.answered w begins honest).answered;
-    apart = λ w begins honest. (ran.answered w begins honest).isolated;
+    answered = λ w begins clean. (ran.answered w begins clean).answered;
+    apart = λ w begins clean. (ran.answered w begins clean).isolated;
     unchanged = unchanged calls answers;
     lasting = λ w begins own clean. (ran.meanwhile w begins own clean, ran.afterwards w begins own clean);
-    split = λ units v begins honest on.
-        split parts units v (only units v) refl calls answers on (ran.answered (only units v) begins honest).answered;
+    split = λ units v begins clean on.
+        split parts units v (only units v) refl calls answers on (ran.answered (only units v) begins clean).answered;
   }
 
   -- over a port, to many connections at once

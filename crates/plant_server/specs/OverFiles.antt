@@ -9,7 +9,7 @@ use Rattle.sqlite_trees.specs.View.{IsClean}
 use Rattle.sqlite_wal.specs.{Reads.{AreClean}, Recovery.{Image}}
 use Rattle.plant_books.specs.Contents.{Content}
 use Rattle.plant_model.specs.{Worlds.{IsLegalWorld, World}, declared.{call.Call.{Call}, reply.Answer.{Answer}}}
-use Rattle.plant_office.specs.{Failures.{AreAnsweredBeforeFailure}, Runs.{AreAnswers, AreIsolated}, Served.{Holds}}
+use Rattle.plant_office.specs.{Runs.{AreAnswers, AreIsolated}, Served.{Holds}}
 use Rattle.plant_server.specs.{Crashes.{HoldWholeOutcome, IsOutcomeIn, LeavesOutcomes}, Files.{HoldBooks, HoldDatabase, HoldsStill, fault_by_error}}
 use Rattle.plant_server.specs.{Statuses.{not_copied_text}, declared.remains.Left.{Left}}
 use Rattle.plant_server.specs.declared.remains.Left.TheVariants as left
@@ -113,8 +113,7 @@ module _ {D N F : Type 0} {g : Ghosts D} where
   -- crash leaves is stated for a world of the administrator: the store may have shut while the books were opened.
   pub record RanOnFiles (begins : World → Type 0) (admin : Name) (store : FileStore D g) (after : Left D N F g)
       (calls : List Call) (answers : List Answer) : Type 0 where
-    pub answered : (w : World) → begins w → IsHonestAfter after → AreAnsweredBy w calls answers
-    pub before_failure : (w : World) → begins w → IsCleanAfter after → AreAnsweredBeforeFailure w calls answers
+    pub answered : (w : World) → begins w → IsCleanAfter after → AreAnsweredBy w calls answers
     pub meanwhile : (w : World) → begins w → w.admin ≡ admin → IsCleanAfter after → LeavesOutcomes store w calls answers
     pub afterwards : (w : World) → begins w → w.admin ≡ admin → IsCleanAfter after → LeavesAfter after w calls answers
 

@@ -8,10 +8,9 @@ use Rattle.plant_books.specs.Contents.{Content}
 use Rattle.plant_server_options.specs.{CommandLines.{IsReadAs}, declared.words.{CommandLine.{CommandLine}, CommandLineError.{CommandLineError}, Service.{Service}, Task.{Task}}}
 use Rattle.plant_server_options.specs.declared.words.Task.TheVariants.{Migrate, Serve}
 use Rattle.plant_model.specs.{Worlds.{World, empty_world}, declared.{call.Call.{Call}, reply.Answer.{Answer}}}
-use Rattle.plant_office.specs.Failures.{AreAnsweredBeforeFailure}
 use Rattle.plant_store_memory.specs.{Memory.{memory}, declared.file.MemoryFile.{MemoryFile}}
 use Rattle.plant_server.specs.{Crashes.{HoldWholeBooks}, Files.{HoldDatabase, HoldOldBooks, HoldsStill}}
-use Rattle.plant_server.specs.OverFiles.{AreAnsweredBy, AreServed, Begins, IsClosing, IsHonestAfter, IsRefusal, IsUntouched, Place, RanOnFiles, closing_text}
+use Rattle.plant_server.specs.OverFiles.{AreAnsweredBy, AreServed, Begins, IsCleanAfter, IsClosing, IsHonestAfter, IsRefusal, IsUntouched, Place, RanOnFiles, closing_text}
 use Rattle.plant_server.specs.{Nets.{Nets}, Services.{HasServed}, Streams.{Bytes, IsSaid, Lines, Streams, within}}
 use Rattle.plant_server.specs.Statuses.{code, help_text, migrated_text, no_rows_text, refusal_text, status_of_command_line, status_of_migration, unmigrated_text, unopened_text}
 use Rattle.plant_server.specs.declared.{remains.Left.{Left}, statuses.ExitStatus.{ExitStatus}}
@@ -30,18 +29,13 @@ pub record IsUnserved (fault : StoreFault) (s : Streams) (n : ExitStatus) : Type
   pub unlistened : s.nets.after ≡ s.nets.before
   pub said : IsSaid s.lines.reported s.lines.reported_after (unopened_text fault)
 
--- The calls that were made on books in memory, from this world. If no failure has shut the store, all were answered
--- as the world answers them; otherwise those up to the last that was confirmed.
-pub record RanInMemory (w : World) (store : FileStore MemoryFile memory) (calls : List Call) (answers : List Answer) : Type 0 where
-  pub answered : IsTrue (view store).is_open → AreAnsweredBy w calls answers
-  pub before_failure : AreAnsweredBeforeFailure w calls answers
-
--- In memory the office began with no units. If a service ended because its store had shut, the store is indeed shut.
+-- In memory the office began with no units, and each call was answered as the world answers it. If a service ended because
+-- its store had shut, the store is indeed shut.
 pub record IsServedInMemory (admin : Name) (service : Option Service) (s : Streams) (n : ExitStatus)
     (store : FileStore MemoryFile memory) : Type 0 where
   pub first : Bytes
   pub said : IsSaid s.lines.reported first no_rows_text
-  pub served : HasServed (RanInMemory (empty_world admin) store) (¬ IsTrue (view store).is_open) service
+  pub served : HasServed (AreAnsweredBy (empty_world admin)) (¬ IsTrue (view store).is_open) service
       (within s first s.lines.reported_after) n
 
 module _ {D N : Type 0} {g : Ghosts D} where
@@ -70,7 +64,7 @@ module _ {D N F : Type 0} {g : Ghosts D} where
   pub record FilesServed (place : Place D) (path : List ℕ) (admin : Name) (service : Option Service) (s : Streams)
       (n : ExitStatus) (after : Left D N F g) : Type 0 where
     pub were : AreServed after
-    pub own : path ≡ place.path → (db : Database) → HoldDatabase place.files db → IsHonestAfter after
+    pub own : path ≡ place.path → (db : Database) → HoldDatabase place.files db → IsCleanAfter after
         → IsThisOffice admin db
     pub store : FileStore D g
     pub closing : IsClosing store after

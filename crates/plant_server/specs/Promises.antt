@@ -9,13 +9,13 @@ use Rattle.plant_office.specs.{Outcomes.{AreMade, confirms, is_fault}, Runs.{Are
 use Rattle.plant_server_clients.specs.{Accounts.{AtEachMoment, IsAnsweredFor}, Causes.{AreCaused}, Events.{Event, Logs, all_answers, all_calls, at_ports}}
 use Rattle.plant_server_clients.specs.{Fairness.{IsBounded, IsFair, IsSoon, IsSteady}, Heeded.{AreHeeded}, Order.{IsInOrder}}
 use Rattle.plant_server_options.specs.declared.words.{Service.{Service}, Task.TheVariants.{Serve}}
-use Rattle.plant_server.specs.{Crashes.{LeavesOutcomes}, Nets.{HasListened, Nets}, OverFiles.{AreServed, Begins, IsCleanAfter, IsHonestAfter, LeavesAfter, Place}}
+use Rattle.plant_server.specs.{Crashes.{LeavesOutcomes}, Nets.{HasListened, Nets}, OverFiles.{AreServed, Begins, IsCleanAfter, LeavesAfter, Place}}
 use Rattle.plant_server.specs.{Promise.{IsKept}, Services.{IsStreamed, is_at_once}, Streams.{Bytes, Streams, within}}
 use Rattle.plant_server.specs.declared.{remains.Left.{Left}, statuses.ExitStatus.{ExitStatus}}
 use Rattle.plant_types.specs.Names.{Name}
 
 -- The premises: `Begins`, the file held the rows of this world as it was opened; `IsCleanAfter`, the disk has returned
--- what was written; `IsHonestAfter`, and no failure has shut the store.
+-- what was written.
 
 -- a change was confirmed by its answer, or its answer was a fault: it was not refused, and the call does not only ask
 abbrev pub IsMadeFor : Call → List Call → List Answer → Type 0
@@ -37,9 +37,9 @@ module _ {D N F : Type 0} {g : Ghosts D} where
   pub record CallPromises (place : Place D) (path : List ℕ) (admin : Name) (after : Left D N F g) (store : FileStore D g)
       (calls : List Call) (answers : List Answer) : Type 0 where
     -- 1. Each call is answered as the world answers it that the calls before it left.
-    pub answered : (w : World) → Begins place path w → IsHonestAfter after → AreAnswers w calls answers
+    pub answered : (w : World) → Begins place path w → IsCleanAfter after → AreAnswers w calls answers
     -- 2. The answer would be the same in any world that looks the same to its caller.
-    pub apart : (w : World) → Begins place path w → IsHonestAfter after → AreIsolated w calls answers
+    pub apart : (w : World) → Begins place path w → IsCleanAfter after → AreIsolated w calls answers
     -- 3. No call that was refused, or that only asks, is among those that changed something (4).
     pub unchanged : (made : List Call) → AreMade calls answers made → AreMadeFor made calls answers
     -- 4. Whatever a crash leaves, during the serving or after it, holds the rows after the confirmed calls, or after these
@@ -47,7 +47,7 @@ module _ {D N F : Type 0} {g : Ghosts D} where
     pub lasting : (w : World) → Begins place path w → w.admin ≡ admin → IsCleanAfter after
         → LeavesOutcomes store w calls answers × LeavesAfter after w calls answers
     -- 6. If the office began as these units of another, and is asked of these alone, it answers as the other would.
-    pub split : (units : Name → Bool) (v : World) → Begins place path (only units v) → IsHonestAfter after
+    pub split : (units : Name → Bool) (v : World) → Begins place path (only units v) → IsCleanAfter after
         → AreOn units calls → AreAnswers v calls answers
 
   -- What happened at all connections is one list of events, and it is what the port shows.

@@ -87,6 +87,8 @@ fn open_books<S: Alter + Drop>(
     ensures crash { (m : Content) → Represents (state S.Store conn) m
         → IfOk result (λ t. LeavesAlike (state S.Store conn) (state S.Store t.0.0) m) }
     ensures honest { IfOk result (λ t. WasHonest (IsHonestIn S.Store) conn t.0.0) }
+    ensures open { IfOk result (λ t. HasCleanDisk (state S.Store t.0.0)
+        → IsTrue (state S.Store t.0.0).is_open) }
     ensures office { IfOk result (λ t. WasOffice S.Store conn t.0.0 schema_no admin) }
     ensures other { IfErr result (λ e. IsAnothers S.Store conn e.1 schema_no admin e.0) }
     ensures read { IfErr result (λ e. OnlyReads (state S.Store conn) (state S.Store e.1)) }
@@ -115,7 +117,7 @@ fn open_file<S: Start + Located>(
     ensures crash { path.now ≡ S.Located.path → (m : Content) → HoldBooks (image_at S.Start) m
         → IfOk result (λ books. LeavesOnly (file_state books.0.0) m) }
     ensures office { path.now ≡ S.Located.path → (db : Database) → HoldDatabase (image_at S.Start) db
-        → IfOk result (λ books. IsHonest (file_state books.0.0) → IsThisOffice admin db) }
+        → IfOk result (λ books. HasCleanDisk (file_state books.0.0) → IsThisOffice admin db) }
     ensures left { IfErr result (λ e. IsRefusal
         (place_of S.Located.path (image_at S.Start) (λ files. IsFresh true files.log × IsFresh false files.db))
         path.now admin e.0 e.1) }
@@ -287,7 +289,7 @@ pub fn in_file<S: Start + Located>(
     ensures crash { path.now ≡ S.Located.path → (m : Content) → HoldBooks (image_at S.Start) m
         → IfOk result (λ books. LeavesOnly (file_state books.0.0) m) }
     ensures office { path.now ≡ S.Located.path → (db : Database) → HoldDatabase (image_at S.Start) db
-        → IfOk result (λ books. IsHonest (file_state books.0.0) → IsThisOffice admin db) }
+        → IfOk result (λ books. HasCleanDisk (file_state books.0.0) → IsThisOffice admin db) }
     ensures left { IfErr result (λ e. IsRefusal
         (place_of S.Located.path (image_at S.Start) (λ files. IsFresh true files.log × IsFresh false files.db))
         path.now admin e.0 e.1) }

@@ -55,7 +55,7 @@ module _ {D N : Type 0} (F : Type 0) (g : Ghosts D) (h : Ghosts N) where
   joined admin (life ∷ lives) first last w own rows (found, start, later) =
       let within = start.ran.meanwhile w rows own start.clean in
       let closed = start.ran.afterwards w rows own start.clean in
-      let said = start.ran.before_failure w rows start.clean in
+      let said = start.ran.answered w rows start.clean in
       ∥∥₁_elim (outcome start.store start.after w life.calls life.answers found within closed start.found) ∥∥₁_prop (λ it.
       let made = it.outcome.made in
       let rows_then : HoldRows found (after_calls w made) =

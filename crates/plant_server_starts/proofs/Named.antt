@@ -129,7 +129,6 @@ module _ {D N F : Type 0} {g : Ghosts D} where
       → RanOnFiles (Begins place place.path) admin store after calls answers → RanOnFiles (HoldRows place.files) admin store after calls answers
   from_rows place admin store after calls answers ran = record {
     answered = λ w rows. ran.answered w (record { here = refl; rows = rows });
-    before_failure = λ w rows. ran.before_failure w (record { here = refl; rows = rows });
     meanwhile = λ w rows. ran.meanwhile w (record { here = refl; rows = rows });
     afterwards = λ w rows. ran.afterwards w (record { here = refl; rows = rows });
   }

@@ -4,20 +4,20 @@ use Rattle.sqlite_disk.specs.declared.Disk.{Ghosts}
 use Rattle.sqlite_store.specs.{FileStore.{state}, declared.store.FileStore.{FileStore}}
 use Rattle.sqlite_wal.specs.{Files.{outcomes}, Recovery.{Image}}
 use Rattle.plant_model.specs.{Worlds.{World}, declared.{call.Call.{Call}, reply.Answer.{Answer}}}
-use Rattle.plant_office.specs.{Failures.{AreAnsweredBeforeFailure}, Lives.{Life}, Outcomes.{AreMade, after_calls}}
-use Rattle.plant_server.specs.{OverFiles.{HoldRows, IsCleanAfter, IsHonestAfter, Place, RanOnFiles}, Promise.{FilesServed}}
+use Rattle.plant_office.specs.{Lives.{Life}, Outcomes.{AreMade, after_calls}}
+use Rattle.plant_server.specs.{OverFiles.{AreAnsweredBy, HoldRows, IsCleanAfter, IsHonestAfter, Place, RanOnFiles}, Promise.{FilesServed}}
 use Rattle.plant_server.specs.{Services.{HasServed}, Streams.{Streams, within}, declared.statuses.ExitStatus.{ExitStatus}}
 use Rattle.plant_server_options.specs.declared.words.Service.{Service}
 use Rattle.plant_server.specs.declared.remains.Left.{Left}
 use Rattle.plant_server.specs.declared.remains.Left.TheVariants as left
 use Rattle.plant_types.specs.Names.{Name}
 
--- For each start, those of its calls that were made: all that were confirmed, and at most one that is in doubt. They
--- were answered, up to the last confirmed one, as the world answers them that the earlier starts left.
+-- For each start, those of its calls that were made: all that were confirmed, and at most one that is in doubt. All its
+-- calls were answered as the world answers them that the earlier starts left.
 abbrev pub AreMadeInTurn : World → List Life → List (List Call) → Type 0
 AreMadeInTurn w [] [] = Unit {0}
 AreMadeInTurn w (life ∷ lives) (own ∷ later) = AreMade life.calls life.answers own
-    × AreAnsweredBeforeFailure w life.calls life.answers × AreMadeInTurn (after_calls w own) lives later
+    × AreAnsweredBy w life.calls life.answers × AreMadeInTurn (after_calls w own) lives later
 AreMadeInTurn w [] (own ∷ later) = ⊥
 AreMadeInTurn w (life ∷ lives) [] = ⊥
 

@@ -7,6 +7,8 @@ mod asked;
 #[cfg(test)]
 mod faults;
 #[cfg(test)]
+mod full;
+#[cfg(test)]
 mod keepers;
 #[cfg(test)]
 mod mixes;

@@ -11,7 +11,8 @@ returns-in-Ok-open_books-clause-kept g c here m held =
     c.in-Ok-open_books.ensures.kept m (kept (image_at g.S.Start) (file_state c.in-Ok.conn) c.in-Ok.ensures.opened (c.in-Ok.ensures.found here) m held)
 
 pub returns-in-Ok-open_books-clause-office : goal.returns-in-Ok-open_books-clause-office
-returns-in-Ok-open_books-clause-office g c here db held tells =
+returns-in-Ok-open_books-clause-office g c here db held clean =
+    let tells = (clean, c.in-Ok-open_books.ensures.open clean) in
     subst (λ (d : Database). IsThisOffice c.args.admin d)
     (same_now (image_at g.S.Start) (file_state c.in-Ok.conn) c.in-Ok.ensures.opened (c.in-Ok.ensures.found here)
     (c.in-Ok-open_books.ensures.honest tells) db held)
