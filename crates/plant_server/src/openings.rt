@@ -11,10 +11,10 @@ ghost use Rattle.sqlite_wal.specs.Files.{image_at};
 
 use crate::places::Located;
 use crate::remains::Left;
+use plant_server_machine::Machine;
 use sqlite::{Connection, Error, ErrorCode, File, FileFrom, FileStore, Options, Start};
 use sqlite_disk::Files;
 use sqlite_std_file::OpenError;
-use std::hash::{BuildHasher, RandomState};
 use std::io::ErrorKind;
 use std::marker::PhantomData;
 
@@ -52,7 +52,7 @@ pub type NoDatabase<S> = (Error, Left<FileFrom<S>, File, S>);
 /// Opens the file at this path and its log, each created if missing. The engine's names for a database in memory and
 /// for a URI are not paths, and are refused.
 fn open_pair<S: Start + Located>(
-    rt: &HostRuntime,
+    machine: &Machine<'_>,
     path: &str,
     start: S,
 ) -> Result<Files<FileFrom<S>>, Error>
@@ -66,21 +66,21 @@ fn open_pair<S: Start + Located>(
     if path == ":memory:" || path.starts_with("file:") {
         return Err(CANNOT_OPEN);
     }
-    match sqlite_std_file::open(rt, path, start) {
+    match machine.open(path, start) {
         Ok(files) => Ok(files),
         Err(error) => Err(error_of(&error)),
     }
 }
 
 /// The engine's options: a random number for the log, and the limit of the log's length.
-fn options(rt: &HostRuntime) -> Result<Options, Error>
+fn options(machine: &Machine<'_>) -> Result<Options, Error>
     ensures named { IfErr result (λ e. IsTrue (is_open_error e)) }
     ensures fault { IfErr result (λ e. fault_by_error e ≢ NotThisStore) }
 {
-    let Ok(state) = RandomState::new(rt) else {
+    let Ok(seed) = machine.random() else {
         return Err(CANNOT_OPEN);
     };
-    let mut options = Options::new(state.hash_one(&0u8));
+    let mut options = Options::new(seed);
     options.checkpoint_frames = PAGES_IN_LOG;
     Ok(options)
 }
@@ -89,7 +89,7 @@ fn options(rt: &HostRuntime) -> Result<Options, Error>
 /// SQLite's extension cksumvfs. If opening fails, what is left of the files is handed back, or the start if it was not
 /// used.
 pub fn open_at<S: Start + Located>(
-    rt: &HostRuntime,
+    machine: &Machine<'_>,
     path: &str,
     start: S,
 ) -> Result<Connection<FileStore<FileFrom<S>>>, NoDatabase<S>>
@@ -104,18 +104,18 @@ pub fn open_at<S: Start + Located>(
         (place_of S.Located.path (image_at S.Start) (λ files. IsFresh true files.log × IsFresh false files.db))
         path.now e.0 e.1) }
 {
-    let options = match options(rt) {
+    let options = match options(machine) {
         Ok(options) => options,
         Err(error) => return Err((error, Left::Nothing(start))),
     };
-    let files = match open_pair(rt, path, start) {
+    let files = match open_pair(machine, path, start) {
         Ok(files) => files,
         Err(error) => {
             let start = PhantomData;
             return Err((error, Left::Unreached(Unreached { error, start })));
         }
     };
-    match Connection::open_files_with(rt.alloc(), files, options, true) {
+    match Connection::open_files_with(machine.alloc(), files, options, true) {
         Ok(conn) => Ok(conn),
         Err((error, left)) => Err((error, Left::Unopened(left))),
     }
