@@ -1,6 +1,6 @@
 -- Books that hold the rows of a world, and what a call does to them.
 use Rattle.std.specs.{FinMap.{contains_key, get, get-insert, keys, Entries.{find as found}}, List.{cons_option}}
-use Rattle.std.proofs.Common.{true≢false, ap, arith, inl, inr, refl, subst, sym, ◌++◌, ◌∙◌, flat_map, Bool, Err, IfOk, IfSome, IsErrAnd, List, None, Ok, OnErr, Option, Result, Some, [], cond, false, filter_map, ◌⊎◌, fold, if◌then◌else◌, is_ok, is_some, map, max, nat_lt, not, option_and_then, option_map, true, unwrap_or, ℕ, ◌<◌, ◌∷◌, ◌≡◌, ◌≤◌}
+use Rattle.std.proofs.Common.{true≢false, ap, arith, inl, inr, refl, subst, sym, ◌++◌, ◌∙◌, flat_map, Bool, Err, IfOk, IfSome, IsErrAnd, List, None, Ok, OnErr, OnOk, Option, Result, Some, [], cond, false, filter_map, ◌⊎◌, fold, if◌then◌else◌, is_ok, is_some, map, max, nat_lt, not, option_and_then, option_map, true, unwrap_or, ℕ, ◌<◌, ◌∷◌, ◌≡◌, ◌≤◌}
 use Rattle.std.proofs.lemmas.{Bool.Decides.{nat_tests}, List.Elements.{filter_map-append}, Simd.{map-map}}
 use Rattle.plant_model.specs.{Calls.{reply}, Facts.{facts, returned}, Grants.{held, holds_any, roles_held}, Histories.{last_moment}}
 use Rattle.plant_model.specs.{Legality.{has_matrix}, Replies.{line_of, shelf_lines}}
