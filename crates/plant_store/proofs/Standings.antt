@@ -7,24 +7,24 @@ use Rattle.plant_store_statements.specs.{Changes.{IsHonest}, Reading.{IsOnlyRead
 use Rattle.plant_store.specs.{Counting.{SaysAgain}, Standing.{IsSo}, declared.tables.Standing.{Standing, TheVariants.{Open, Shut, Unknown}}}
 use Rattle.plant_types.specs.declared.fault.Fault.{Fault}
 
-module _ {S : Type 0} {g : Ghosts S} where
+module _ {S : Type 0} (g : Ghosts S) where
   -- it is known after a read
-  pub so_read : {A E : Type 0} {a m : Held S} (standing : Standing) (outcome : Result A E) → IsSo (state g a) standing → IsOnlyRead g a m
+  pub so_read : {A E : Type 0} (a m : Held S) (standing : Standing) (outcome : Result A E) → IsSo (state g a) standing → IsOnlyRead g a m
       → LeavesOpen g a m outcome → OnOk outcome (IsSo (state g m) standing)
-  so_read standing (Err e) so reads stays = tt
-  so_read {A} {E} {a} {m} Open (Ok found) so reads stays = λ clean.
+  so_read a m standing (Err e) so reads stays = tt
+  so_read a m Open (Ok found) so reads stays = λ clean.
       let early : HasCleanDisk (state g a) = omega (arith, clean, reads.quiet.clean) in
       stays clean (so early)
-  so_read Unknown (Ok found) so reads stays = tt
-  so_read Shut (Ok found) so reads stays = λ honest. so (reads.honest honest)
+  so_read a m Unknown (Ok found) so reads stays = tt
+  so_read a m Shut (Ok found) so reads stays = λ honest. so (reads.honest honest)
 
   -- and after a change
-  pub so_written : {A E : Type 0} {a m : Held S} (standing : Standing) (outcome : Result A E) → IsSo (state g a) standing
+  pub so_written : {A E : Type 0} (a m : Held S) (standing : Standing) (outcome : Result A E) → IsSo (state g a) standing
       → (IsHonest (state g m) → IsHonest (state g a)) → IsLeftOpen g m outcome → OnOk outcome (IsSo (state g m) standing)
-  so_written standing (Err e) so was opened = tt
-  so_written Open (Ok found) so was opened = λ clean. opened clean
-  so_written Unknown (Ok found) so was opened = tt
-  so_written Shut (Ok found) so was opened = λ honest. so (was honest)
+  so_written a m standing (Err e) so was opened = tt
+  so_written a m Open (Ok found) so was opened = λ clean. opened clean
+  so_written a m Unknown (Ok found) so was opened = tt
+  so_written a m Shut (Ok found) so was opened = λ honest. so (was honest)
 
   -- a question that succeeds leaves a store open that was
   pub stays_open : {A : Type 0} (a m b : Held S) (outcome : Result A Error) (said : Result A Fault) → SaysAgain outcome said → IsOnlyRead g a m

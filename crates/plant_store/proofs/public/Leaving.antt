@@ -122,7 +122,7 @@ module _ {S : Type 0} (g : Ghosts S) where
       record {
         same = λ m held. (admin ∙ held.0, keeps_read m held.1 reads);
         honest = reads.honest;
-        stays_open = λ was clean. stays_open a.0.0 m b.0.0 outcome said again first stays same was clean;
+        stays_open = λ was clean. stays_open g a.0.0 m b.0.0 outcome said again first stays same was clean;
         crash = record {
           clean = λ clean. let was : HasCleanDisk (shown a) = omega (arith, clean, reads.quiet.clean) in was;
           fewer = fewer (shown a) (shown b) reads.quiet;

@@ -52,4 +52,4 @@ returns-clause-kept g c =
 
 pub conclude-requires-clause-so : goal.conclude-requires-clause-so
 conclude-requires-clause-so g c =
-    so_written c.self.inside.standing c.apply-outcome.result c.self.invariant.1 c.apply-outcome.ensures.honest c.apply-outcome.ensures.open
+    so_written g.S.Store c.self.inside.conn c.apply-outcome.new.conn c.self.inside.standing c.apply-outcome.result c.self.invariant.1 c.apply-outcome.ensures.honest c.apply-outcome.ensures.open

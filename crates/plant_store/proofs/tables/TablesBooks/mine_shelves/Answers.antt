@@ -18,4 +18,4 @@ returns-clause-unchanged g c =
 pub conclude-requires-clause-so : goal.conclude-requires-clause-so
 conclude-requires-clause-so g c =
     let it = c.mine_shelves-outcome in
-    so_read c.self.inside.standing it.result c.self.invariant.1 it.ensures.reads it.ensures.open
+    so_read g.S.Store c.self.inside.conn it.new.conn c.self.inside.standing it.result c.self.invariant.1 it.ensures.reads it.ensures.open
