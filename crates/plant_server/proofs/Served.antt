@@ -8,9 +8,9 @@ use Rattle.sqlite_trees.specs.View.{IsClean}
 use Rattle.plant_books.specs.Contents.{Content}
 use Rattle.plant_model.specs.{Worlds.{World}, declared.{call.Call.{Call}, reply.Answer.{Answer}}}
 use Rattle.plant_office.specs.{Enduring.{BooksState}, Failures.{AreAnsweredBeforeFailure}, Outcomes.{IsOutcome, confirmed}}
-use Rattle.plant_server.specs.{Crashes.{LeavesOutcomes}, Files.{HoldDatabase}, Parts.{BooksServed, IsAtHand}}
+use Rattle.plant_server.specs.{Crashes.{LeavesOutcomes}, Files.{AreOfDatabase}, Parts.{BooksServed, IsAtHand}}
 use Rattle.plant_server.specs.OverFiles.{Begins, IsClosing, IsHonestAfter, Place, RanOnFiles, closing_text}
-use Rattle.plant_server.specs.{Promise.{FilesServed}, Services.{HasServed}, Statuses.{no_rows_text}, Streams.{Bytes, IsSaid, Streams, within}}
+use Rattle.plant_server.specs.{Promise.{FilesServed}, Services.{HasServed}, Statuses.{no_rows_text}, Streams.{Bytes, IsPrintedOrCut, Streams, within}}
 use Rattle.plant_server.specs.declared.{remains.Left.{Left}, statuses.ExitStatus.{ExitStatus}}
 use Rattle.plant_store.specs.Opening.{IsThisOffice}
 use Rattle.plant_types.specs.Names.{Name}
@@ -21,7 +21,7 @@ module _ {D N F : Type 0} {g : Ghosts D} where
   -- books that hold the rows of each world that begins in files
   pub files_served : (books : BooksState) (admin : Name) (place : Place D) (path : List ℕ)
       → ((w : World) → Begins place path w → IsAtHand books admin w)
-      → (path ≡ place.path → (db : Database) → HoldDatabase place.files db → books.honest → IsThisOffice admin db)
+      → (path ≡ place.path → (db : Database) → AreOfDatabase place.files db → books.honest → IsThisOffice admin db)
       → (service : Option Service) (s : Streams) (n : ExitStatus) (after : Left D N F g) → BooksServed books admin service s n after
       → FilesServed place path admin service s n after
   files_served books admin place path follows own service s n after it = record {
@@ -92,7 +92,7 @@ module _ {D N F : Type 0} {g : Ghosts D} (before end : BooksState) (admin : Name
   }
 
   pub served_files : (service : Option Service) (s : Streams) (n : ExitStatus) (first last : Bytes)
-      → IsSaid s.lines.reported first no_rows_text → IsSaid last s.lines.reported_after (closing_text after)
+      → IsPrintedOrCut s.lines.reported first no_rows_text → IsPrintedOrCut last s.lines.reported_after (closing_text after)
       → HasServed (Ran before end count counted_to) (¬ end.honest) service (within s first last) n → BooksServed before admin service s n after
   served_files service s n first last said closed it = record {
     were = closing.were;

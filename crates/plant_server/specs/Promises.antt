@@ -1,6 +1,6 @@
 -- What a plant may rely on: the six promises of the README, in its order and words. The first record is about the calls,
 -- however they came; the second is about a port, with `--db PATH --port N`; the third about the streams, with `--db PATH`.
--- Each follows from `IsKept`, for files that were opened and served (`AreServed`); proofs/Promised.antt has the proof.
+-- Each follows from `IsKept`, for files that were opened and served (`WereServed`); proofs/Promised.antt has the proof.
 use Rattle.std.specs.Prelude.{◌≡◌, ◌⊎◌, ℕ, Bool, true, List, [], ◌∷◌, None, Ok, Option, Result, Some, string_bytes}
 use Rattle.sqlite_disk.specs.declared.Disk.{Ghosts}
 use Rattle.sqlite_store.specs.declared.store.FileStore.{FileStore}
@@ -9,7 +9,7 @@ use Rattle.plant_office.specs.{Outcomes.{AreMade, confirms, is_fault}, Runs.{Are
 use Rattle.plant_server_clients.specs.{Accounts.{AtEachMoment, IsAnsweredFor}, Causes.{AreCaused}, Events.{Event, Logs, all_answers, all_calls, at_ports}}
 use Rattle.plant_server_clients.specs.{Fairness.{IsBounded, IsFair, IsSoon, IsSteady}, Heeded.{AreHeeded}, Order.{IsInOrder}}
 use Rattle.plant_server_options.specs.declared.words.{Service.{Service}, Task.TheVariants.{Serve}}
-use Rattle.plant_server.specs.{Crashes.{LeavesOutcomes}, Nets.{HasListened, Nets}, OverFiles.{AreServed, Begins, IsCleanAfter, IsHonestAfter, LeavesAfter, Place}}
+use Rattle.plant_server.specs.{Crashes.{LeavesOutcomes}, Nets.{HasListened, Nets}, OverFiles.{WereServed, Begins, IsCleanAfter, IsHonestAfter, LeavesAfter, Place}}
 use Rattle.plant_server.specs.{Promise.{IsKept}, Services.{IsStreamed, is_at_once}, Streams.{Bytes, Streams, within}}
 use Rattle.plant_server.specs.declared.{remains.Left.{Left}, statuses.ExitStatus.{ExitStatus}}
 use Rattle.plant_types.specs.Names.{Name}
@@ -85,4 +85,4 @@ abbrev pub KeepsPromises : {D N E : Type 0} → (F : Type 0) → (g : Ghosts D) 
 KeepsPromises {D} {N} F g h place gives_port gives =
     (words : List (List ℕ)) (s : Streams) (number : ℕ) (after : Left D N F g) (kept : IsKept gives_port gives h place words s number after)
     (admin : Name) (path : _) (service : Option Service) → kept.line ≡ Ok (record { admin = admin; task = Serve (Some path) service })
-    → AreServed after → AllPromises place (string_bytes path) admin service s kept.status after
+    → WereServed after → AllPromises place (string_bytes path) admin service s kept.status after

@@ -10,10 +10,10 @@ ghost use Rattle.plant_server_options.specs.{CommandLines.{IsReadAs}, declared.w
 ghost use Rattle.plant_books.specs.Contents.{no_units};
 ghost use Rattle.plant_office.specs.Enduring.{books_state};
 ghost use Rattle.plant_server.specs.{Crashes.{IsWhole}, OverFiles.{IsClosing, closing_text, place_of}, Parts.{BooksServed, IsServedAnew}};
-ghost use Rattle.plant_server.specs.Promise.{IsDone, IsDoneInMemory, IsDoneOnFile, IsKept, IsKeptOnSome, IsMigration, IsObeyed};
+ghost use Rattle.plant_server.specs.Promise.{IsEndOfTask, IsEndInMemory, IsEndOnFile, IsKept, IsKeptOnSome, IsMigration, IsEndOfLine};
 ghost use Rattle.sqlite_disk.specs.declared.Unknown.{Unknown as AnyStart};
 ghost use Rattle.plant_server.specs.{Nets.{nets_of}, Services.{HasServed}};
-ghost use Rattle.plant_server.specs.Streams.{Bytes, IsSaid, lines_of, streams_of, within};
+ghost use Rattle.plant_server.specs.Streams.{Bytes, IsPrintedOrCut, lines_of, streams_of, within};
 ghost use Rattle.plant_store_statements.specs.Keeping.{Represents};
 ghost use Rattle.plant_types.specs.Names.{Name};
 ghost use Rattle.sqlite.specs.Files.{file_state};
@@ -110,7 +110,7 @@ fn serve_books<S: Alter + Drop, P: Net, I: Inlet, O: Outlet + Write, E: Write>(
 ) -> (ExitStatus, Tables<S>)
     ensures { let s = streams_of (nets_of (P.state net.old) (P.state net.new)) I.Inlet O.Outlet O.Write E.Write
         (inlet.old, outlet.old, errors.old) (inlet.new, outlet.new, errors.new) in
-        (first : Bytes) × IsSaid s.lines.reported first statuses.no_rows_text
+        (first : Bytes) × IsPrintedOrCut s.lines.reported first statuses.no_rows_text
         × HasServed (RanOn ⟦<Tables<S> as Books>⟧ books result.1) (¬ ⟦<Tables<S> as Books>⟧.is_honest result.1) service
         (within s first s.lines.reported_after) result.0 }
 {
@@ -139,7 +139,7 @@ fn serve_files<D: Disk + Drop, P: Net, I: Inlet, O: Outlet + Write, E: Write>(
 ) -> (ExitStatus, Tables<FileStore<D>>)
     ensures { let s = streams_of (nets_of (P.state net.old) (P.state net.new)) I.Inlet O.Outlet O.Write E.Write
         (inlet.old, outlet.old, errors.old) (inlet.new, outlet.new, errors.new) in
-        (first : Bytes) × IsSaid s.lines.reported first statuses.no_rows_text
+        (first : Bytes) × IsPrintedOrCut s.lines.reported first statuses.no_rows_text
         × HasServed (RanOn ⟦<Tables<FileStore<D>> as Books>⟧ books result.1)
         (¬ ⟦<Tables<FileStore<D>> as Books>⟧.is_honest result.1) service
         (within s first s.lines.reported_after) result.0 }
@@ -178,7 +178,7 @@ fn serve_memory<D: Disk, N: Disk, F, P: Net, I: Inlet, O: Outlet + Write, E: Wri
     errors: &mut E,
     start: F,
 ) -> (ExitStatus, Left<D, N, F>)
-    ensures { IsDoneInMemory admin service
+    ensures { IsEndInMemory admin service
         (streams_of (nets_of (P.state net.old) (P.state net.new)) I.Inlet O.Outlet O.Write E.Write
         (inlet.old, outlet.old, errors.old) (inlet.new, outlet.new, errors.new))
         result.0 result.1 }
@@ -200,7 +200,7 @@ fn close_and_say<D: Disk + Drop, N: Disk + Drop, F, E: Write>(
 ) -> Left<D, N, F>
     requires { IsClean (view store) → IsWhole store }
     ensures closed { IsClosing store result }
-    ensures said { IsSaid (E.contents errors.old) (E.contents errors.new) (closing_text result) }
+    ensures said { IsPrintedOrCut (E.contents errors.old) (E.contents errors.new) (closing_text result) }
 {
     match close_left(store) {
         Ok(files) => Left::Closed(files),
@@ -257,7 +257,7 @@ pub fn serve_file<F: Start + Located, P: Net, I: Inlet, O: Outlet + Write, E: Wr
     errors: &mut E,
     start: F,
 ) -> (ExitStatus, Left<FileFrom<F>, File, F>)
-    ensures { IsDoneOnFile
+    ensures { IsEndOnFile
         (place_of F.Located.path (image_at F.Start) (λ files. IsFresh true files.log × IsFresh false files.db))
         office.entry.path.now office.entry.admin office.entry.service
         (streams_of (nets_of (P.state net.old) (P.state net.new)) I.Inlet O.Outlet O.Write E.Write
@@ -313,7 +313,7 @@ fn run<F: Start + Located, P: Net, I: Inlet, O: Outlet + Write, E: Write>(
     errors: &mut E,
     start: F,
 ) -> (ExitStatus, Left<FileFrom<F>, File, F>)
-    ensures { IsDone ⟦<File as Disk>⟧
+    ensures { IsEndOfTask ⟦<File as Disk>⟧
         (place_of F.Located.path (image_at F.Start) (λ files. IsFresh true files.log × IsFresh false files.db))
         line.admin line.task
         (streams_of (nets_of (P.state net.old) (P.state net.new)) I.Inlet O.Outlet O.Write E.Write
@@ -363,7 +363,7 @@ fn obey<S: AsStr, F: Start + Located, P: Net, I: Inlet, O: Outlet + Write, E: Wr
     ensures { (line : Result CommandLine CommandLineError)
         × IsReadAs ⟦<u16 as FromStr>⟧.from_str_gives ⟦<u64 as FromStr>⟧.from_str_gives
         (map S.text words.now) line
-        × IsObeyed ⟦<File as Disk>⟧
+        × IsEndOfLine ⟦<File as Disk>⟧
         (place_of F.Located.path (image_at F.Start) (λ files. IsFresh true files.log × IsFresh false files.db))
         line
         (streams_of (nets_of (P.state net.old) (P.state net.new)) I.Inlet O.Outlet O.Write E.Write

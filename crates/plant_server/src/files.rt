@@ -11,7 +11,7 @@ ghost use Rattle.sqlite_wal.specs.Reads.{AreClean};
 ghost use Rattle.sqlite.specs.{Held.{state}, Tree.{Trees}};
 ghost use Rattle.plant_books.specs.{Books.{WasHonest}, Contents.{Content, no_units}};
 ghost use Rattle.plant_store_columns.specs.Tables.{schema_no};
-ghost use Rattle.plant_server.specs.{Crashes.{HoldWholeBooks, LeavesOnly}, Files.{HoldBooks, HoldDatabase}};
+ghost use Rattle.plant_server.specs.{Crashes.{AreWholeBooksWith, LeavesOnly}, Files.{AreBooksWith, AreOfDatabase}};
 ghost use Rattle.plant_server.specs.OverFiles.{IsRefusal, place_of};
 ghost use Rattle.plant_types.specs.Names.{Name};
 ghost use Rattle.plant_store_statements.specs.{Changes.{IsHonest}, Keeping.{LeavesAlike, Represents}, OnlyReads.{OnlyReads}, Reading.{HasNoTransaction, IsHonestIn}};
@@ -125,11 +125,11 @@ fn open_file<S: Start + Located>(
     start: S,
 ) -> Result<Tables<FileStore<FileFrom<S>>>, NotOpened<S>>
     ensures own { IfOk result (λ books. (books.0.1 ≡ admin) × (books.1 ≡ 0)) }
-    ensures kept { path.now ≡ S.Located.path → (m : Content) → HoldBooks (image_at S.Start) m
+    ensures kept { path.now ≡ S.Located.path → (m : Content) → AreBooksWith (image_at S.Start) m
         → IfOk result (λ books. Represents (file_state books.0.0) m) }
-    ensures crash { path.now ≡ S.Located.path → (m : Content) → HoldBooks (image_at S.Start) m
+    ensures crash { path.now ≡ S.Located.path → (m : Content) → AreBooksWith (image_at S.Start) m
         → IfOk result (λ books. LeavesOnly (file_state books.0.0) m) }
-    ensures office { path.now ≡ S.Located.path → (db : Database) → HoldDatabase (image_at S.Start) db
+    ensures office { path.now ≡ S.Located.path → (db : Database) → AreOfDatabase (image_at S.Start) db
         → IfOk result (λ books. IsHonest (file_state books.0.0) → IsThisOffice admin db) }
     ensures left { IfErr result (λ e. IsRefusal
         (place_of S.Located.path (image_at S.Start) (λ files. IsFresh true files.log × IsFresh false files.db))
@@ -170,7 +170,7 @@ fn make_over<D: Disk + Drop>(
 ) -> Result<Files<D>, StoreFault>
     requires { HasNoTransaction conn }
     ensures whole { IfOk result (λ files. AreClean D.Disk files.log files.db
-        → HoldWholeBooks D.Disk files (no_units admin)) }
+        → AreWholeBooksWith D.Disk files (no_units admin)) }
     ensures named { IfErr result (λ e. e ≢ StoreFault.NotThisStore) }
 {
     match create_books(alloc, conn, admin) {
@@ -183,7 +183,7 @@ fn make_over<D: Disk + Drop>(
 /// books, also without the log.
 fn make_whole(rt: &HostRuntime, path: &str, admin: Person) -> Result<Files<File>, StoreFault>
     ensures whole { IfOk result (λ files. AreClean ⟦<File as Disk>⟧ files.log files.db
-        → HoldWholeBooks ⟦<File as Disk>⟧ files (no_units admin)) }
+        → AreWholeBooksWith ⟦<File as Disk>⟧ files (no_units admin)) }
     ensures named { IfErr result (λ e. e ≢ StoreFault.NotThisStore) }
 {
     match create(rt, path) {
@@ -196,7 +196,7 @@ fn make_whole(rt: &HostRuntime, path: &str, admin: Person) -> Result<Files<File>
 pub fn close_new<D: Disk + Drop>(books: Tables<FileStore<D>>) -> Result<Files<D>, StoreFault>
     ensures whole { (m : Content) → Represents (file_state books.0.0) m
         → IfOk result (λ files. AreClean D.Disk files.log files.db
-        → HoldWholeBooks D.Disk files m) }
+        → AreWholeBooksWith D.Disk files m) }
     ensures named { IfErr result (λ e. e ≢ StoreFault.NotThisStore) }
 {
     match close_whole(books) {
@@ -296,11 +296,11 @@ pub fn in_file<S: Start + Located>(
     start: S,
 ) -> Result<Tables<FileStore<FileFrom<S>>>, NotOpened<S>>
     ensures own { IfOk result (λ books. (books.0.1 ≡ admin) × (books.1 ≡ 0)) }
-    ensures kept { path.now ≡ S.Located.path → (m : Content) → HoldBooks (image_at S.Start) m
+    ensures kept { path.now ≡ S.Located.path → (m : Content) → AreBooksWith (image_at S.Start) m
         → IfOk result (λ books. Represents (file_state books.0.0) m) }
-    ensures crash { path.now ≡ S.Located.path → (m : Content) → HoldBooks (image_at S.Start) m
+    ensures crash { path.now ≡ S.Located.path → (m : Content) → AreBooksWith (image_at S.Start) m
         → IfOk result (λ books. LeavesOnly (file_state books.0.0) m) }
-    ensures office { path.now ≡ S.Located.path → (db : Database) → HoldDatabase (image_at S.Start) db
+    ensures office { path.now ≡ S.Located.path → (db : Database) → AreOfDatabase (image_at S.Start) db
         → IfOk result (λ books. IsHonest (file_state books.0.0) → IsThisOffice admin db) }
     ensures left { IfErr result (λ e. IsRefusal
         (place_of S.Located.path (image_at S.Start) (λ files. IsFresh true files.log × IsFresh false files.db))

@@ -5,7 +5,7 @@ ghost use Rattle.sqlite.specs.{Effect.{Database}, Files.{file_state, IsOpened}, 
 ghost use Rattle.sqlite.specs.State.{HasCleanDisk};
 ghost use Rattle.sqlite_wal.specs.{Files.{image_at}, Reads.{AreClean}};
 ghost use Rattle.plant_books.specs.Contents.{Content};
-ghost use Rattle.plant_server.specs.{Crashes.{HoldWholeBooks}, Files.{HoldDatabase, HoldOldBooks, HoldsStill}};
+ghost use Rattle.plant_server.specs.{Crashes.{AreWholeBooksWith}, Files.{AreOfDatabase, AreOldBooksWith, StillShows}};
 ghost use Rattle.plant_store_statements.specs.{Changes.{IsHonest}, Keeping.{Represents}, OnlyReads.{OnlyReads}};
 ghost use Rattle.plant_store_statements.specs.Reading.{HasNoTransaction};
 ghost use Rattle.plant_store_migration.specs.Upgrading.{HaveOldRows};
@@ -108,7 +108,7 @@ fn close_migrated(
 ) -> Result<Files<File>, StoreFault>
     ensures whole { (m : Content) → IfOk tables (λ books. Represents (file_state books.0.0) m
         → IfOk result (λ files. AreClean ⟦<File as Disk>⟧ files.log files.db
-        → HoldWholeBooks ⟦<File as Disk>⟧ files m)) }
+        → AreWholeBooksWith ⟦<File as Disk>⟧ files m)) }
     ensures unmade { IfErr tables (λ _. IsErr result) }
 {
     match tables {
@@ -125,7 +125,7 @@ fn finish(
 ) -> Result<Files<File>, StoreFault>
     ensures whole { (m : Content) → IfOk tables (λ books. Represents (file_state books.0.0) m
         → IfOk result (λ files. AreClean ⟦<File as Disk>⟧ files.log files.db
-        → HoldWholeBooks ⟦<File as Disk>⟧ files m)) }
+        → AreWholeBooksWith ⟦<File as Disk>⟧ files m)) }
     ensures unmade { IfErr tables (λ _. IsErr result) }
 {
     let closed = close_migrated(tables);
@@ -149,7 +149,7 @@ fn make_new<D: Disk + Drop>(
     ensures taken { (m : Content) → m.admin ≡ admin
         → IfOk result.1 (λ files. IsHonest (file_state result.0)
         → HaveOldRows m (file_state old).now → AreClean ⟦<File as Disk>⟧ files.log files.db
-        → HoldWholeBooks ⟦<File as Disk>⟧ files m) }
+        → AreWholeBooksWith ⟦<File as Disk>⟧ files m) }
     ensures read { OnlyReads (file_state old) (file_state result.0) }
 {
     if let Err(fault) = clear(rt, old_path, new) {
@@ -189,12 +189,12 @@ fn make_from<S: Start + Located>(
     requires found { old_path.now ≡ S.Located.path → HasCleanDisk (file_state old)
         → FindsIn (image_at S.Start) (file_state old) }
     ensures taken { old_path.now ≡ S.Located.path → (m : Content) → m.admin ≡ admin
-        → HoldOldBooks (image_at S.Start) m
+        → AreOldBooksWith (image_at S.Start) m
         → IfOk result.1 (λ files. IsHonest (file_state result.0)
         → AreClean ⟦<File as Disk>⟧ files.log files.db
-        → HoldWholeBooks ⟦<File as Disk>⟧ files m) }
+        → AreWholeBooksWith ⟦<File as Disk>⟧ files m) }
     ensures read { old_path.now ≡ S.Located.path → (db : Database)
-        → HoldDatabase (image_at S.Start) db → HoldsStill (file_state result.0) db }
+        → AreOfDatabase (image_at S.Start) db → StillShows (file_state result.0) db }
 {
     // Gives the proof what a crash leaves of it; does nothing at run time.
     note_settled(&old);
@@ -217,11 +217,11 @@ fn open_and_make<S: Start + Located>(
     StoreFault,
 >
     ensures taken { old_path.now ≡ S.Located.path → (m : Content) → m.admin ≡ admin
-        → HoldOldBooks (image_at S.Start) m → IfOk result (λ r. IfOk r.1 (λ files. IsHonest (file_state r.0)
+        → AreOldBooksWith (image_at S.Start) m → IfOk result (λ r. IfOk r.1 (λ files. IsHonest (file_state r.0)
         → AreClean ⟦<File as Disk>⟧ files.log files.db
-        → HoldWholeBooks ⟦<File as Disk>⟧ files m)) }
+        → AreWholeBooksWith ⟦<File as Disk>⟧ files m)) }
     ensures read { IfOk result (λ r. old_path.now ≡ S.Located.path → (db : Database)
-        → HoldDatabase (image_at S.Start) db → HoldsStill (file_state r.0) db) }
+        → AreOfDatabase (image_at S.Start) db → StillShows (file_state r.0) db) }
 {
     let log = log_of(rt, old_path)?;
     let had_log = length_of(rt, &log)?.is_some();
@@ -289,11 +289,11 @@ pub fn migrate_file<S: Start + Located>(
     start: S,
 ) -> Migrated<S>
     ensures taken { old_path.now ≡ S.Located.path → (m : Content) → m.admin ≡ admin
-        → HoldOldBooks (image_at S.Start) m → IfOk result.1 (λ files. IsSomeAnd result.0 (λ old. IsHonest (file_state old)
+        → AreOldBooksWith (image_at S.Start) m → IfOk result.1 (λ files. IsSomeAnd result.0 (λ old. IsHonest (file_state old)
         → AreClean ⟦<File as Disk>⟧ files.log files.db
-        → HoldWholeBooks ⟦<File as Disk>⟧ files m)) }
+        → AreWholeBooksWith ⟦<File as Disk>⟧ files m)) }
     ensures read { old_path.now ≡ S.Located.path → IfSome result.0 (λ old. (db : Database)
-        → HoldDatabase (image_at S.Start) db → HoldsStill (file_state old) db) }
+        → AreOfDatabase (image_at S.Start) db → StillShows (file_state old) db) }
 {
     let new = match names_for(rt, old_path, new_path) {
         Ok(new) => new,
