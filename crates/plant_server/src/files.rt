@@ -2,7 +2,7 @@
 //! another name and renamed once it is whole, so that a start that is cut off leaves no half file.
 
 ghost use Rattle.std.specs.Prelude.{◌≡◌, ◌≢◌, false, true, IsTrue, IfErr, IfOk, IfSome, string_bytes};
-ghost use Rattle.sqlite.specs.{Effect.{Database}, Files.{file_state, IsBlankAs, IsOpened}, Start.{FindsIn}};
+ghost use Rattle.sqlite.specs.{Effect.{Database}, Files.{file_state, IsBlankAs, IsEmpty, IsOpened}, Start.{FindsIn}};
 ghost use Rattle.sqlite.specs.State.{HasCleanDisk};
 ghost use Rattle.sqlite_std_file.specs.File.{IsFresh};
 ghost use Rattle.sqlite_store.specs.FileStore.{view};
@@ -19,13 +19,13 @@ ghost use Rattle.plant_store.specs.{Opened.{IsAnothers, KeepsIfOk, WasOffice}, O
 ghost use Rattle.plant_server.specs.Files as files;
 
 use crate::names::{Empty, Found, beside, is_there, length_of, remove};
-use crate::openings::open_at;
+use crate::openings::{create_at, open_at};
 use crate::places::Located;
 use crate::remains::{Left, close_whole};
 use plant_server_machine::Machine;
 use plant_store::{StoreFault, Tables, note_settled};
 use plant_types::{Fault, Person};
-use sqlite::{Alter, Connection, Error, ErrorCode, File, FileFrom, FileStore, Start, Unknown};
+use sqlite::{Alter, Connection, Error, ErrorCode, File, FileFrom, FileStore, Start};
 use sqlite_disk::{Disk, Files};
 use sqlite_trees::error::StoreError;
 use std::alloc::Global;
@@ -50,8 +50,8 @@ fn fault_of(error: &Error) -> StoreFault
 /// Why no books were opened, and what is left of the file and its log.
 pub type NotOpened<S> = (StoreFault, Left<FileFrom<S>, File, S>);
 
-/// Opens the database at this path. If there is none, a new one is made, with a checksum in each page, in the form of
-/// SQLite's extension cksumvfs; an existing database keeps its form. If opening fails, the files are not overwritten: a
+/// Opens the database at this path, which keeps its form. If there is none, the engine makes one of its own, with a
+/// checksum in each page, in the form of SQLite's extension cksumvfs. If opening fails, the files are not overwritten: a
 /// crash leaves of them what it could leave before (the engine's `LeavesFiles`).
 pub fn connect<S: Start + Located>(
     machine: &Machine<'_>,
@@ -71,6 +71,21 @@ pub fn connect<S: Start + Located>(
     match open_at(machine, path, start) {
         Ok(conn) => Ok(conn),
         Err((error, left)) => Err((fault_of(&error), left)),
+    }
+}
+
+/// Makes a database without tables in a file that does not exist, with a checksum in each page.
+pub fn create(machine: &Machine<'_>, path: &str) -> Result<Connection<FileStore<File>>, StoreFault>
+    ensures mode { IfOk result HasNoTransaction }
+    ensures opened { IfOk result (λ conn. HasCleanDisk (file_state conn) → IsOpened conn) }
+    ensures empty { IfOk result (λ conn. HasCleanDisk (file_state conn) → IsEmpty (file_state conn).committed.trees) }
+    ensures sums { IfOk result (λ conn. HasCleanDisk (file_state conn) → (view conn.store).has_sums ≡ true) }
+    ensures named { IfErr result (λ e. e ≢ StoreFault.NotThisStore) }
+{
+    match create_at(machine, path) {
+        Ok(conn) => Ok(conn),
+        Err(Error::SqliteFailure(ErrorCode::OutOfMemory)) => Err(MEMORY),
+        Err(_) => Err(STORE),
     }
 }
 
@@ -173,10 +188,9 @@ fn make_whole(machine: &Machine<'_>, path: &str, admin: Person) -> Result<Files<
         → AreWholeBooksWith ⟦<File as Disk>⟧ files (no_units admin)) }
     ensures named { IfErr result (λ e. e ≢ StoreFault.NotThisStore) }
 {
-    match connect(machine, path, Unknown) {
+    match create(machine, path) {
         Ok(conn) => make_over(machine.alloc(), conn, admin),
-        Err((StoreFault::NotThisStore, _)) => Err(STORE),
-        Err((fault, _)) => Err(fault),
+        Err(fault) => Err(fault),
     }
 }
 

@@ -10,13 +10,13 @@ ghost use Rattle.plant_store_statements.specs.{Changes.{IsHonest}, Keeping.{Repr
 ghost use Rattle.plant_store_statements.specs.Reading.{HasNoTransaction};
 ghost use Rattle.plant_store_migration.specs.Upgrading.{HaveOldRows};
 
-use crate::files::{NewNames, STORE, close_new, connect, new_names, put_in_place};
+use crate::files::{NewNames, STORE, close_new, connect, create, new_names, put_in_place};
 use crate::names::{Found, beside, is_there, length_of, remove};
 use crate::places::Located;
 use plant_server_machine::Machine;
 use plant_store::{StoreFault, Tables, migrate, note_settled};
 use plant_types::Person;
-use sqlite::{Alter, Connection, File, FileFrom, FileStore, Start, Unknown};
+use sqlite::{Alter, Connection, File, FileFrom, FileStore, Start};
 use sqlite_disk::{Disk, Files};
 use std::alloc::Global;
 
@@ -86,9 +86,9 @@ fn copy_to_file<D: Disk + Drop>(
         → HaveOldRows m (file_state old).now → Represents (file_state books.0.0) m) }
     ensures read { OnlyReads (file_state old) (file_state result.0) }
 {
-    match connect(machine, path, Unknown) {
+    match create(machine, path) {
         Ok(conn) => copy_tables(machine.alloc(), old, conn, admin),
-        Err((fault, _)) => (old, Err(fault)),
+        Err(fault) => (old, Err(fault)),
     }
 }
 

@@ -17,7 +17,7 @@ use sqlite_disk::Files;
 use sqlite_std_file::{FileFrom, OpenError, Start};
 use std::alloc::Global;
 use std::hash::{BuildHasher, RandomState};
-use std::io::ErrorKind;
+use std::io::{ErrorKind, Read};
 use std::net::{Ipv4Addr, SocketAddr, TcpListener};
 use std::os::unix::fs::MetadataExt;
 use std::time::{Duration, Instant};
@@ -104,6 +104,13 @@ impl<'a> Machine<'a> {
         let mut folder = fs::canonicalize(self.rt, path)?;
         folder.pop();
         fs::File::open(self.rt, folder.as_str())?.sync_all()
+    }
+
+    /// The first bytes of the file at this path, up to the size of a page in the header of a database.
+    pub fn head_of(&self, path: &str) -> io::Result<[u8; 18]> {
+        let mut head = [0; 18];
+        fs::File::open(self.rt, path)?.read_exact(&mut head)?;
+        Ok(head)
     }
 
     /// Opens and locks the file at this path and its log, each created if missing.
