@@ -32,7 +32,7 @@ New books have pages of 1,024 bytes, with checksums. Those that `sqlite3` made k
   1024 8
   $ for size in 512 1024 2048 4096 65536; do
   >   sized sized.db $size $EXAMPLES/../schema.sql
-  >   for turn in open units; do shelfoffice --admin root --db sized.db <$EXAMPLES/$turn.http 2>&1 | tail -1; echo; done
+  >   for turn in open units; do shelfoffice --admin root --db sized.db <$EXAMPLES/$turn.http 2>&1 | tail -1; done
   >   pages sized.db; rm sized.db*
   > done
   {"done":true}end: Closed
