@@ -126,7 +126,7 @@ def show_and_decide(unit: Unit, those: Changes, whole: str | None, blind: bool, 
     """Shows changes, and decides of them as the command line or the approver says. Whether the approver goes on."""
     for it in those:
         unit.shown(it).show(console)
-    click.echo(f"{tally.plural(len(those), 'proposal')} shown")
+    click.echo(f"{values.plural(len(those), 'proposal')} shown")
     answer = whole[0] if whole else "q"
     if those and whole is None and not count.is_dry:
         answer = click.prompt("approve all, reject all, one by one, or quit", type=click.Choice(["a", "r", "o", "q"]), default="q")
@@ -165,9 +165,9 @@ def command(unit: str, proposer: str | None, kind: str | None, whole: str | None
         meant = [it for it in found.waiting if proposer in (None, it.proposer) and kind in (None, it.kind.name)]
         waiting = [it for it in meant if it.proposer != person]
         if found.notes:
-            click.echo(f"{tally.plural(found.notes, 'note')} of office successor: whoever has left it takes it back")
+            click.echo(f"{values.plural(found.notes, 'note')} of office successor: whoever has left it takes it back")
         if len(waiting) < len(meant):
-            click.echo(f"{tally.plural(len(meant) - len(waiting), 'proposal')} of your own: somebody else decides")
+            click.echo(f"{values.plural(len(meant) - len(waiting), 'proposal')} of your own: somebody else decides")
         first = [it for it in waiting if it.kind is values.Kind.matrix]
         rest = [it for it in waiting if it not in first]
         if (not first or show_and_decide(found, first, whole, blind, count, console)) and (rest or not first):

@@ -9,7 +9,7 @@ import typing
 
 import click
 
-from companions import audit, backups, calls, options, pages, removals, tally, values
+from companions import audit, backups, calls, descriptions, options, pages, removals, tally, values
 
 LENGTH = re.compile(r"([0-9]+(?:[.,][0-9]+)?)\s*(s|min|h|d)")
 LENGTHS = {"s": 1, "min": 60, "h": 3_600, "d": 86_400}
@@ -54,8 +54,11 @@ def make_one(dry_run: bool, words: dict[str, typing.Any], what: str, call_of: co
 @UNIT
 @options.backup_of_each
 @click.option("--log", "logs", type=options.FOLDER, multiple=True, help="A file of the audit log, or a folder of them.")
+@options.described
 @options.connected
-def show(tag: str, unit: str, paths: tuple[pathlib.Path, ...], logs: tuple[pathlib.Path, ...], **words: typing.Any) -> int:
+def show(
+    tag: str, unit: str, paths: tuple[pathlib.Path, ...], logs: tuple[pathlib.Path, ...], described: pathlib.Path | None, **words: typing.Any
+) -> int:
     """Shows an alarm: its state, its shelf, its record, and who took it out of service.
 
     No call says who took it out of service, when and why: that is taken from the audit log or a backup, if they are named, with its moment. The
@@ -63,6 +66,7 @@ def show(tag: str, unit: str, paths: tuple[pathlib.Path, ...], logs: tuple[pathl
 
     Status: 0 shown, 1 refused, 2 the command line is wrong, 3 the office cannot be reached.
     """
+    about = descriptions.read(described).words(unit, tag)
     with options.office_of(**words) as office, backups.opened_all(paths) as books:
         at = office.caller()[1]
         state = json.loads(office.link.ask(f"/units/{unit}/alarms/{tag}"))
@@ -72,6 +76,7 @@ def show(tag: str, unit: str, paths: tuple[pathlib.Path, ...], logs: tuple[pathl
         removal = removals.Removals(unit, at, books.get(unit), audit.read_log(logs) if logs else None).of(tag) if state["out_of_service"] else None
     lines = {
         "alarm": f"{tag} of {unit} at {pages.minute(at)}",
+        **({"description": about} if about else {}),
         "state": state["state"] + (f" since {pages.minute(since)}" if since else ""),
         "priority": record.priority if record else "none: no record was approved",
         "shelf": f"{shelf.kind}, until {pages.minute(shelf.until)}, by {shelf.person}: {shelf.words}" if shelf else "not shelved",
@@ -87,19 +92,22 @@ def show(tag: str, unit: str, paths: tuple[pathlib.Path, ...], logs: tuple[pathl
 
 @click.command(name="shelves")
 @click.option("--units", type=options.Units(), default="all", help="The units with commas.  [default: all in which you hold a role]")
+@options.described
 @options.connected
-def shelves(units: tuple[str, ...], **words: typing.Any) -> int:
+def shelves(units: tuple[str, ...], described: pathlib.Path | None, **words: typing.Any) -> int:
     """Lists what is shelved, the shelf that ends first at the top.
 
     The caller holds any role in each unit.
 
     Status: 0 shown, 1 refused, 2 the command line is wrong, 3 the office cannot be reached.
     """
+    about = descriptions.read(described)
     with options.office_of(**words) as office:
         found = [(it, unit) for unit in units or tuple(sorted(office.units())) for it in office.shelves(unit)]
     for it, unit in sorted(found, key=lambda pair: (pair[0].until, pair[1], pair[0].tag)):
-        click.echo(f"{unit:<8} {it.tag:<24} {it.kind:<8} until {pages.minute(it.until)} by {it.person}: {it.words}")
-    click.echo(tally.plural(len(found), "shelf").replace("shelfs", "shelves"))
+        what = about.words(unit, it.tag)
+        click.echo(f"{unit:<8} {it.tag:<24} {it.kind:<8} until {pages.minute(it.until)} by {it.person}: {it.words}{f' ({what})' if what else ''}")
+    click.echo(values.plural(len(found), "shelf").replace("shelfs", "shelves"))
     return 0
 
 

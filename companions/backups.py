@@ -72,8 +72,7 @@ class Shelf:
     words: str
 
 
-@dataclasses.dataclass(frozen=True)
-class Event:
+class Event(typing.NamedTuple):
     moment: int  # seconds, as in the file: a unit has many events
     tag: str
     kind: str
@@ -168,6 +167,16 @@ class Books:
             WHERE s.unit = ? AND until_s > ? AND NOT (one_shot = 1 AND return_s IS NOT NULL AND return_s > start_s) ORDER BY s.tag"""
         found = self.rows.execute(text, (unit, values.seconds_at(moment)))
         return [Shelf(tag, bool(one), values.moment_at(start), values.moment_at(until), *rest) for tag, one, start, until, *rest in found]
+
+    def last_shelves(self, unit: str) -> list[Shelf]:
+        """The last shelf of each alarm, also one that is over; one that a person ended is not kept."""
+        text = "SELECT tag, one_shot, start_s, until_s, person, words FROM shelves WHERE unit = ? ORDER BY tag"
+        found = self.rows.execute(text, (unit,))
+        return [Shelf(tag, bool(one), values.moment_at(start), values.moment_at(until), *rest) for tag, one, start, until, *rest in found]
+
+    def priorities(self, unit: str) -> dict[str, str]:
+        """The priorities in force, by alarm; one without a record has none."""
+        return {tag: CELLS[cell] for tag, cell in self.rows.execute("SELECT tag, cell_no FROM records WHERE unit = ?", (unit,))}
 
     def events(self, unit: str) -> collections.abc.Iterator[Event]:
         """The events in the order of their numbers, in which they take effect."""

@@ -30,38 +30,52 @@ class Mark:
     words: str
 
 
-def bars(found: collections.abc.Sequence[Bar], marks: collections.abc.Sequence[Mark], title: str) -> markupsafe.Markup:
-    """A picture of bars over an axis from 0 to 1."""
-    top = max((it.height for it in found), default=0) or 1
+def bars(
+    found: collections.abc.Sequence[Bar], marks: collections.abc.Sequence[Mark], title: str, aim: float | None = None
+) -> markupsafe.Markup:
+    """A picture of bars over an axis from 0 to 1, with a line at what is aimed at."""
+    top = max(max((it.height for it in found), default=0), aim or 0) or 1
     room, foot = WIDTH - MARGIN, HEIGHT - FOOT
     parts = [
         f'<svg viewBox="0 0 {WIDTH} {HEIGHT}" role="img" aria-label="{markupsafe.escape(title)}" xmlns="http://www.w3.org/2000/svg">',
         f'<line class="axis" stroke="#555" x1="{MARGIN}" y1="{foot}" x2="{WIDTH}" y2="{foot}"/>',
-        f'<text x="{MARGIN - 4}" y="12" text-anchor="end">{top:g}</text><text x="{MARGIN - 4}" y="{foot}" text-anchor="end">0</text>',
+        f'<text x="{MARGIN - 4}" y="12" text-anchor="end">{top:,g}</text><text x="{MARGIN - 4}" y="{foot}" text-anchor="end">0</text>',
     ]
     for it in found:
         high = (foot - 6) * it.height / top
         left, width = MARGIN + room * it.begin, max(room * (it.end - it.begin) - 1, 1)
         place = f'x="{left:.1f}" y="{foot - high:.1f}" width="{width:.1f}" height="{high:.1f}"'
         parts.append(f'<rect class="bar" fill="#2b5d8a" {place}><title>{markupsafe.escape(it.words)}</title></rect>')
+    if aim is not None:
+        high = foot - (foot - 6) * aim / top
+        place = f'x1="{MARGIN}" y1="{high:.1f}" x2="{WIDTH}" y2="{high:.1f}"'
+        parts.append(f'<line class="aim" stroke="#a00" stroke-dasharray="4 3" {place}/>')
+        halo = 'paint-order="stroke" stroke="#fff" stroke-width="3"'
+        parts.append(f'<text class="aim" {halo} x="{WIDTH}" y="{max(high - 2, 8):.1f}" text-anchor="end">at most {aim:g}</text>')
     for mark in marks:
         at = MARGIN + room * mark.at
         parts.append(f'<line class="axis" stroke="#555" x1="{at:.1f}" y1="{foot}" x2="{at:.1f}" y2="{foot + 3}"/>')
-        parts.append(f'<text x="{at:.1f}" y="{HEIGHT - 2}" text-anchor="middle">{markupsafe.escape(mark.words)}</text>')
+        anchor = "end" if mark.at > 0.97 else "middle"
+        parts.append(f'<text x="{at:.1f}" y="{HEIGHT - 2}" text-anchor="{anchor}">{markupsafe.escape(mark.words)}</text>')
     return markupsafe.Markup("\n".join([*parts, "</svg>"]))
 
 
-def of_floods(floods: collections.abc.Sequence[lists.Flood], begin: datetime.datetime, until: datetime.datetime) -> markupsafe.Markup:
-    """The floods of a shift: each as wide as it lasted, as high as its worst ten minutes."""
+def of_floods(
+    floods: collections.abc.Sequence[lists.Flood], begin: datetime.datetime, until: datetime.datetime, zone: datetime.tzinfo | None = None
+) -> markupsafe.Markup:
+    """The floods of a shift: each as wide as it lasted, as high as its worst ten minutes. The hours are those of a zone, or of UTC."""
     whole = (until - begin).total_seconds()
+
+    def hour(moment: datetime.datetime) -> str:
+        return f"{moment.astimezone(zone or datetime.timezone.utc):%H:%M}"
 
     def place(moment: datetime.datetime) -> float:
         return (moment - begin).total_seconds() / whole
 
-    found = [Bar(place(it.start), place(it.until), it.peak, f"{it.start:%H:%M} to {it.until:%H:%M}: {it.total} activations") for it in floods]
+    found = [Bar(place(it.start), place(it.until), it.peak, f"{hour(it.start)} to {hour(it.until)}: {it.total} activations") for it in floods]
     step = max(1, round(whole / 3_600 / 8))
     hours = [begin + datetime.timedelta(hours=it) for it in range(0, int(whole // 3_600) + 1, step)]
-    return bars(found, [Mark(place(it), f"{it:%H:%M}") for it in hours if 0.02 < place(it) < 0.98], "floods of the shift")
+    return bars(found, [Mark(place(it), hour(it)) for it in hours if 0.02 < place(it) < 0.98], "floods of the shift")
 
 
 def line_of_floods(floods: collections.abc.Sequence[lists.Flood], begin: datetime.datetime, until: datetime.datetime) -> str:

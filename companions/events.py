@@ -28,7 +28,7 @@ import re
 import typing
 import zoneinfo
 
-from companions import pages, sheets, values
+from companions import mappings, pages, sheets, values
 
 COLUMNS = ("seq", "moment", "tag", "event")
 OTHERS = ("unit", "offset")
@@ -249,7 +249,7 @@ class Reader:
 
     def __init__(self, unit: str, path: pathlib.Path | None = None) -> None:
         self.unit = unit
-        self.mapping = sheets.read_mapping(path, (*COLUMNS, *OTHERS), ("moments", "skip"))
+        self.mapping = mappings.read_mapping(path, (*COLUMNS, *OTHERS), ("moments", "skip"))
         if PLAIN.encode(self.mapping.encoding) != PLAIN.encode():
             raise sheets.Wrong(f"{path}: events are not read in {self.mapping.encoding}: save them as UTF-8")
         self.moments = read_moments(path, self.mapping.more.get("moments", {}))
@@ -293,7 +293,7 @@ class Reader:
     def texts(self, fields: list[str], places: dict[str, int], fold: int | None) -> collections.abc.Iterator[str]:
         offset = self.mapping.meant("offset", fields[places["offset"]]) if "offset" in places else None
         for column in COLUMNS:
-            text = self.mapping.meant(column, bare(fields[places[column]]))
+            text = self.mapping.meant(column, pages.bare(fields[places[column]]))
             yield self.moment(text, fold, offset) if column == "moment" else text
 
 
@@ -305,11 +305,6 @@ def read_skipped(path: pathlib.Path | None, members: object) -> frozenset[str]:
     if not isinstance(found, list) or not all(isinstance(it, str) for it in found):
         raise sheets.Wrong(f"{path}: the event of [skip] is a list of texts")
     return frozenset(found)
-
-
-def bare(text: str) -> str:
-    """A field without the apostrophe that a table has in front of what looks like a formula."""
-    return text[1:] if text.startswith("'") and text[1:].startswith(pages.FORMULA) else text
 
 
 def split(text: str, delimiter: str) -> list[str]:

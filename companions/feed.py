@@ -262,7 +262,7 @@ class Feeding:
                 rows = self.reader.columns(head).rows(lines)
                 if self.count.is_dry:
                     size, number = events.count_pieces(rows)
-                    click.echo(f"would: import {tally.plural(size, 'event')} of {path.name} in {tally.plural(number, 'piece')}")
+                    click.echo(f"would: import {values.plural(size, 'event')} of {path.name} in {values.plural(number, 'piece')}")
                     self.count.done += size
                 else:
                     self.bad = BadRows(bad, path.name, head.text)
@@ -279,7 +279,7 @@ class Feeding:
     def say_bad(self) -> None:
         """How many rows of a file are kept aside, where not all are listed."""
         if self.bad is not None and self.bad.count:
-            click.echo(f"{self.bad.name}: {tally.plural(self.bad.count, 'bad row')} in {self.bad.folder / self.bad.name}", err=True)
+            click.echo(f"{self.bad.name}: {values.plural(self.bad.count, 'bad row')} in {self.bad.folder / self.bad.name}", err=True)
 
     # ---- a spool folder
 

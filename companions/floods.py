@@ -38,10 +38,15 @@ def floods(events: collections.abc.Iterable[backups.Event], begin: datetime.date
     """From one moment to before another, both at full ten minutes; what lies before is not looked at."""
     first, end = values.seconds_at(begin), values.seconds_at(until)
     counts = collections.Counter(it.moment // values.FLOOD_PERIOD for it in activations(events) if first <= it.moment < end)
+    return runs(counts, first // values.FLOOD_PERIOD, end // values.FLOOD_PERIOD)
+
+
+def runs(counts: collections.Counter[int], first: int, end: int) -> list[lists.Flood]:
+    """The floods by how many activations came in each ten minutes, of those from one number to before another."""
     found: list[lists.Flood] = []
     here: list[int] = []
-    for period in range(first // values.FLOOD_PERIOD, end // values.FLOOD_PERIOD + 1):
-        count = counts[period] if period < end // values.FLOOD_PERIOD else 0
+    for period in range(first, end + 1):
+        count = counts[period] if period < end else 0
         if here and count < LASTS_FROM:
             found.append(flood(period - len(here), here))
             here = []

@@ -10,7 +10,7 @@ import typing
 
 import click
 
-from companions import calls, options, sheets, tally, values
+from companions import calls, mappings, options, sheets, tally, values
 
 COLUMNS = ("person", "units", "role", "end")
 
@@ -107,7 +107,7 @@ def command(
         raise click.UsageError("name a person with --units and --role, or --file and none of these")
     if end is not None and "Steward" in roles:
         raise click.UsageError("the role of a steward has no end")
-    wishes = read_people(file, sheets.read_mapping(mapping, COLUMNS)) if file is not None else []
+    wishes = read_people(file, mappings.read_mapping(mapping, COLUMNS)) if file is not None else []
     with options.office_of(**words) as office, tally.Tally(dry_run, ()) as count:
         if person is not None:
             meant, until = units or stewarded(office), options.moment_of(end)

@@ -10,7 +10,7 @@ import typing
 
 import click
 
-from companions import alarms, backups, calls, changes, lists, options, sheets, tally, values
+from companions import alarms, aside as aside_of, backups, calls, changes, lists, mappings, options, sheets, tally, values
 
 LIMIT, RECORD = values.Kind.limit, values.Kind.record
 
@@ -197,11 +197,31 @@ def load(
     dataclasses.replace(found, missing=[], differing=[]).show()
 
 
+OUT = click.Path(dir_okay=False, path_type=pathlib.Path)
+
+
+def read_file(file: pathlib.Path, mapping: pathlib.Path | None, unit: str, bad: pathlib.Path | None) -> tuple[list[alarms.Wanted], int]:
+    """The alarms of a file, and how many rows were set aside. Without a file for these all rows have to be good."""
+    found = alarms.read(file, mappings.read_mapping(mapping, alarms.COLUMNS), unit)
+    aside = 0
+    if bad is None:
+        found.sheet.check()
+    else:
+        aside = aside_of.set_aside(found.sheet, bad)
+    for it in found.repeated:
+        click.echo(f"{file}: {it}")
+    if aside and bad is not None:
+        click.echo("\n".join(sheets.summary(file, found.sheet.faults)))
+        click.echo(f"{values.plural(aside, 'row')} with what is wrong: {bad}")
+    return found.good(), aside
+
+
 @click.command(name="load")
 @click.argument("file", type=options.FILE)
 @click.option("--unit", type=options.UNIT, required=True, help="The unit; of a file with a column `unit`, its lines.")
 @options.mapping
 @click.option("--check", is_flag=True, help="Compares only: status 0 if the unit is as the file says, 1 if not.")
+@click.option("--good", "bad", type=OUT, metavar="FILE", help="Loads the good rows, and writes the bad ones into this file, with what is wrong.")
 @click.option("--again", is_flag=True, help="Proposes anew what was rejected.")
 @click.option("--backup", type=options.FOLDER, envvar="OFFICE_BACKUP", help="A backup: it says which alarms latch, as no call does.")
 @options.dry_run
@@ -211,6 +231,7 @@ def command(
     unit: str,
     mapping: pathlib.Path | None,
     check: bool,
+    bad: pathlib.Path | None,
     again: bool,
     backup: pathlib.Path | None,
     dry_run: bool,
@@ -220,8 +241,9 @@ def command(
 
     FILE has comma-separated values, with the columns tag, latching (yes or no), limit (the longest shelf, in seconds), and for a record cause,
     consequence, action, severity (1 to 5) and response (the time to respond, in seconds). A line without the last five has no record. UTF-8, with a
-    mark or without; semicolons and line ends within quotes do no harm. Other columns are left out. All that is wrong is listed by line and column
-    before anything is sent.
+    mark or without; semicolons and line ends within quotes do no harm. Other columns are left out. A line that says once more what another says is
+    taken once. All that is wrong is counted by kind and listed by line before anything is sent; then --good FILE loads the other rows. In FILE the
+    bad ones can be mended, and be loaded with the same mapping.
 
     Alarms that are missing are registered; records and limits that differ are proposed, for an approver (office approve). What waits already is not
     proposed twice, nor what an approver has rejected. The caller is an Engineer of the unit. May be stopped at any moment and typed again.
@@ -231,18 +253,27 @@ def command(
     \b
         encoding = "cp1252"           # otherwise utf-8
         delimiter = ";"               # otherwise that of the header
+        header = 3                    # its line, or a text that stands in it
+        decimal = ","                 # for times as 0,25 h
+        capitals = ["tag"]            # columns whose small letters become capitals
         [columns]
         tag = "Tag name"
         limit = "Longest shelf"
         [seconds]
-        limit = "minutes"             # or hours, days
+        limit = "minutes"             # of a time without a unit; or hours, days
+        [units]
+        Std = "hours"                 # beside s, min, h and d
         [values.latching]
         Latched = "yes"
         "" = "no"
+        [replace]
+        "\u00e4" = "ae"                   # in every column
+        [skip]
+        row = ["Section .*"]          # patterns of Python, of the whole row or a column
 
-    Status: 0 done, 1 refused or (with --check) different, 2 the file or the command line is wrong, 3 the office cannot be reached.
+    Status: 0 done, 1 refused, a row set aside or (with --check) different, 2 the file or the command line is wrong, 3 the office cannot be reached.
     """
-    wanted = alarms.read_alarms(file, sheets.read_mapping(mapping, alarms.COLUMNS), unit)
+    wanted, aside = read_file(file, mapping, unit, bad)
     latching: dict[str, bool] = {}
     if backup is not None:
         with backups.opened(backup) as books:
@@ -252,9 +283,9 @@ def command(
             found = compare(office, unit, wanted, latching)
             found.show()
             said = "as in the office" if found.is_equal() else "the office differs"
-            click.echo(f"{tally.plural(len(wanted), 'alarm')} in {file.name}: {said}")
-            return 0 if found.is_equal() else 1
+            click.echo(f"{values.plural(len(wanted), 'alarm')} in {file.name}: {said}")
+            return 0 if found.is_equal() and not aside else 1
         with tally.Tally(dry_run) as count:
             there = tally.over(office.changes(unit), "looks at the changes")
             load(Loading(office, unit, office.caller()[0], count, again), wanted, latching, there)
-        return count.status()
+        return count.status() or int(aside > 0)

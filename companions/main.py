@@ -8,9 +8,10 @@ import types
 import click
 
 import companions
-from companions import approve, at_hand, connection, feed, filling, handover, holders, joining, leaving, load, opening, reporting, sheets, successor
+from companions import approve, at_hand, connection, describe, feed, filling, handover, holders, joining, leaving, load, monitor, opening
+from companions import reporting, sheets, successor
 
-MODULES = (opening, joining, leaving, load, approve, feed, handover, reporting, filling, successor, holders)
+MODULES = (opening, joining, leaving, load, approve, feed, handover, reporting, monitor, filling, successor, holders, describe)
 COMMANDS = (
     *(it.command for it in MODULES), at_hand.show, at_hand.shelves, at_hand.shelve, at_hand.unshelve, at_hand.out, at_hand.back,
 )

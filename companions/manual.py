@@ -19,6 +19,8 @@ ENVIRONMENT = {
     "NETRC": "A file of names and passwords by host, in place of ~/.netrc.",
     "OFFICE_CA": "The plant's own certificates, if --ca does not name them.",
     "OFFICE_OFFICES": "The plant's offices, if --offices does not name them.",
+    "OFFICE_ZONE": "The plant's time zone, if --zone does not name one.",
+    "OFFICE_DESCRIPTIONS": "The file of office describe, if --descriptions (or --into) does not name one.",
     "OFFICE_BACKUP": "A backup, or a folder of backups, if --backup does not name one.",
 }
 

@@ -8,6 +8,7 @@ import pathlib
 
 from companions import backups, connection, lists, pages, values
 
+When = collections.abc.Callable[[datetime.datetime | None], str]  # how a moment is written
 LIMIT = datetime.timedelta(minutes=15)  # the age above which an event is called too old, for a unit with a feed
 
 
@@ -20,11 +21,11 @@ class Newest:
     seconds: int | None
     is_old: bool
 
-    def words(self) -> str:
+    def words(self, when: When = pages.minute) -> str:
         if self.moment is None or self.seconds is None:
             return "last event: none is known"
         warning = ", TOO OLD: does the feed run?" if self.is_old else ""
-        return f"last event {pages.minute(self.moment)}, {values.length_of(self.seconds)} ago ({self.source}){warning}"
+        return f"last event {when(self.moment)}, {values.length_of(self.seconds)} ago ({self.source}){warning}"
 
 
 def of_moments(found: collections.abc.Mapping[str, datetime.datetime | None], at: datetime.datetime, limit: datetime.timedelta) -> Newest:
@@ -43,10 +44,11 @@ def of_unit(
     books: backups.Books | None,
     feed: datetime.datetime | None,
     limit: datetime.timedelta,
+    when: When = pages.minute,
 ) -> Newest:
     found = {"by the feed": feed, "by what stands": max((it.since for it in standing), default=None)}
     if books is not None:
-        found[f"by the backup of {pages.minute(books.moment())}"] = books.newest_event(unit)
+        found[f"by the backup of {when(books.moment())}"] = books.newest_event(unit)
     return of_moments(found, at, limit)
 
 

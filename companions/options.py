@@ -93,5 +93,10 @@ def backup_of_each(command: Command) -> Command:
     return click.option("--backup", "paths", type=FOLDER, multiple=True, envvar="OFFICE_BACKUP", help=words)(command)
 
 
+def described(command: Command) -> Command:
+    words = "The file of office describe: descriptions and areas of alarms."
+    return click.option("--descriptions", "described", type=FILE, envvar="OFFICE_DESCRIPTIONS", help=words)(command)
+
+
 def moment_of(text: str | None) -> datetime.datetime | None:
     return None if text is None else values.moment_of(text)

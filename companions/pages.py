@@ -17,12 +17,18 @@ import jinja2
 
 from companions import values
 
+UNSAID = {"unsaid": True}  # of a field that a page needs, and JSON does not have
 TEMPLATES = pathlib.Path(__file__).parent / "templates"
 
 
 def minute(moment: datetime.datetime | None) -> str:
     """A moment as a page has it, without seconds."""
     return "" if moment is None else moment.astimezone(datetime.timezone.utc).strftime("%Y-%m-%d %H:%M")
+
+
+def number(value: float) -> str:
+    """A number as a page has it: thousands apart, and no more than two places."""
+    return f"{value:,.2f}".rstrip("0").rstrip(".") if value % 1 else f"{value:,.0f}"
 
 
 def environment() -> jinja2.Environment:
@@ -36,6 +42,7 @@ def environment() -> jinja2.Environment:
     )
     found.filters["minute"] = minute
     found.filters["length"] = values.length_of
+    found.filters["number"] = number
     return found
 
 
@@ -54,7 +61,7 @@ def plain(value: typing.Any) -> typing.Any:
     if isinstance(value, enum.Enum):
         return value.name
     if dataclasses.is_dataclass(value):
-        return {it.name: plain(getattr(value, it.name)) for it in dataclasses.fields(value)}
+        return {it.name: plain(getattr(value, it.name)) for it in dataclasses.fields(value) if "unsaid" not in it.metadata}
     if isinstance(value, (list, tuple)):
         return [plain(it) for it in value]
     return value
@@ -71,6 +78,11 @@ def harmless(cell: typing.Any) -> typing.Any:
     """A cell as a CSV file has it. A text that a spreadsheet may run as a formula gets an apostrophe in front, as OWASP advises."""
     value = plain(cell)
     return f"'{value}" if isinstance(value, str) and value.startswith(FORMULA) else value
+
+
+def bare(text: str) -> str:
+    """A cell without the apostrophe that a table has in front of what looks like a formula."""
+    return text[1:] if text.startswith("'") and text[1:].startswith(FORMULA) else text
 
 
 def csv_text(header: collections.abc.Sequence[str], rows: collections.abc.Iterable[collections.abc.Sequence[object]]) -> str:
@@ -91,7 +103,7 @@ def is_replaceable(out: pathlib.Path) -> bool:
         return True
 
 
-def write(text: str, out: pathlib.Path | None) -> None:
+def write(text: str, out: pathlib.Path | None, encoding: str = "utf-8") -> None:
     """Writes a file, which is there as a whole or not at all; or to standard output. A link is followed. Into a device or a pipe the text is
     written as it stands."""
     if out is None:
@@ -99,10 +111,10 @@ def write(text: str, out: pathlib.Path | None) -> None:
     elif is_replaceable(out):
         file = out.resolve()
         beside = file.with_name(f".{file.name}.new")
-        beside.write_text(text, encoding="utf-8")
+        beside.write_text(text, encoding=encoding, newline="")
         if file.exists():
             shutil.copymode(file, beside)
         beside.replace(file)
     else:
-        with out.open("w", encoding="utf-8") as opened_file:
+        with out.open("w", encoding=encoding, newline="") as opened_file:
             opened_file.write(text)

@@ -3,7 +3,7 @@
 import dataclasses
 import datetime
 
-from companions import audit, backups, pages
+from companions import audit, backups, newest, pages
 
 REMOVE, PLACE = "remove-from-service", "place-in-service"
 
@@ -17,18 +17,28 @@ class Removal:
     source: str
     is_known: bool
 
-    def words(self) -> str:
-        found = f"since {pages.minute(self.why.since)} by {self.why.person}: {self.why.words}" if self.why else ""
+    def words(self, when: newest.When = pages.minute) -> str:
+        found = f"since {when(self.why.since)} by {self.why.person}: {self.why.words}" if self.why else ""
         if self.is_known:
             return f"{found} ({self.source})"
         return f"not known ({self.source}: {found})" if found else f"not known ({self.source})"
+
+    def short(self, when: newest.When) -> str:
+        """The same in a line, with the name of its source alone."""
+        name = {"audit": "log", "backup": "backup"}.get(self.source.split(" ")[0], "")
+        found = f"{when(self.why.since)} {self.why.person} ({name}): {self.why.words}" if self.why else ""
+        if self.is_known:
+            return found
+        return f"not known; before: {found}" if found else "not known"
 
 
 class Removals:
     """The removals of a unit. `log` is read after the office was asked what is so `at` a moment, if there is one."""
 
-    def __init__(self, unit: str, at: datetime.datetime, books: backups.Books | None, log: audit.Log | None) -> None:
-        self.unit, self.at, self.log = unit, at, log
+    def __init__(
+        self, unit: str, at: datetime.datetime, books: backups.Books | None, log: audit.Log | None, when: newest.When = pages.minute
+    ) -> None:
+        self.unit, self.at, self.log, self.when = unit, at, log, when
         self.backup = books.moment() if books else None
         self.outs = {it.tag: it.out for it in books.alarms(unit)} if books else {}
         self.calls: dict[str, audit.Call] = {}
@@ -49,10 +59,10 @@ class Removals:
         """What is known of an alarm that is out of service now."""
         call, out = self.calls.get(tag), self.outs.get(tag)
         if call is not None and (out is None or call.moment >= out.since):
-            until = pages.minute(self.log.until if self.log else None)
+            until = self.when(self.log.until if self.log else None)
             why = backups.OutOfService(call.moment, call.person, str(call.body.get("words", "")))
             is_removal = call.kind() == REMOVE
             return Removal(why if is_removal else None, f"audit log to {until}", is_removal and call.is_done and self.is_current())
         if self.backup is None:
             return Removal(None, "no backup and no line of an audit log has it", False)
-        return Removal(out, f"backup of {pages.minute(self.backup)}", out is not None and (self.backup >= self.at or self.covers(self.backup)))
+        return Removal(out, f"backup of {self.when(self.backup)}", out is not None and (self.backup >= self.at or self.covers(self.backup)))

@@ -11,7 +11,7 @@ import re
 import click
 import markupsafe
 
-from companions import audit, backups, changes, charts, connection, floods, lists, newest, options, pages, shelvings
+from companions import audit, backups, changes, charts, connection, descriptions, floods, lists, newest, options, pages, shelvings
 
 LOG = pathlib.Path("/var/log/shelfoffice")
 MOST = 10
@@ -127,6 +127,7 @@ class Report:
     granted: list[Granted]
     floods: list[UnitFloods]
     notes: list[str]
+    described: descriptions.Described = descriptions.NONE
 
 
 def month_of(text: str) -> Month:
@@ -268,8 +269,11 @@ def report_of(log: audit.Log, month: Month, name: str, books: ByUnit, meant: tup
 
 def tables(report: Report) -> dict[str, str]:
     """The CSV files beside the page."""
-    kinds = ("unit", "tag", "kind", "start", "end", "seconds", "how it ended", "person", "words")
-    shelved = ((it.unit, it.tag, it.kind, it.start, it.end, it.seconds(), it.how, it.person, it.words) for it in report.shelvings)
+    kinds = ("unit", "tag", "kind", "start", "end", "seconds", "how it ended", "person", "words", "about")
+    shelved = (
+        (it.unit, it.tag, it.kind, it.start, it.end, it.seconds(), it.how, it.person, it.words, report.described.words(it.unit, it.tag))
+        for it in report.shelvings
+    )
     heads = ("unit", "number", "change", "proposer", "proposed", "state", "decider", "decided", "seconds")
     decided = (
         (it.unit, it.number, it.what, it.proposer, it.proposed, it.state, it.decider, it.decided, it.seconds()) for it in report.decisions
@@ -288,9 +292,17 @@ def tables(report: Report) -> dict[str, str]:
 @click.option("--month", required=True, metavar="YEAR-MONTH", help="The month, as 2026-03.")
 @click.option("--log", "logs", type=options.FOLDER, multiple=True, help=f"A file of the audit log, or a folder of them.  [default: {LOG}]")
 @options.backup_of_each
+@options.described
 @click.option("--units", type=options.Units(), default="all", help="With commas.  [default: all of the log and the backup]")
 @click.option("--out", type=click.Path(file_okay=False, path_type=pathlib.Path), default=".", help="The folder to write.  [default: here]")
-def command(month: str, logs: tuple[pathlib.Path, ...], paths: tuple[pathlib.Path, ...], units: tuple[str, ...], out: pathlib.Path) -> int:
+def command(
+    month: str,
+    logs: tuple[pathlib.Path, ...],
+    paths: tuple[pathlib.Path, ...],
+    described: pathlib.Path | None,
+    units: tuple[str, ...],
+    out: pathlib.Path,
+) -> int:
     """Writes a month of the plant: report-MONTH.html, and tables beside it as CSV.
 
     From the audit log (also its compressed files) come every shelving with its length and reason, the ten alarms that were shelved most and longest,
@@ -303,9 +315,9 @@ def command(month: str, logs: tuple[pathlib.Path, ...], paths: tuple[pathlib.Pat
     meant = logs or ((LOG,) if LOG.exists() else ())
     if not meant:
         raise connection.Trouble(f"there is no log at {LOG}: name it with --log")
-    log = audit.read_log(meant)
+    log, about = audit.read_log(meant), descriptions.read(described)
     with backups.opened_all(paths) as books:
-        report = report_of(log, span, month, books, units)
+        report = dataclasses.replace(report_of(log, span, month, books, units), described=about)
     try:
         out.mkdir(parents=True, exist_ok=True)
         for name, text in tables(report).items():

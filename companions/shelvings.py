@@ -9,6 +9,7 @@ import datetime
 from companions import audit, backups, calls, floods, pages, values
 
 ONE_SHOT, TIMED = "one-shot", "timed"
+RUNS = "runs at the end of the log"
 
 
 @dataclasses.dataclass(frozen=True)
@@ -118,5 +119,5 @@ def all_shelvings(log: audit.Log, past: collections.abc.Mapping[str, UnitPast]) 
     for (unit, _), begun in running.items():
         over, why = begun.by_itself(past.get(unit))
         known_until = max(it for it in (last, past[unit].moment if unit in past else last) if it is not None)
-        found.append(begun.ended(over, why) if over is None or over <= known_until else begun.ended(None, "runs at the end of the log"))
+        found.append(begun.ended(over, why) if over is None or over <= known_until else begun.ended(None, RUNS))
     return sorted(found, key=lambda it: (it.start, it.unit, it.tag))

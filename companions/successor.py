@@ -238,7 +238,7 @@ class Succession:
         yield from self.since_the_backup()
         ended = [it for it in self.old.grants if not it.holds_at(self.at)]
         if ended:
-            yield f"{tally.plural(len(ended), 'grant')} of {old} that ended are not granted in {to}"
+            yield f"{values.plural(len(ended), 'grant')} of {old} that ended are not granted in {to}"
         yield f"send the events of the control system to {to} from now on, and take the roles in {old} once nobody needs it"
 
     def since_the_backup(self) -> collections.abc.Iterator[str]:

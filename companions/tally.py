@@ -16,10 +16,6 @@ HOPELESS = ("NotGranted", "RoleLacking", "MomentBehind", "UnitFull", "NotAdminis
 Item = typing.TypeVar("Item")
 
 
-def plural(count: int, word: str) -> str:
-    return f"{count:,} {word}" + ("" if count == 1 else "s")
-
-
 @contextlib.contextmanager
 def progress(words: str, total: float | None) -> collections.abc.Iterator[collections.abc.Callable[[float], None]]:
     """A bar on standard error, if that is a terminal; yields the function that moves it on."""

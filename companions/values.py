@@ -107,3 +107,7 @@ def length_of(seconds: float) -> str:
         return f"{hours} h {minutes} min" if minutes else f"{hours} h"
     days, hours = whole // 86_400, whole % 86_400 // 3_600
     return f"{days} d {hours} h" if hours else f"{days} d"
+
+
+def plural(count: int, word: str) -> str:
+    return f"{count:,} {word}" + ("" if count == 1 else "s")

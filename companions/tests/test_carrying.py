@@ -266,8 +266,8 @@ def test_an_approver_is_not_shown_a_note(plant: Plant) -> None:
     assert said.stdout.endswith("7 proposals shown\ndone 7, there already 0, refused 0\n")
     assert plant.rows("SELECT state_no FROM changes WHERE unit = 'U2' AND number = 11") == [(1,)]
     said = typed("handover", "--units", "U2", *plant.words("vic", LATER))
-    words = "11 note of office successor on N1: the command was stopped, and takes it back when it is typed again, by eve since 2026-03-01 10:30"
-    assert f"Proposals that wait: 1\n     {words}\n" in said.stdout, said.stdout
+    words = "11 note of office successor on N1: the command was stopped, and takes it back when it is typed again, by eve since 10:30"
+    assert f"Proposals that wait: 1\n  U2          {words}\n" in said.stdout, said.stdout
 
 
 def test_the_place_of_a_note_is_one_of_little_weight_at_which_an_alarm_is_needed() -> None:

@@ -5,7 +5,7 @@ import json
 
 import pytest
 
-from companions import handover as handover_command, values
+from companions import shifts, values
 from companions.tests.plant import Plant, office as typed
 
 AT = "2026-03-01T10:00:00Z"
@@ -43,42 +43,72 @@ def test_the_page_as_text(plant: Plant) -> None:
     plant.call("moe", "2026-03-01T09:40:00Z", "/units/U1/alarms/D/remove-from-service", {"words": "after the backup"})
     plant.call("eve", "2026-03-01T09:40:00Z", "/units/U1/changes", {"kind": "limit", "base": 0, "tag": "B", "max": 60})
     said = handover(plant, "--units", "U1,U2", "--backup", backup)
-    first, second = said.split("==== U2 ====")
-    assert first == """\
-HANDOVER OF U1, U2 AT 2026-03-01 10:00 UTC, written for vic
-The shift from 2026-03-01 02:00 to 2026-03-01 10:00
+    assert said == """\
+HANDOVER OF U1, U2 AT 2026-03-01 10:00, written for vic
+The shift from 2026-03-01 02:00 to 2026-03-01 10:00. Times are UTC.
+U1: last event 2026-03-01 06:40, 3 h 20 min ago (by the backup of 2026-03-01 08:25), TOO OLD: does the feed run?
+U2: last event: none is known
 
-==== U1 ====
-last event 2026-03-01 06:40, 3 h 20 min ago (by the backup of 2026-03-01 08:25), TOO OLD: does the feed run?
+                                          U1          U2    together
+standing, P1                               1           0           1
+standing, P2                               0           0           0
+standing, no record                        1           0           1
+shelved                                    1           0           1
+suppressed by design                       1           0           1
+out of service                             2           0           2
+floods                                     1           0           1
+proposals                                  2           0           2
+grants that end                            1           0           1
 
-Shelved: 1
-  A                        timed    until 2026-03-01 10:30 by ann: pump <test>
-Suppressed by design: 1
-  C
-Out of service: 2
-  C                        -  not known (backup of 2026-03-01 08:25: since 2026-03-01 08:10 by moe: valve & cable)
-  D                        -  not known (backup of 2026-03-01 08:25)
 Standing: 2
-  P1 B                        Unacknowledged since 2026-03-01 06:30, 3 h 30 min
-  -  A                        Unacknowledged since 2026-03-01 06:00, 4 h, shelved
+  U1       P1 B                        Unacknowledged since 06:30, 3 h 30 min
+  no record 1:
+  U1       -  A                        Unacknowledged since 06:00, 4 h, shelved
+Shelved: 1
+  no record 1:
+  U1       -  A                        timed    until 10:30 by ann: pump <test>
+Out of service: 2
+  no record 2:
+  U1       -  C                        not known (backup of 2026-03-01 08:25: since 2026-03-01 08:10 by moe: valve & cable)
+  U1       -  D                        not known (backup of 2026-03-01 08:25)
+Suppressed by design: 1
+  no record 1:
+  U1       -  C                        since 06:40
+Done in this shift
+  What people did in this shift is not known: no audit log was given.
 Floods of the shift: 1
-  ············█···································
-  2026-03-01 04:00 to 2026-03-01 04:10: 12 activations, 12 in the worst ten minutes
+  U1 ············█···································
+  U1 04:00 to 04:10: 12 activations, 12 in the worst ten minutes
+Most frequent in this shift
+  U1: to 2026-03-01 08:25, the moment of the backup
+  U2: to 2026-03-01 08:25, the moment of the backup
+  U1       A                             1 times,   7 %
+  U1       B                             1 times,   7 %
+  U1       F0                            1 times,   7 %
+  U1       F1                            1 times,   7 %
+  U1       F10                           1 times,   7 %
+  U1       F11                           1 times,   7 %
+  U1       F2                            1 times,   7 %
+  U1       F3                            1 times,   7 %
+  U1       F4                            1 times,   7 %
+  U1       F5                            1 times,   7 %
 Proposals that wait: 2
-      2 limit of A: 60 s, by eve since 2026-03-01 08:00
-      3 limit of B: 60 s, by eve since 2026-03-01 09:40
-Grants that end within a week: 1
-  con                              Viewer     ends 2026-03-05 12:00
-When grants end: by the backup of 2026-03-01 08:25
+  U1           2 limit of A: 60 s, by eve since 08:00
+  U1           3 limit of B: 60 s, by eve since 09:40
+Grants that end within a week
+  U1: 1, by the backup of 2026-03-01 08:25
+    con                              Viewer     ends 2026-03-05
+  U2: 0, by the backup of 2026-03-01 08:25
 
+Handed over by: ______________________________    Taken over by: ______________________________
 """
-    assert "Shelved: 0" in second and "Standing: 0" in second and "Proposals that wait: 0" in second
 
 
 def test_without_a_backup_the_page_says_what_is_not_known(plant: Plant) -> None:
     said = handover(plant, "--units", "U1")
-    assert "not known (no backup and no line of an audit log has it)" in said and "Grants that end within a week: not known without a backup" in said
-    assert "      2 limit of A: 60 s, by eve since 2026-03-01 08:00" in said
+    assert "not known (no backup and no line of an audit log has it)" in said
+    assert "Grants that end within a week\n  U1: not known without a backup" in said
+    assert "  U1           2 limit of A: 60 s, by eve since 08:00" in said and "Most frequent in this shift\n  U1: not known without a backup" in said
 
 
 class Tags(html.parser.HTMLParser):
@@ -113,7 +143,7 @@ def log_line(moment: str, person: str, request: str, body: str = "", status: int
 def out_of_service(plant: Plant, *words: object) -> str:
     """What the page says of C."""
     said = handover(plant, "--units", "U1", *words)
-    return next(it for it in said.splitlines() if it.startswith("  C  ")).split(None, 2)[2]
+    return next(it for it in said.splitlines() if it.split()[:3] == ["U1", "-", "C"]).split(None, 3)[3]
 
 
 def test_why_an_alarm_is_out_of_service_is_never_that_of_a_removal_before(plant: Plant) -> None:
@@ -154,7 +184,7 @@ def test_the_age_of_the_newest_event_is_on_the_page(plant: Plant) -> None:
     said = handover(plant, "--units", "U1", "--feed", state, "--event-limit", "5")
     assert "last event 2026-03-01 09:52, 8 min ago (by the feed), TOO OLD: does the feed run?\n" in said
     assert "last event: none is known" in handover(plant, "--units", "U2")
-    assert 'class="warning">last event 2026-03-01 06:30' in handover(plant, "--units", "U1", "--format", "html")
+    assert 'class="warning">U1: last event 2026-03-01 06:30' in handover(plant, "--units", "U1", "--format", "html")
     state.write_text("{}")
     said = typed("handover", "--feed", state, *plant.words("vic", AT)).stdout
     assert "is not the state of a feed" in said
@@ -162,15 +192,20 @@ def test_the_age_of_the_newest_event_is_on_the_page(plant: Plant) -> None:
 
 def test_the_page_as_html(plant: Plant) -> None:
     out = plant.folder / "page.html"
-    assert handover(plant, "--backup", plant.copy("backup"), "--format", "html", "--out", out) == ""
+    words = ["--backup", plant.copy("backup"), "--format", "html", "--out", out]
+    assert handover(plant, *words) == ""
     page = Tags(out.read_text())
     assert page.open_tags == []
     texts = {it.strip() for it in page.texts}
-    assert {"pump <test>", "Handover of U1, U2", "con", "12"} <= texts
-    assert any(it.startswith("not known (backup of ") and it.endswith("by moe: valve & cable)") for it in texts)
+    assert {"to 10:30 ann: pump <test>", "Handover of U1, U2", "Standing: 2", "12 activations", "Handed over by", "Taken over by"} <= texts
+    assert any(it.startswith("not known; before: 08:10 moe (backup): valve & cable") for it in texts)
     text = out.read_text()
-    assert "size: A4" in text and text.count("<svg") == 1 and text.count('class="bar"') == 1
-    assert "http" not in text.replace("http://www.w3.org/2000/svg", "")
+    assert "size: A4" in text and "http" not in text
+    # of one unit there is a chart of its floods, and behind the sheet the whole lists
+    assert handover(plant, "--units", "U1", "--whole", *words) == ""
+    text = out.read_text()
+    assert text.count("<svg") == 1 and text.count('class="bar"') == 1 and "U1: the whole lists" in text
+    assert any(it.startswith("not known (backup of ") and it.endswith("by moe: valve & cable)") for it in Tags(text).texts)
 
 
 def test_the_page_as_json(plant: Plant) -> None:
@@ -191,7 +226,8 @@ def test_the_page_as_json(plant: Plant) -> None:
     ("2099-12-31T23:59:59Z", "2099-12-31T15:50:00Z", "2099-12-31T23:50:00Z"),
 ])
 def test_the_shift_before_a_moment(at: str, begin: str, until: str) -> None:
-    assert tuple(map(values.text_of, handover_command.shift_before(values.moment_of(at), 8))) == (begin, until)
+    found = shifts.before(values.moment_of(at), 8)
+    assert (values.text_of(found.begin), values.text_of(found.until)) == (begin, until)
 
 
 def test_a_unit_without_a_role_is_refused(plant: Plant) -> None:

@@ -21,7 +21,7 @@ def test_each_command_has_help_that_is_enough(name: str) -> None:
     for param in command.params:
         assert not isinstance(param, click.Option) or param.help, f"{name} says nothing of {param.opts}"
     changes = any(it.name == "dry_run" for it in command.params)
-    assert changes == (name in ("open", "join", "leave", "load", "approve", "feed", "successor", "shelve", "unshelve", "out", "back"))
+    assert changes == (name in ("open", "join", "leave", "load", "approve", "feed", "successor", "shelve", "unshelve", "out", "back", "describe"))
     assert ("Sign-on: " in said.stdout) == any(it.name == "caller" for it in command.params)
 
 

@@ -9,7 +9,7 @@ import hypothesis
 import pytest
 from hypothesis import strategies
 
-from companions import alarms, sheets, values
+from companions import alarms, mappings, sheets, values
 
 HEADER = "tag,latching,limit,cause,consequence,action,severity,response\n"
 GOOD = 'PT-101,no,3600,seal leak,loss of pressure,close XV-7,2,120\n'
@@ -88,7 +88,7 @@ def test_a_mapping_names_columns_values_times_and_encoding(tmp_path: pathlib.Pat
         'encoding = "cp1252"\n[columns]\ntag = "Tag name"\nlimit = "Longest shelf (min)"\n[seconds]\nlimit = "minutes"\n'
         '[values.latching]\nLatched = "yes"\n"" = "no"\n'
     )
-    mapping = sheets.read_mapping(path, alarms.COLUMNS)
+    mapping = mappings.read_mapping(path, alarms.COLUMNS)
     text = "Bemerkung,Tag name,Latching,Longest shelf (min)\nfür alle,A,Latched,60\nx,B,,1\n".encode("cp1252")
     assert [(it.tag, it.latching, it.limit) for it in read(text, mapping)] == [("A", True, 3600), ("B", False, 60)]
 
@@ -99,7 +99,7 @@ def test_a_mapping_gives_every_column_its_meanings(tmp_path: pathlib.Path) -> No
         '[columns]\nunit = "Area"\ntag = "Tag  name"\n[values.unit]\n"Boiler house" = "U1"\n[values.tag]\n"pt 101" = "PT-101"\n'
         '[values.cause]\n"-" = "not known"\n[values.severity]\nhigh = "2"\n'
     )
-    mapping = sheets.read_mapping(path, alarms.COLUMNS)
+    mapping = mappings.read_mapping(path, alarms.COLUMNS)
     text = "Area,Tag name,latching,limit,cause,consequence,action,severity,response\n" + (
         "Boiler house,pt 101,no,60,-,loss,close,high,120\nU2,B,no,60,,,,,\nU1,C,no,60,,,,,\n")
     first, second = read(text, mapping)
@@ -123,7 +123,7 @@ def test_a_bad_mapping_is_refused(tmp_path: pathlib.Path, text: str, words: str)
     path = tmp_path / "map.toml"
     path.write_text(text)
     with pytest.raises(sheets.Wrong) as found:
-        sheets.read_mapping(path, alarms.COLUMNS)
+        mappings.read_mapping(path, alarms.COLUMNS)
     assert words in str(found.value)
 
 
@@ -137,6 +137,7 @@ def test_all_faults_are_listed_at_once_by_line_and_column() -> None:
         f"D\0,no,{'9' * 1000},,,,,\n"
     )
     assert faults(text) == [
+        "line 2, column 1 (tag): PT-101 stands on line 5, too",
         "line 3, column 1 (tag): 'pt-101' is not a tag: 1 to 24 of A to Z, 0 to 9, '-', '.' and '_'",
         "line 4, column 2 (latching): 'perhaps' is neither yes nor no",
         "line 4, column 3 (limit): '0' is not a whole number from 1 to 604800",
@@ -195,6 +196,7 @@ def test_moments_are_counted_from_the_first_one_of_2000() -> None:
 def test_a_unit_has_no_more_than_2000_alarms() -> None:
     text = "tag,latching,limit\n" + "".join(f"A{it},no,60\n" for it in range(2001))
     assert faults(text) == ["line 2002, column 1 (tag): this is alarm 2,001: a unit has 2,000 at most"]
+    assert len(faults(text + "B,no,60\n" * 3)) == 2
 
 
 def test_a_column_unit_parts_a_file() -> None:

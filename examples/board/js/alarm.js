@@ -4,9 +4,9 @@ import {getUnless} from "./asking.js";
 import {$, makeFacts, makeLink, put, say, showFact} from "./elements.js";
 import {addressOf, here, isShut} from "./here.js";
 import {atRest, makeMark, makeShelf, makeState} from "./marks.js";
-import {sinceText} from "./alarms.js";
+import {sinceText} from "./standing.js";
 import {askRemovals, serviceText} from "./service.js";
-import {isTag, plainMoment, secondsText, TAG_WANTED} from "./texts.js";
+import {hereText, isTag, plainMoment, secondsText, TAG_WANTED} from "./texts.js";
 
 const mark = makeMark();
 const state = makeState();
@@ -82,7 +82,8 @@ function showNow(alarm, listed) {
     const own = {priority: shown.record?.priority ?? "-", state: alarm.state, flags};
     mark.show(own);
     state.show(own);
-    now.State.replaceChildren(state.node, here.standing.has(alarm.tag) ? `\n${sinceText(here.standing.get(alarm.tag))}` : "");
+    const since = here.standing.get(alarm.tag);
+    now.State.replaceChildren(state.node, since ? `\n${sinceText(since)}${hereText(Date.parse(since))}` : "");
     if (alarm.shelf !== "Unshelved" && listed?.shelf) {
         shelf.show(listed.shelf);
         if (shelf.node.parentElement !== now.Shelf) {

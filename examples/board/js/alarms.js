@@ -4,13 +4,12 @@ import {$, fill, make, makeLink, put, say} from "./elements.js";
 import {addressOf, here, isShut} from "./here.js";
 import {ALARM_COLUMNS, SHELF_COLUMNS, STANDING_COLUMNS, askList} from "./lists.js";
 import {asksForAttention, atRest, isSuppressed, isUnacknowledged, makeFlags, makeMark, makeShelf, makeState} from "./marks.js";
-import {isOnPaper} from "./looks.js";
 import {announce} from "./news.js";
+import {sortedBy} from "./order.js";
+import {printLists} from "./paper.js";
 import {forgetRemovals} from "./service.js";
-import {FLAGS, minuteText, plainMoment, lengthText} from "./texts.js";
-import {momentNow} from "./time.js";
-
-const DAY = 86400000;
+import {forgetStanding, showStanding, sortedStanding} from "./standing.js";
+import {FLAGS, lengthText} from "./texts.js";
 
 // ---- Asking
 
@@ -26,7 +25,7 @@ export async function askAlarms() {
     return () => {
         const shelfOf = new Map(shelves.rows.map((shelf) => [shelf.tag, {...shelf, end: shelves.at + Number(shelf.left) * 1000}]));
         const before = here.alarms;
-        here.alarms = new Map(listed.rows.map((alarm) => [alarm.tag, {...alarm, shelf: shelfOf.get(alarm.tag) ?? null}]));
+        here.alarms = merged(before, listed.rows, shelfOf);
         forgetRemovals(unit, here.alarms);
         here.standing = new Map(standing.rows.map((alarm) => [alarm.tag, alarm.since]));
         here.answeredAt = standing.at;
@@ -37,6 +36,18 @@ export async function askAlarms() {
     };
 }
 
+// The alarms by tag. One that is as it was stays the same object, so that it is not drawn anew.
+function merged(before, rows, shelfOf) {
+    return new Map(rows.map((row) => {
+        const [old, shelf] = [before.get(row.tag), shelfOf.get(row.tag) ?? null];
+        const isSame = old && Object.keys(row).every((name) => old[name] === row[name]) && isSameShelf(old.shelf, shelf);
+        return [row.tag, isSame ? old : {...row, shelf}];
+    }));
+}
+
+const isSameShelf = (one, other) => one === other
+    || (one !== null && other !== null && ["kind", "start", "person", "words", "end"].every((name) => one[name] === other[name]));
+
 // What was shown of another unit goes.
 export function forgetAlarms() {
     here.alarms = new Map();
@@ -44,8 +55,7 @@ export function forgetAlarms() {
     here.answeredAt = null;
     showAlarms();
     showStrip();
-    fill(standingList, []);
-    say($("standing-title"), "Standing");
+    forgetStanding();
 }
 
 // ---- The alarms
@@ -54,6 +64,7 @@ const alarmList = {
     place: $("alarm-table"),
     skip: 1,
     rows: new Map(),
+    lookOf: (alarm) => `${alarm.tag === here.tag} ${wanted.has(alarm)}`,
     make(tag) {
         const [mark, state, flags, shelf] = [makeMark(), makeState(), makeFlags(), makeShelf()];
         const limit = make("td", "number limit");
@@ -67,6 +78,7 @@ const alarmList = {
         const second = make("tr", "shelf-row", make("td"), shelfCell, make("td", "limit"));
         const node = make("tbody", "", first, second);
         node.dataset.tag = tag;
+        nameParts(node, name, first, second);
         // the link is for the keyboard; a mouse may hit anything of the row
         node.addEventListener("click", (event) => {
             if (event.target !== link && getSelection().isCollapsed) {
@@ -81,25 +93,41 @@ const alarmList = {
             second.hidden = alarm.shelf === null;
             if (alarm.shelf) {
                 shelf.show(alarm.shelf);
+            } else {
+                shelf.end();
             }
             put(node, "class", tag === here.tag ? "chosen" : "");
             put(link, "aria-current", tag === here.tag ? "true" : null);
-            node.hidden = !isWanted(alarm);
+            node.hidden = !wanted.has(alarm);
         };
         return {node, show};
     },
 };
 
-function isWanted(alarm) {
-    const wanted = {all: true, abnormal: alarm.state !== "Normal", suppressed: isSuppressed(alarm)};
-    const isFound = alarm.tag.toUpperCase().includes($("find").value.trim().toUpperCase());
-    return isOnPaper() || (isFound && wanted[$("show").value]);
+// The parts of a row say what they are: their layout is not that of a table.
+function nameParts(node, name, ...lines) {
+    put(node, "role", "rowgroup");
+    for (const line of lines) {
+        put(line, "role", "row");
+        [...line.children].forEach((cell) => put(cell, "role", cell === name ? "rowheader" : "cell"));
+    }
 }
 
+let wanted = new Set(); // the alarms that are shown
+
+function wantedOf(alarms) {
+    const [words, show] = [$("find").value.trim().toUpperCase(), $("show").value];
+    const isShown = {all: () => true, abnormal: (alarm) => alarm.state !== "Normal", suppressed: isSuppressed}[show];
+    return alarms.filter((alarm) => alarm.tag.includes(words) && isShown(alarm));
+}
+
+const sortedAlarms = () => sortedBy($("sort").value, [...here.alarms.values()], (alarm) => here.standing.get(alarm.tag));
+
 export function showAlarms() {
-    const alarms = [...here.alarms.values()];
+    const alarms = sortedAlarms();
+    wanted = new Set(wantedOf(alarms));
     fill(alarmList, alarms);
-    const shown = alarms.filter(isWanted).length;
+    const shown = wanted.size;
     say($("alarms-title"), shown === alarms.length ? `Alarms: ${shown}` : `Alarms: ${shown} of ${alarms.length}`);
     const counts = FLAGS.map(([letter, meaning]) => [alarms.filter((alarm) => alarm.flags.includes(letter)).length, meaning]);
     say($("counts"), counts.filter(([count]) => count > 0).map(([count, meaning]) => `${count} ${meaning}`).join(", "));
@@ -107,44 +135,6 @@ export function showAlarms() {
 
 export function focusAlarm(tag) {
     alarmList.rows.get(tag)?.node.querySelector("a").focus();
-}
-
-// ---- The standing alarms: those that ask for attention first, then by priority, then the latest
-
-const standingList = {
-    place: $("standing"),
-    skip: 0,
-    rows: new Map(),
-    make(tag) {
-        const [mark, state, flags] = [makeMark(), makeState(), makeFlags()];
-        const since = make("span", "since");
-        const node = make("li", "", mark.node, makeLink("tag", tag, addressOf(here.unit, tag)), flags.node, state.node, since);
-        node.dataset.tag = tag;
-        const show = (alarm) => {
-            mark.show(alarm);
-            state.show(alarm);
-            flags.show(alarm);
-            say(since, sinceText(alarm.since));
-        };
-        return {node, show};
-    },
-};
-
-export function sinceText(since) {
-    const begin = Date.parse(since);
-    return momentNow() - begin < DAY ? `since ${minuteText(begin)}` : `since ${plainMoment(since).slice(0, 16)}`;
-}
-
-function showStanding(rows) {
-    const rank = (alarm) => [isSuppressed(alarm) ? 1 : 0, isUnacknowledged(alarm) ? 0 : 1, "P1 P2 P3 P4 - N".indexOf(alarm.priority)];
-    const sorted = [...rows].sort((one, other) => {
-        const [ones, others] = [rank(one), rank(other)];
-        const differs = ones.findIndex((value, place) => value !== others[place]);
-        return differs >= 0 ? ones[differs] - others[differs] : other.since.localeCompare(one.since);
-    });
-    fill(standingList, sorted);
-    const open = rows.filter((alarm) => isUnacknowledged(alarm) && !isSuppressed(alarm)).length;
-    say($("standing-title"), `Standing: ${rows.length}${open > 0 ? `, ${open} unacknowledged` : ""}`);
 }
 
 // ---- The strip: for each priority how many alarms ask for attention, with the mark of the most urgent of them
@@ -175,15 +165,16 @@ showStrip();
 
 // ---- Keys
 
-// the arrows go from one alarm's link to the next
+// The arrows go from one alarm's link to the next. What is far from the page is not drawn, so rows are asked and not where their links are.
 export function moveBy(event) {
-    const steps = {ArrowDown: 1, ArrowUp: -1, Home: -Infinity, End: Infinity};
-    if (!(event.key in steps) || event.target.tagName !== "A") {
+    const {key, target, currentTarget: list} = event;
+    if (!["ArrowDown", "ArrowUp", "Home", "End"].includes(key) || target.tagName !== "A") {
         return;
     }
-    const links = [...event.currentTarget.querySelectorAll("a")].filter((link) => link.offsetParent !== null);
-    const place = links.indexOf(event.target) + steps[event.key];
-    links[Math.min(Math.max(place, 0), links.length - 1)]?.focus();
+    const rows = [...list.querySelectorAll(":scope > tbody, :scope > li")].filter((row) => !row.hidden);
+    const place = rows.findIndex((row) => row.contains(target));
+    const next = {ArrowDown: place + 1, ArrowUp: place - 1, Home: 0, End: rows.length - 1}[key];
+    rows[Math.min(Math.max(next, 0), rows.length - 1)]?.querySelector("a").focus();
     event.preventDefault();
 }
 
@@ -191,3 +182,5 @@ $("alarm-table").addEventListener("keydown", moveBy);
 $("standing").addEventListener("keydown", moveBy);
 $("find").addEventListener("input", showAlarms);
 $("show").addEventListener("change", showAlarms);
+$("sort").addEventListener("change", showAlarms);
+printLists(sortedAlarms, sortedStanding);

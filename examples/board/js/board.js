@@ -7,6 +7,7 @@ import {askChanges, forgetChanges, lookOn} from "./changes.js";
 import {$, make, put, say} from "./elements.js";
 import {askFloods, forgetFloods} from "./floods.js";
 import "./focus.js";
+import {askFull} from "./full.js";
 import {VIEWS, addressOf, here, keeps, maySee, readAddress, rolesHeld} from "./here.js";
 import {forgetFile, showImport} from "./import.js";
 import "./keys.js";
@@ -21,7 +22,8 @@ import "./register.js";
 import {forgetRoles} from "./roles.js";
 import {askNow, askOn, eachRound, outOfDate} from "./rounds.js";
 import {askSeveral, forgetSeveral, showSeveral} from "./several.js";
-import {clockText, dateText} from "./texts.js";
+import {showSignOff} from "./signing.js";
+import {clockText, dateText, hereText} from "./texts.js";
 import {momentNow} from "./time.js";
 import {areListsOld, sayNotice, showTrouble, showWaiting} from "./trouble.js";
 import {askUnits, showUnits} from "./units.js";
@@ -124,6 +126,7 @@ function showWhere() {
     });
     const roles = unit === null ? "no role in any unit at this moment" : rolesHeld().join(", ") || "no role in this unit any more";
     say($("person"), here.person === "" ? "" : `${here.person}: ${roles}`);
+    showSignOff(here.person);
     here.isComparing = false;
     showTitle();
     showAlarms();
@@ -177,7 +180,7 @@ function showHeld() {
 // The clock runs only while the lists are refreshed; else it stands at the moment that they are of.
 function showClock(isOld) {
     const moment = isOld ? here.answeredAt : momentNow();
-    const text = moment === null ? "" : `${dateText(moment)} ${clockText(moment)} UTC${isOld ? ", not refreshed" : ""}`;
+    const text = moment === null ? "" : `${dateText(moment)} ${clockText(moment)} UTC${hereText(moment)}${isOld ? ", not refreshed" : ""}`;
     if ($("clock").dataset.text !== text) {
         $("clock").dataset.text = text;
         $("clock").replaceChildren(...text === "" ? [] : [make("span", "date", text.slice(0, 10)), text.slice(10)]);
@@ -219,11 +222,8 @@ document.addEventListener("visibilitychange", () => {
     }
 });
 
-[() => askUnits(showHeld), askAlarms, askSeveral, askFloods, askAlarm, askChanges, askInForce, askNewest].forEach(eachRound);
-whilePrinting(() => {
-    showAlarms();
-    showChanges();
-});
+[() => askUnits(showHeld), askAlarms, askSeveral, askFloods, askAlarm, askChanges, askInForce, askNewest, askFull].forEach(eachRound);
+whilePrinting(showChanges);
 const showSeen = () => {
     showChanges();
     showMatrix();

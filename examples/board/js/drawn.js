@@ -81,6 +81,10 @@ export function makeDrawn(form, {now, ask, differs, draw, tell}) {
         outOfDate();
         await nextRound();
         drawAnew();
+        const answer = form.querySelector(".answer");
+        if (answer.textContent !== "" && form.contains(document.activeElement)) {
+            answer.scrollIntoView({block: "nearest"}); // what was drawn may have moved it
+        }
     }
 
     note.querySelector("button").addEventListener("click", renew);

@@ -33,7 +33,8 @@ export function put(node, name, value) {
 }
 
 // A list of rows that are kept and filled anew, so that the keyboard's place is kept too. `list` has the place, how many children
-// come before the rows, a map of the rows by key, and what makes one.
+// come before the rows, a map of the rows by key, and what makes one. A list with `lookOf` draws a row only if its item is another one, or
+// if what else the row is drawn from, as a text, is another.
 export function fill(list, items, keyOf = (item) => item.tag) {
     let focused = document.activeElement;
     const keys = new Set(items.map(keyOf));
@@ -47,19 +48,25 @@ export function fill(list, items, keyOf = (item) => item.tag) {
             list.rows.delete(key);
         }
     }
-    items.forEach((item, number) => {
+    let there = list.place.children[list.skip] ?? null;
+    for (const item of items) {
         const key = keyOf(item);
         let row = list.rows.get(key);
         if (!row) {
             row = list.make(key);
             list.rows.set(key, row);
         }
-        const there = list.place.children[number + list.skip] ?? null;
-        if (there !== row.node) {
+        if (there === row.node) {
+            there = there.nextElementSibling;
+        } else {
             list.place.insertBefore(row.node, there);
         }
-        row.show(item);
-    });
+        const look = list.lookOf?.(item);
+        if (look === undefined || row.item !== item || row.look !== look) {
+            row.show(item);
+            Object.assign(row, {item, look});
+        }
+    }
     if (document.activeElement !== focused && focused !== null && focused.isConnected) {
         focused.focus({preventScroll: true});
     }
@@ -80,10 +87,14 @@ export function showFact(value, text) {
     say(value, text ?? "");
 }
 
+// The answer of a form. Whoever is at the form sees it: the page scrolls as far as needed.
 export function sayAnswer(form, text, kind) {
     const answer = form.querySelector(".answer");
     answer.className = `answer ${kind}`;
     say(answer, text);
+    if (text !== "" && form.contains(document.activeElement)) {
+        answer.scrollIntoView({block: "nearest"});
+    }
 }
 
 // Whether each field of a form is right. `checks` are the fields, each with whether it is right and what is wanted; the first wrong one

@@ -40,7 +40,7 @@ export function whilePrinting(show) {
     for (const [event, value] of [["beforeprint", true], ["afterprint", false]]) {
         addEventListener(event, () => {
             isPrinting = value;
-            show();
+            show(value);
         });
     }
 }

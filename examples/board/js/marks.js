@@ -91,16 +91,27 @@ export function makeShelf() {
     const node = make("span", "shelf", how, left, by, words);
     const show = (shelf) => {
         say(how, shelf.kind === "timed" ? "for a time, " : "one-shot, at most ");
-        left.dataset.end = shelf.end;
+        running.set(left, shelf.end);
         runDown(left);
         say(by, ` left, by ${shelf.person}: `);
         say(words, shelf.words);
     };
-    return {node, show};
+    const end = () => running.delete(left);
+    return {node, show, end};
 }
+
+const running = new Map(); // the parts that run down, each with the end of its shelf
 
 function runDown(left) {
-    say(left, leftText((Number(left.dataset.end) - momentNow()) / 1000));
+    say(left, leftText((running.get(left) - momentNow()) / 1000));
 }
 
-export const runAllDown = () => document.querySelectorAll(".left[data-end]").forEach(runDown);
+export function runAllDown() {
+    for (const left of running.keys()) {
+        if (left.isConnected) {
+            runDown(left);
+        } else {
+            running.delete(left);
+        }
+    }
+}

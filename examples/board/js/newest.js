@@ -3,7 +3,7 @@
 
 import {$, put, say} from "./elements.js";
 import {here, isShut} from "./here.js";
-import {clockText, dateText, isMoment, lengthText} from "./texts.js";
+import {clockText, dateText, hereText, isMoment, lengthText} from "./texts.js";
 import {momentNow} from "./time.js";
 
 const OFTEN = 15000; // milliseconds after which a file is read again
@@ -53,7 +53,7 @@ export function showNewest() {
     const age = lengthText(seconds < 60 ? seconds : seconds - (seconds % 60));
     const isTooOld = seconds > Number(place.dataset.limit);
     const of = here.view === "several" ? `${unit}: last` : "Last";
-    const at = `${isToday ? "" : `${dateText(moment)} `}${clockText(moment).slice(0, 5)}`;
+    const at = `${isToday ? "" : `${dateText(moment)} `}${clockText(moment).slice(0, 5)}${hereText(moment)}`;
     say(place, `${of} event ${at}, ${age} ago${isTooOld ? ". Does the feed run?" : ""}`);
     put(place, "class", isTooOld ? "caution" : null);
 }

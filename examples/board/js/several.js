@@ -1,12 +1,13 @@
 // Several units side by side, for a control room that has more than one: how many alarms of each ask for attention, and the standing and
 // the shelved alarms of all, by priority. A unit that does not answer is named, and the others go on.
 
-import {mostUrgent, moveBy, showStrip, sinceText} from "./alarms.js";
+import {mostUrgent, moveBy, showStrip} from "./alarms.js";
 import {$, fill, make, makeLink, put, say} from "./elements.js";
 import {addressOf, here} from "./here.js";
 import {ALARM_COLUMNS, SHELF_COLUMNS, STANDING_COLUMNS, askList} from "./lists.js";
 import {asksForAttention, atRest, isSuppressed, isUnacknowledged, makeFlags, makeMark, makeShelf, makeState} from "./marks.js";
 import {announce} from "./news.js";
+import {sinceText} from "./standing.js";
 import {clockText, isUnit} from "./texts.js";
 
 const PATIENCE = 15000; // milliseconds after which a unit that did not answer is asked again

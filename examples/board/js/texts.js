@@ -54,7 +54,7 @@ export const FAULTS = new Map([
 export const PROXY = new Map([
     [401, "Your sign-on has run out, or the name or the password is not right. What you typed stays here."],
     [403, "The proxy refuses this page."],
-    [413, "The proxy takes nothing above 1 MiB."],
+    [413, "The proxy takes at most 16 KiB of a call, and 1 MiB of an import."],
     [502, "The office does not answer."],
     [503, "The office is not available."],
     [504, "The office did not answer in time."],
@@ -129,6 +129,12 @@ export const momentText = (moment) => new Date(moment).toISOString().replace(".0
 export const dateText = (moment) => new Date(moment).toISOString().slice(0, 10);
 export const clockText = (moment) => new Date(moment).toISOString().slice(11, 19);
 export const minuteText = (moment) => new Date(moment).toISOString().slice(11, 16);
+
+// the time by the zone of this computer, in brackets behind that of UTC; nothing where they are the same
+export function hereText(moment) {
+    const at = new Date(moment);
+    return at.getTimezoneOffset() === 0 ? "" : ` (${two(at.getHours())}:${two(at.getMinutes())} here)`;
+}
 
 // a moment as the office writes it, for reading
 export const plainMoment = (text) => String(text).replace("T", " ").replace("Z", "");

@@ -19,6 +19,15 @@ function remember(person, units) {
     }
 }
 
+// what the browser keeps of whoever signs off
+export function forgetUnits() {
+    try {
+        localStorage.removeItem(PLACE);
+    } catch {
+        // a browser that keeps nothing
+    }
+}
+
 // The units of this visit, else those that the browser keeps, and that of the address.
 function knownUnits() {
     let kept = {person: here.person, units: here.units};

@@ -8,7 +8,7 @@ import {makeDrawn} from "./drawn.js";
 import {here, keeps} from "./here.js";
 import {SHELF_COLUMNS, askList} from "./lists.js";
 import {askRemovals, rememberRemoval, removalOf} from "./service.js";
-import {REMARK_WANTED, LENGTH_WANTED, clockText, isRemark, leftText, lengthText, momentText, plainMoment, secondsOf} from "./texts.js";
+import {REMARK_WANTED, LENGTH_WANTED, clockText, hereText, isRemark, leftText, lengthText, momentText, plainMoment, secondsOf} from "./texts.js";
 import {momentNow} from "./time.js";
 
 const HOUR = 3600; // seconds, which the form proposes unless the alarm's limit is less
@@ -111,10 +111,12 @@ function showWork() {
     showUntil();
 }
 
+const endText = (moment) => clockText(moment) + hereText(moment);
+
 // until when the seconds in the form are
 export function showUntil() {
     const seconds = secondsOf($("seconds").value);
-    say($("until"), seconds && momentNow() ? `${lengthText(seconds)}, until ${clockText(momentNow() + seconds * 1000)}` : "");
+    say($("until"), seconds && momentNow() ? `${lengthText(seconds)}, until ${endText(momentNow() + seconds * 1000)}` : "");
     $("seconds").disabled = $("one-shot").checked;
 }
 

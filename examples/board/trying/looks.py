@@ -10,6 +10,7 @@ from trying.common import expect, moment_now, moment_text, wait_for
 GROUND = "getComputedStyle(document.body).backgroundColor.match(/[\\d.]+/g).slice(0, 3).map(Number)"
 MARKS = "[...document.querySelectorAll('#alarm-table .mark')].map((mark) => [mark.getAttribute('class'), mark.querySelector('.whole').getAttribute('d')])"
 CONTROLS = "[...document.querySelectorAll('button, input, select, textarea, nav a, form')].filter((node) => node.checkVisibility()).length"
+ON_PAPER = "document.querySelector('#alarm-paper').textContent.split('\\n').filter((line) => /^\\S/.test(line)).length"
 ROWS = "[...document.querySelectorAll('#alarm-table tbody')].filter((row) => row.checkVisibility()).length"
 VIEWS = {"ann": ["#U1", "#U1/PT-301", "#U1/import"], "kim": ["#U1/changes", "#U1/changes/25", "#U1/matrix", "#U1/register"], "ste": ["#U1/roles"]}
 
@@ -96,7 +97,7 @@ def try_paper(site, browser, pictures):
     page.type("LT-20")
     expect(page.value(ROWS), 4, "the lines that are found")
     # what is printed, as the browser announces it
-    page.value("addEventListener('beforeprint', () => { window.printed = [...document.querySelectorAll('#alarm-table tbody')].filter((row) => !row.hidden).length; })")
+    page.value(f"addEventListener('beforeprint', () => {{ window.printed = {ON_PAPER}; }})")
     sheets, boxes = pages_of(page)
     expect(page.value("window.printed"), len(site.read("ann", "/units/U1/alarms").splitlines()) - 1, "the alarms on paper")
     expect(page.value(ROWS), 4, "the lines that are found, afterwards")
@@ -105,15 +106,18 @@ def try_paper(site, browser, pictures):
     expect(sheets in (1, 2, 3), True, f"{sheets} sheets")
     page.type("")
     page.value("document.querySelector('#alarms-title').focus()")  # which is on paper, too
+    page.value("dispatchEvent(new Event('beforeprint'))")
     emulate(page, media="print", scheme="dark")
     page.resize(718, 1240)
     expect(page.value(CONTROLS), 0, "controls on paper")
-    expect([page.is_shown(part) for part in ["#clock .date", "#alarm-table td.limit", "#colours-label"]], [True, True, False],
-           "the day, the limits and the choice of colours on paper")
+    expect([page.is_shown(part) for part in ["#clock .date", "#alarm-paper", "#colours-label"]], [True, True, False],
+           "the day, the alarms and the choice of colours on paper")
     expect(is_dark(page), False, "dark paper")
     expect(page.value(LOW_CONTRAST)[1], [], "a contrast of at least 4.5 on paper")
     if pictures:
         page.picture(pictures / "board-print.png")
+    page.value("dispatchEvent(new Event('afterprint'))")
+    expect(page.focus(), "alarms-title", "what has the keyboard after printing")
     page.resize(1280, 1240)
     for address in ["#U1/PT-301", "#U1/changes"]:
         emulate(page)
