@@ -7,8 +7,6 @@ mod asked;
 #[cfg(test)]
 mod faults;
 #[cfg(test)]
-mod full;
-#[cfg(test)]
 mod keepers;
 #[cfg(test)]
 mod mixes;
