@@ -21,6 +21,7 @@ check:
 	scripts/check-schema
 	scripts/list-worked
 	scripts/check-pages
+	scripts/check-reach
 	scripts/check-openapi
 	scripts/try-commands out/shelfoffice
 	scripts/type-docs
@@ -37,6 +38,7 @@ test:
 	scripts/check-schema
 	scripts/list-worked
 	scripts/check-pages
+	scripts/check-reach
 	rt ci $(ANEW)
 	$(MAKE) --no-print-directory conform
 

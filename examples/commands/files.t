@@ -23,6 +23,34 @@ else is refused:
   [3]
   $ rm made.db*
 
+New books have pages of 1,024 bytes, with checksums. Those that `sqlite3` made keep their pages, of whichever size, and go on without checksums:
+
+  $ pages() { python3 -c "import sys; h = open(sys.argv[1], 'rb').read(21); print(int.from_bytes(h[16:18], 'big'), h[20])" $1; }
+  $ sized() { python3 -c "import pathlib, sqlite3, sys; sqlite3.connect(sys.argv[1]).executescript(f'PRAGMA page_size = {sys.argv[2]};' + pathlib.Path(sys.argv[3]).read_text() + 'INSERT INTO office VALUES (1, 2, \"root\")')" "$@"; }
+  $ shelfoffice --admin root --db sized.db <$EXAMPLES/open.http >/dev/null; pages sized.db; rm sized.db*
+  end: Closed
+  1024 8
+  $ for size in 512 1024 2048 4096 65536; do
+  >   sized sized.db $size $EXAMPLES/../schema.sql
+  >   for turn in open units; do shelfoffice --admin root --db sized.db <$EXAMPLES/$turn.http 2>&1 | tail -1; done
+  >   pages sized.db; rm sized.db*
+  > done
+  {"done":true}end: Closed
+  {"units":[{"roles":["Steward"],"unit":"U1"}]}end: Closed
+  512 0
+  {"done":true}end: Closed
+  {"units":[{"roles":["Steward"],"unit":"U1"}]}end: Closed
+  1024 0
+  {"done":true}end: Closed
+  {"units":[{"roles":["Steward"],"unit":"U1"}]}end: Closed
+  2048 0
+  {"done":true}end: Closed
+  {"units":[{"roles":["Steward"],"unit":"U1"}]}end: Closed
+  4096 0
+  {"done":true}end: Closed
+  {"units":[{"roles":["Steward"],"unit":"U1"}]}end: Closed
+  1 0
+
 A file without a name, one in a folder that is not there, and a folder:
 
   $ shelfoffice --admin root --db '' <$EXAMPLES/open.http
@@ -42,7 +70,7 @@ Whichever page has a bit turned, nothing is answered from the file:
   end: Closed
   $ turn() { python3 -c "import sys; f = open('damaged.db', 'r+b'); f.seek(int(sys.argv[1])); b = f.read(1); f.seek(-1, 1); f.write(bytes([b[0] ^ 1]))" $1; }
   $ asked() { shelfoffice --admin root --db damaged.db <$EXAMPLES/units.http 2>&1; }
-  $ for at in $(seq 2048 4096 $(stat -c %s damaged.db)); do turn $at; asked; turn $at; done | sort | uniq
+  $ for at in $(seq 512 1024 $(stat -c %s damaged.db)); do turn $at; asked; turn $at; done | sort | uniq
   store: fault
   $ asked | tail -1
   {"units":[{"roles":["Steward"],"unit":"U1"}]}end: Closed

@@ -47,6 +47,35 @@ A log that is there stays, also where the file is reached through a link, and th
   end: Closed
   $ rm *
 
+The new file has pages of 1,024 bytes and checksums, whichever pages the older one has, and these stay as they are:
+
+  $ pages() { python3 -c "import sys; h = open(sys.argv[1], 'rb').read(21); print(int.from_bytes(h[16:18], 'big'), h[20])" $1; }
+  $ for size in 512 1024 2048 4096 65536; do
+  >   older --log --page $size older.db; keep older.db
+  >   migrate older.db --db newer.db; is_kept older.db
+  >   pages newer.db; goes_on newer.db; pages newer.db; rm *
+  > done
+  migrated
+  1024 8
+  end: Closed
+  1024 8
+  migrated
+  1024 8
+  end: Closed
+  1024 8
+  migrated
+  1024 8
+  end: Closed
+  1024 8
+  migrated
+  1024 8
+  end: Closed
+  1024 8
+  migrated
+  1024 8
+  end: Closed
+  1024 8
+
 No file is made beside a log:
 
   $ older older.db; echo log >alone.db-wal; sha256sum * >sums

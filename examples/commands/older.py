@@ -1,8 +1,8 @@
 """Makes a file of schema 1, in which PT-101 is shelved until eleven and has a record, the shelf of LT-2 is over, and a matrix is proposed.
 
-    older.py [--log] FILE [STATEMENT..]
+    older.py [--log] [--page BYTES] FILE [STATEMENT..]
 
-The statements come last. With --log the rows are left in FILE-wal, as by a program that is killed.
+The statements come last. With --log the rows are left in FILE-wal, as by a program that is killed. Its pages have so many bytes, 4,096 by default.
 """
 
 import os
@@ -28,8 +28,11 @@ INSERT INTO changes VALUES ('U1', 1, 'eve', 825670800, 1, 'PT-101', 0, 'seal lea
 def main():
     words = sys.argv[1:]
     has_log = words[:1] == ["--log"]
-    file, *statements = words[has_log:]
+    words = words[has_log:]
+    page = words[1] if words[:1] == ["--page"] else "4096"
+    file, *statements = words[2:] if words[:1] == ["--page"] else words
     plant = sqlite3.connect(file, isolation_level=None)
+    plant.execute(f"PRAGMA page_size = {page}")
     if has_log:
         plant.execute("PRAGMA journal_mode = WAL")
     for statement in (SCHEMA.read_text(), ROWS, *statements):

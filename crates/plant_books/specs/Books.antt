@@ -37,11 +37,17 @@ Makes represents before after u cs said = (m : Content) → represents before m 
 abbrev pub CountsBy : {B A : Type 0} → (B → ℕ) → B → B → Result A Fault → Type 0
 CountsBy stores before after said = Counts (stores before) (stores after) said
 
+-- if the store was open, and the disk has returned what was written, then the store is open after a success
+abbrev pub StaysHonest : {B A E : Type 0} → (B → Type 0) → (B → Type 0) → B → B → Result A E → Type 0
+StaysHonest is_honest is_clean before after said = (is_clean before → is_honest before) → is_clean after
+    → OnOk said (is_honest after)
+
 -- a question leaves the books unchanged: they hold what they held, the keeper's premise held before, a crash leaves what
--- it left before, and the fault Store is counted
+-- it left before, the fault Store is counted, and a question that succeeds does not shut the store
 pub record LeavesUnchanged {B A : Type 0} (represents : B → Content → Type 0) (is_honest is_clean leaves_books : B → Type 0)
     (may_leave : B → Content → Type 0) (stores : B → ℕ) (before after : B) (said : Result A Fault) : Type 0 where
   pub same : Keeps represents before after
   pub honest : WasHonest is_honest before after
+  pub stays_open : StaysHonest is_honest is_clean before after said
   pub crash : LosesNothing represents is_honest is_clean leaves_books may_leave before after
   pub count : CountsBy stores before after said

@@ -67,6 +67,11 @@ pub trait Books {
     fn is_shut(&self) -> bool
         ensures { IsTrue result → ¬ is_honest self.now };
 
+    /// Fails unless the store behind these books is open. Changes nothing.
+    fn ensure_open(&mut self) -> Result<(), Fault>
+        ensures open { OnOk result (is_clean self.new → is_honest self.new) }
+        ensures unchanged { LeavesUnchanged represents is_honest is_clean leaves_books may_leave stores self.old self.new result };
+
     /// The administrator's name.
     fn administrator(&self) -> &Person
         ensures { (m : Content) → represents self.now m → result.now ≡ m.admin };

@@ -70,6 +70,10 @@ impl Books for Plain {
         false
     }
 
+    fn ensure_open(&mut self) -> Result<(), Fault> {
+        Ok(())
+    }
+
     fn administrator(&self) -> &Person {
         &self.administrator
     }

@@ -285,6 +285,10 @@ impl<B: Books> Books for CachedBooks<B> {
         self.books.is_shut()
     }
 
+    fn ensure_open(&mut self) -> Result<(), Fault> {
+        self.books.ensure_open()
+    }
+
     fn administrator(&self) -> &Person {
         self.books.administrator()
     }
@@ -322,6 +326,7 @@ impl<B: Books> Books for CachedBooks<B> {
             // The cached rows of other units may occupy the memory that is missing here.
             Err(Fault::Memory) => {
                 self.copies.clear();
+                self.books.ensure_open()?;
                 self.books.part(call)
             }
             part => part,

@@ -1,6 +1,6 @@
 -- Books that hold the rows of a world, and what a call does to them.
 use Rattle.std.specs.{FinMap.{contains_key, get, get-insert, keys, Entries.{find as found}}, List.{cons_option}}
-use Rattle.std.proofs.Common.{true≢false, ap, arith, inl, inr, refl, subst, sym, ◌++◌, ◌∙◌, flat_map, Bool, Err, IfOk, IfSome, IsErrAnd, List, None, Ok, OnErr, Option, Result, Some, [], cond, false, filter_map, ◌⊎◌, fold, if◌then◌else◌, is_ok, is_some, map, max, nat_lt, not, option_and_then, option_map, true, unwrap_or, ℕ, ◌<◌, ◌∷◌, ◌≡◌, ◌≤◌}
+use Rattle.std.proofs.Common.{true≢false, ap, arith, inl, inr, refl, subst, sym, ◌++◌, ◌∙◌, flat_map, Bool, Err, IfOk, IfSome, IsErrAnd, List, None, Ok, OnErr, OnOk, Option, Result, Some, [], cond, false, filter_map, ◌⊎◌, fold, if◌then◌else◌, is_ok, is_some, map, max, nat_lt, not, option_and_then, option_map, true, unwrap_or, ℕ, ◌<◌, ◌∷◌, ◌≡◌, ◌≤◌}
 use Rattle.std.proofs.lemmas.{Bool.Decides.{nat_tests}, List.Elements.{filter_map-append}, Simd.{map-map}}
 use Rattle.plant_model.specs.{Calls.{reply}, Facts.{facts, returned}, Grants.{held, holds_any, roles_held}, Histories.{last_moment}}
 use Rattle.plant_model.specs.{Legality.{has_matrix}, Replies.{line_of, shelf_lines}}
@@ -416,6 +416,7 @@ pub asks_then : {B X Y : Type 0} {x : X} {y : Y} (books : Ghosts B) {before mid 
 asks_then books one two = record {
   same = λ m held. two.same m (one.same m held);
   honest = λ h. one.honest (two.honest h);
+  stays_open = λ was tidy. two.stays_open (λ mid. one.stays_open was mid) tidy;
   crash = record {
     clean = λ h. one.crash.clean (two.crash.clean h);
     fewer = λ h x l. one.crash.fewer (two.crash.clean h) x (two.crash.fewer h x l);
@@ -525,6 +526,7 @@ serves_same {B} {books} {c} {a} {before} {after} served asks none =
     record {
       served = served;
       honest = asks.honest;
+      stays_open = asks.stays_open;
       unchanged = λ m k _. asks.same m k;
       fault = λ _ _. tt;
       count = asks.count;
@@ -541,6 +543,7 @@ serves_changing {B} {books} {c} {reply} {before} {after} served honest changes c
     record {
       served = served;
       honest = honest;
+      stays_open = λ _. kept;
       unchanged = λ m _ still. changing_reply reply c (books.represents after m) changes still;
       fault = λ _ _. tt;
       count = count;
@@ -557,6 +560,7 @@ serves_fault {B} {books} {c} {before} {after} {n} (Err f) e is honest same read 
     record {
       served = λ _ _ _ _ _ _. tt;
       honest = honest;
+      stays_open = λ _ _. tt;
       unchanged = λ _ _. tt;
       fault = same;
       count = subst (λ k. CountsFault k (books.stores after) f) read (subst (CountsFault n (books.stores after)) (sym is) count);
@@ -568,6 +572,44 @@ pub by_outcome : {A : Type 0} (made : Result A Fault) (reply : Reply) (S : Resul
     → ((a : A) → P (Ok a) → S (Ok (Ok reply))) → ((e : Fault) → P (Err e) → S (Err e)) → S (reply_or_fault made reply)
 by_outcome (Ok a) reply S P is ok err = ok a is
 by_outcome (Err e) reply S P is ok err = err e is
+
+-- ---- a call that is served after a question
+
+module _ {B : Type 0} (books : Ghosts B) (c : Call) (a : Answer) (before mid after : B) (read : Loses books before mid)
+    (same : (m : Content) → books.represents before m → books.represents mid m) where
+  world_read : (w : World) → HoldsWorld w (books_state books before) → HoldsWorld w (books_state books mid)
+  world_read w of = record { content = of.content; represents = same of.content of.represents; holds = of.holds; legal = of.legal }
+
+  pub endures_read : Endures c a (books_state books mid) (books_state books after) → Endures c a (books_state books before) (books_state books after)
+  endures_read it = record {
+    clean = λ tidy. read.clean (it.clean tidy);
+    kept = it.kept;
+    made = λ honest told w of. it.made honest told w (world_read w of);
+    unmade = λ none m k. it.unmade none m (same m k);
+    each = λ tidy w of x l. elim (it.each tidy w (world_read w of) x l) [
+      | inl was ↦ inl (read.fewer (it.clean tidy) x was)
+      | inr new ↦ inr new
+    ];
+    quiet = λ tidy none x l. read.fewer (it.clean tidy) x (it.quiet tidy none x l);
+    sound = λ tidy w of s. it.sound tidy w (world_read w of) (read.sound (it.clean tidy) s);
+  }
+
+pub serves_read : {B X : Type 0} {x : X} (books : Ghosts B) {c : Call} {said : Result Said Fault} {before mid after : B}
+    → OnlyAsks books before mid (Ok x) → Serves books c said mid after → Serves books c said before after
+serves_read books {c} {said} {before} {mid} {after} asks it = record {
+  served = λ m k w legal h honest. it.served m (asks.same m k) w legal h honest;
+  honest = λ honest. asks.honest (it.honest honest);
+  stays_open = λ was tidy. it.stays_open (λ early. asks.stays_open was early) tidy;
+  unchanged = λ m k. it.unchanged m (asks.same m k);
+  fault = λ m k. it.fault m (asks.same m k);
+  count = subst (λ n. Counts n (books.stores after) said) asks.count it.count;
+  endures = endures_read books c (answer_as said) before mid after asks.crash asks.same it.endures;
+}
+
+-- what holds of a result if the store was open with it
+pub if_open : (r : Result Said Fault) (Stands : Type 0) (P : Said → Type 0) → OnOk r Stands → (Stands → IfOk r P) → IfOk r P
+if_open (Ok x) Stands P stands is = is stands
+if_open (Err f) Stands P stands is = tt
 
 -- the result of a call, as an answer
 pub said_if : (r : Result Said Fault) (P : Said → Type 0) → IfOk r P → IfSaid (answer_as r) P

@@ -1,4 +1,3 @@
 pub mod Running
 pub mod Enduring
-pub mod Failures
 pub mod FaultLaws

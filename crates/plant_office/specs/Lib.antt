@@ -5,6 +5,5 @@ pub mod Runs
 pub mod Outcomes
 pub mod Faults
 pub mod Enduring
-pub mod Failures
 pub mod Lives
 pub mod Serves

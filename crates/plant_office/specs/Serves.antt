@@ -1,6 +1,6 @@
 -- What serving a call returns, and what it leaves of the books.
 use Rattle.std.specs.Prelude.{IfOk, Ok, OnErr, Option, Result, Some, false, ◌≡◌}
-use Rattle.plant_books.specs.{Books.{LeavesUnchanged}, Contents.{Content, part_in}, Counting.{Counts}, declared.books.Books.{Ghosts}}
+use Rattle.plant_books.specs.{Books.{LeavesUnchanged, StaysHonest}, Contents.{Content, part_in}, Counting.{Counts}, declared.books.Books.{Ghosts}}
 use Rattle.plant_model.specs.{Verdicts.{changes_history}, Worlds.{IsLegalWorld, World, unit_named}, declared.{call.Call.{Call}, reply.Refused.{Refused}}}
 use Rattle.plant_model.specs.declared.{reply.Reply.{Reply}, rows.UnitPart.{UnitPart}}
 use Rattle.plant_office.specs.{Answers.{answer_as}, Enduring.{Endures, books_state}, Served.{Holds, IsServed}}
@@ -14,6 +14,7 @@ pub record Serves {B : Type 0} (books : Ghosts B) (c : Call) (said : Result (Res
       → books.is_honest after
       → IfOk said (λ a. IsServed w c a (books.represents after))
   pub honest : books.is_honest after → books.is_honest before
+  pub stays_open : StaysHonest books.is_honest books.is_clean before after said
   pub unchanged : (m : Content) → books.represents before m
       → IfOk said (λ a. changes_history a c ≡ false → books.represents after m)
   pub fault : (m : Content) → books.represents before m → OnErr said (books.represents after m)

@@ -2,7 +2,7 @@
 //! contracts state that each caller sees only the units in which they hold a role, and what a fault or a crash
 //! leaves.
 
-ghost use Rattle.std.specs.Prelude.{◌≡◌, ◌<◌, ◌^◌, ◌-◌, ◌+◌, ◌≤◌, Some, None, true, false, IfOk, IfSome, IsTrue, OnErr, List, [], ◌∷◌, ◌++◌, filter_map, map, max, fold, length, option_copied, option_map, vec_len, vec_capacity};
+ghost use Rattle.std.specs.Prelude.{◌≡◌, ◌<◌, ◌^◌, ◌-◌, ◌+◌, ◌≤◌, Some, None, true, false, IfOk, IfSome, IsTrue, OnErr, OnOk, List, [], ◌∷◌, ◌++◌, filter_map, map, max, fold, length, option_copied, option_map, vec_len, vec_capacity};
 ghost use Rattle.plant_books.specs.{Books.{WasHonest}, Contents.{Content}, declared.books.MineUnit.{MineUnit}};
 ghost use Rattle.plant_types.specs.Results.{OnlyMemory};
 ghost use Rattle.plant_model.specs.{Legality.{has_matrix, is_matrix_kind}, Verdicts.{changes_history, is_opening}};
@@ -11,7 +11,7 @@ ghost use Rattle.plant_model.specs.{Views.{view}, Worlds.{World, IsLegalWorld, u
 ghost use Rattle.plant_model.specs.declared.rows.UnitRows.{UnitRows};
 ghost use Rattle.plant_office.specs.{Answers.{CountsAnswer, IfSaid, OnFault, answer_as, reply_or_fault}, Lines.{line_of_mine, line_of_shelf}};
 ghost use Rattle.plant_office.specs.Faults as spec;
-ghost use Rattle.plant_office.specs.{Enduring.{EnduresAll, EnduresSettled, books_state}, Failures.{StandBeforeFailure}};
+ghost use Rattle.plant_office.specs.Enduring.{EnduresAll, EnduresSettled, books_state};
 ghost use Rattle.plant_office.specs.{Runs.{AllChangeNothing, EachKeepsUnchanged, IsRun, stores_in}, Served.{Holds, IsIsolated, IsServed}, Serves.{HaveRead, Serves}};
 
 use plant_books::{Books, MineRow, MineUnit};
@@ -280,9 +280,19 @@ impl<B: Books> Office<B> {
         }
     }
 
+    /// Serves a call if the store behind the books is open. Whatever is answered but a fault was answered while it was.
+    fn serve_open(&mut self, call: &Call) -> Result<Result<Reply, Refused>, Fault>
+        ensures serves { Serves B.Books call.now result self.old.books self.new.books }
+        ensures open { OnOk result (B.is_clean self.new.books → B.is_honest self.new.books) }
+    {
+        self.books.ensure_open()?;
+        self.serve_call(call)
+    }
+
     /// Answers a call as the world of the units' histories answers it.
     ///
-    /// The headline is the clause `isolated`. Take any other office of the same administrator that looks the same to
+    /// The clauses ask only that the disk returned what was written: once a failure has shut the store, every answer is a
+    /// fault. The headline is the clause `isolated`. Take any other office of the same administrator that looks the same to
     /// the caller at the call's moment. It would give the same answer, if this one is not a fault, and the units in
     /// which the caller holds a role before or after the call would have the same rows there. A fault leaves the books
     /// as they were, and so do a refusal and a reply to a read, whatever the books hold.
@@ -292,12 +302,12 @@ impl<B: Books> Office<B> {
     /// other reply or a refusal only the former. After a fault the caller does not know.
     pub fn serve(&mut self, call: &Call) -> Answer
         ensures served { (m : Content) → B.represents self.old.books m → (w : World)
-            → IsLegalWorld w → Holds m w → B.is_honest self.new.books
+            → IsLegalWorld w → Holds m w → B.is_clean self.new.books
             → IfSaid result (λ a. IsServed w call.now a (B.represents self.new.books)) }
         ensures isolated { (m : Content) → B.represents self.old.books m → (w v : World)
             → IsLegalWorld w → Holds m w → w.admin ≡ v.admin
             → view call.now.moment call.now.person w ≡ view call.now.moment call.now.person v
-            → B.is_honest self.new.books
+            → B.is_clean self.new.books
             → IfSaid result (λ a. IsIsolated v call.now a (B.represents self.new.books)) }
         ensures honest { WasHonest B.is_honest self.old.books self.new.books }
         ensures unchanged { (m : Content) → B.represents self.old.books m
@@ -311,7 +321,7 @@ impl<B: Books> Office<B> {
         ensures faults { self.new.faults ≡ spec.noted self.old.faults (result ∷ []) }
     {
         let faults = self.faults;
-        let outcome = self.serve_call(call);
+        let outcome = self.serve_open(call);
         // Gives the proof what a crash leaves now. Does nothing at run time.
         self.books.settle();
         self.faults = noted(faults, &outcome);
@@ -322,11 +332,11 @@ impl<B: Books> Office<B> {
     /// out of memory, and then no call was made. A fault, a refusal and a reply to a read leave the books as they were,
     /// call by call and whatever the books hold. A crash leaves the books with all calls that were confirmed, or with
     /// these and one that was answered by a fault after which none was confirmed. If a failure shuts the store
-    /// meanwhile, the calls up to the last confirmed one were nevertheless answered as the world answers them.
+    /// meanwhile, all later answers are faults.
     pub fn run(&mut self, calls: &[Call]) -> Result<Vec<Answer>, Fault>
         ensures ran { (m : Content) → B.represents self.old.books m → (w : World)
             → IsLegalWorld w → Holds m w
-            → B.is_honest self.new.books
+            → B.is_clean self.new.books
             → IfOk result (λ answers.
             IsRun w calls.now answers.items (B.represents self.new.books)) }
         ensures unchanged { (m : Content) → B.represents self.old.books m
@@ -335,9 +345,6 @@ impl<B: Books> Office<B> {
         ensures kept { IfOk result (λ answers. EachKeepsUnchanged B.represents
             calls.now answers.items self.old.books self.new.books) }
         ensures endures { IfOk result (λ answers. EnduresAll
-            (books_state B.Books self.old.books) (books_state B.Books self.new.books)
-            calls.now answers.items) }
-        ensures stands { IfOk result (λ answers. StandBeforeFailure
             (books_state B.Books self.old.books) (books_state B.Books self.new.books)
             calls.now answers.items) }
         ensures honest { WasHonest B.is_honest self.old.books self.new.books }

@@ -23,16 +23,16 @@ handed upper lower it w calls answers k = record {
 }
 
 pub ran_below : (before after before_below after_below : BooksState) (count counted_to count_below counted_below : ℕ)
-    → Hands before_below before → Hands after after_below → (after_below.honest → after.honest) → (after_below.clean → after.clean)
-    → (before.clean → before_below.clean) → (before.honest → before_below.honest)
+    → Hands before_below before → Hands after after_below → (after_below.clean → after.clean)
+    → (before.clean → before_below.clean)
     → count ≡ count_below → counted_below ≡ counted_to
     → (calls : List Call) (answers : List Answer) → Ran before after count counted_to calls answers
     → Ran before_below after_below count_below counted_below calls answers
-ran_below before after before_below after_below count counted_to count_below counted_below down up honest clean_after clean_before honest_before first last calls
+ran_below before after before_below after_below count counted_to count_below counted_below down up clean_after clean_before first last calls
     answers is =
     record {
       run = λ m h w legal rows told.
-          let run = is.run m (down.represents m h) w legal rows (honest told) in
+          let run = is.run m (down.represents m h) w legal rows (clean_after told) in
           record {
             answered = run.answered;
             isolated = run.isolated;
@@ -50,12 +50,5 @@ ran_below before after before_below after_below count counted_to count_below cou
         goes_on =
             λ w earlier said tidy k. handed after after_below up w _ _
             (is.endures.goes_on w earlier said (clean_after tidy) (handed before_below before down w earlier said k));
-      };
-      stands = record {
-        long = is.stands.long;
-        honest = λ told. honest_before (is.stands.honest (honest told));
-        kept = λ tidy some. honest_before (is.stands.kept (clean_after tidy) some);
-        answered = λ tidy w at. is.stands.answered (clean_after tidy) w
-            (record { content = at.content; represents = down.represents at.content at.represents; holds = at.holds; legal = at.legal });
       };
     }

@@ -9,7 +9,7 @@ use Rattle.sqlite_wal.specs.{Recovery.{Image}}
 use Rattle.plant_books.specs.{Contents.{Content}}
 use Rattle.plant_model.specs.{Worlds.{World}, declared.{call.Call.{Call}, reply.Answer.{Answer}}}
 use Rattle.plant_office.specs.Outcomes.{IsOutcome}
-use Rattle.plant_server.specs.{Crashes.{HoldCommitted, HoldOutcome, HoldWholeBooks, HoldWholeOutcome, IsOutcomeIn, IsWhole, LeavesOutcomes}, Files.{HoldBooks}}
+use Rattle.plant_server.specs.{Crashes.{AreAsCommitted, AreOutcomeOf, AreWholeBooksWith, AreWholeOutcomeOf, IsOutcomeIn, IsWhole, LeavesOutcomes}, Files.{AreBooksWith}}
 use Rattle.plant_store_statements.specs.Keeping.{HaveRows, LeavesBooks, LeavesContent, Represents}
 
 pub if_ok : {A E : Type 0} (said : Result A E) {P Q : A → Type 0} → ((a : A) → P a → Q a) → IfOk said P → IfOk said Q
@@ -21,12 +21,12 @@ if_some None then h = tt
 if_some (Some a) then h = then a h
 
 held_by : (image : Image) (d : Database) (m : Content) (db : Trees) → db ≡ d.trees → IsDatabase d → HaveRows m d → HoldsDatabase image db
-    → HoldBooks image m
+    → AreBooksWith image m
 held_by image d m db same live rows holds =
     record { db = d; database = record { trees = subst (HoldsDatabase image) same holds; listed = live }; rows = rows }
 
 outcome_held : (image : Image) (w : World) (calls : List Call) (answers : List Answer) (db : Trees) → IsOutcomeIn w calls answers db
-    → HoldsDatabase image db → HoldOutcome w calls answers image
+    → HoldsDatabase image db → AreOutcomeOf w calls answers image
 outcome_held image w calls answers db it holds = record {
   content = it.content;
   books = held_by image it.database it.content db (sym it.same) it.books.database it.books.rows holds;
@@ -51,7 +51,7 @@ module _ {D : Type 0} {g : Ghosts D} where
 
   -- what was committed is among what a crash could leave before the closing
   pub outcome_whole : (it : FileStore D g) (files : Files D) (w : World) (calls : List Call) (answers : List Answer)
-      → LeavesOutcomes it w calls answers → HoldCommitted g it files → HoldWholeOutcome g files w calls answers
+      → LeavesOutcomes it w calls answers → AreAsCommitted g it files → AreWholeOutcomeOf g files w calls answers
   outcome_whole it files w calls answers left held image may =
       let alone = held.alone image may in
       let is = left.databases (view it).committed held.committed in (
@@ -62,7 +62,7 @@ module _ {D : Type 0} {g : Ghosts D} where
   pub whole_books : (c : Held (FileStore D g)) (it : FileStore D g) (files : Files D) → IsLive (file_state c)
       → (IsTrue (file_state c).is_open → (file_state c).now ≡ (file_state c).committed)
       → HasCleanDisk (file_state c) → IsTrue (file_state c).is_open → (view it).committed ≡ (file_state c).committed.trees
-      → (m : Content) → Represents (file_state c) m → HoldCommitted g it files → HoldWholeBooks g files m
+      → (m : Content) → Represents (file_state c) m → AreAsCommitted g it files → AreWholeBooksWith g files m
   whole_books c it files live settled clean up committed m held copied image may =
       let k = held (clean, up) in
       let same : (view it).committed ≡ (file_state c).now.trees = committed ∙ sym (ap (λ (d : Database). d.trees) (settled up)) in

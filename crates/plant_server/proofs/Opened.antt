@@ -8,19 +8,19 @@ use Rattle.sqlite_trees.specs.declared.error.StoreError.TheVariants as store
 use Rattle.sqlite_wal.specs.Recovery.{Image}
 use Rattle.plant_books.specs.Contents.{Content}
 use Rattle.plant_store_columns.specs.Tables.{office_table, schema_no}
-use Rattle.plant_server.specs.Files.{HoldBooks, HoldDatabase, fault_by_error}
+use Rattle.plant_server.specs.Files.{AreBooksWith, AreOfDatabase, fault_by_error}
 use Rattle.plant_store_statements.specs.{Changes.{IsHonest}, Keeping.{HaveRows, Represents}}
 use Rattle.plant_store.{specs.{Opening.{IsThisOffice, office_cells, office_in, office_shown}, declared.tables.StoreFault.TheVariants.{NotThisStore}}, proofs.public.Databases.{same_database}}
 use Rattle.plant_types.specs.Names.{Name}
 
 module _ (files : Image) (s : State) (opened : HasCleanDisk s → Opens s × IsLive s) (found : HasCleanDisk s → FindsIn files s) where
-  pub same_now : IsHonest s → (db : Database) → HoldDatabase files db → s.now ≡ db
+  pub same_now : IsHonest s → (db : Database) → AreOfDatabase files db → s.now ≡ db
   same_now tells db held =
       let it = opened tells.0 in
       same_database db s.now held.listed (it.1 tells.1).0
       (ap (λ (d : Database). d.trees) it.0.clean ∙ (found tells.0).holds db.trees held.trees)
 
-  pub kept : (m : Content) → HoldBooks files m → Represents s m
+  pub kept : (m : Content) → AreBooksWith files m → Represents s m
   kept m held tells = subst (HaveRows m) (sym (same_now tells held.db held.database)) held.rows
 
 -- the books of an office are its administrator's

@@ -6,7 +6,7 @@ use Rattle.plant_model.specs.declared.reply.Answer.TheVariants.{Fault as Faulted
 use Rattle.plant_office.specs.{Outcomes.{AreMade, IsInDoubt, confirmed, confirms}, Runs.{AreAnswers, after_answer}}
 use Rattle.plant_server_clients.specs.Events.{all_answers, all_calls}
 use Rattle.plant_server_options.specs.declared.words.{CommandLine.{CommandLine}, CommandLineError.{CommandLineError}, Service.{Service}, Task.{TheVariants.{Serve}}}
-use Rattle.plant_server.specs.{OverFiles.{AreServed, Place, RanOnFiles, Begins, IsHonestAfter}, Promise.{FilesServed, IsDoneOnFile, IsKept, IsObeyed}}
+use Rattle.plant_server.specs.{OverFiles.{WereServed, Place, RanOnFiles, Begins, IsHonestAfter}, Promise.{FilesServed, IsEndOnFile, IsKept, IsEndOfLine}}
 use Rattle.plant_server.specs.{Promises.{AllPromises, AreMadeFor, AreOn, CallPromises, IsMadeFor, KeepsPromises, PortPromises, StreamPromises}, Services.{AreAtOnce, AreOfPort, is_at_once}, Streams.{Streams, within}}
 use Rattle.plant_server.specs.declared.{remains.Left.{Left}, statuses.ExitStatus.{ExitStatus}}
 use Rattle.plant_server.specs.declared.remains.Left.TheVariants as left
@@ -78,7 +78,7 @@ module _ (parts : PartsAnswerTheirCalls) (units : Name → Bool) where
 
 module _ {D N F : Type 0} {g : Ghosts D} (h : Ghosts N) (parts : PartsAnswerTheirCalls) where
   files_of : (place : Place D) (path : List ℕ) (admin : Name) (service : Option Service) (s : Streams) (n : ExitStatus) (after : Left D N F g)
-      → AreServed after → IsDoneOnFile place path admin service s n after → FilesServed place path admin service s n after
+      → WereServed after → IsEndOnFile place path admin service s n after → FilesServed place path admin service s n after
   files_of place path admin service s n (left.Closed files) were (inl it) = absurd it.2
   files_of place path admin service s n (left.Closed files) were (inr it) = it
   files_of place path admin service s n (left.Unclosed store) were (inl it) = absurd it.2
@@ -95,12 +95,12 @@ module _ {D N F : Type 0} {g : Ghosts D} (h : Ghosts N) (parts : PartsAnswerThei
   of_calls : (place : Place D) (path : List ℕ) (admin : Name) (after : Left D N F g) (store : FileStore D g) (calls : List Call) (answers : List Answer)
       → RanOnFiles (Begins place path) admin store after calls answers → CallPromises place path admin after store calls answers
   of_calls place path admin after store calls answers ran = record {
-    answered = λ w begins honest. (ran.answered w begins honest).answered;
-    apart = λ w begins honest. (ran.answered w begins honest).isolated;
+    answered = λ w begins clean. (ran.answered w begins clean).answered;
+    apart = λ w begins clean. (ran.answered w begins clean).isolated;
     unchanged = unchanged calls answers;
     lasting = λ w begins own clean. (ran.meanwhile w begins own clean, ran.afterwards w begins own clean);
-    split = λ units v begins honest on.
-        split parts units v (only units v) refl calls answers on (ran.answered (only units v) begins honest).answered;
+    split = λ units v begins clean on.
+        split parts units v (only units v) refl calls answers on (ran.answered (only units v) begins clean).answered;
   }
 
   -- over a port, to many connections at once
@@ -142,6 +142,6 @@ module _ {D N F : Type 0} {g : Ghosts D} (h : Ghosts N) (parts : PartsAnswerThei
   -- the six promises, of a command whose words were read as: serve this file for this administrator, in this way
   pub promised : {E : Type 0} (gives_port gives : List ℕ → Result ℕ E → Type 0) (place : Place D) → KeepsPromises F g h place gives_port gives
   promised gives_port gives place words s number after kept admin path service line were =
-      let done = subst (λ (l : Result CommandLine CommandLineError). IsObeyed h place l s kept.status after) line kept.obeyed in
+      let done = subst (λ (l : Result CommandLine CommandLineError). IsEndOfLine h place l s kept.status after) line kept.ended in
       of_files place (string_bytes path) admin service s kept.status after
       (files_of place (string_bytes path) admin service s kept.status after were done)

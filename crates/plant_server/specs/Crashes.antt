@@ -8,7 +8,7 @@ use Rattle.sqlite_wal.specs.{Files.{outcomes}, Recovery.{Image}}
 use Rattle.plant_books.specs.{Contents.{Content}, Crashes.{Alike}}
 use Rattle.plant_model.specs.{Worlds.{World}, declared.{call.Call.{Call}, reply.Answer.{Answer}}}
 use Rattle.plant_office.specs.Outcomes.{IsOutcome}
-use Rattle.plant_server.specs.Files.{HoldBooks}
+use Rattle.plant_server.specs.Files.{AreBooksWith}
 use Rattle.plant_store_statements.specs.Keeping.{AreBooksOf, LeavesBooks, LeavesContent}
 
 -- on a clean disk a crash leaves books whose content is alike to this one, and nothing else
@@ -16,9 +16,9 @@ abbrev pub LeavesOnly : State → Content → Type 0
 LeavesOnly s m = HasCleanDisk s → LeavesBooks s × ((x : Content) → LeavesContent s x → Alike x m)
 
 -- the files hold books that a crash may leave of an office that began at this world, and gave these calls these answers
-pub record HoldOutcome (w : World) (calls : List Call) (answers : List Answer) (files : Image) : Type 0 where
+pub record AreOutcomeOf (w : World) (calls : List Call) (answers : List Answer) (files : Image) : Type 0 where
   pub content : Content
-  pub books : HoldBooks files content
+  pub books : AreBooksWith files content
   pub outcome : IsOutcome w calls answers content
 
 -- the database is of such books
@@ -34,7 +34,7 @@ pub record IsOutcomeIn (w : World) (calls : List Call) (answers : List Answer) (
 pub record LeavesOutcomes {D : Type 0} {g : Ghosts D} (it : FileStore D g) (w : World) (calls : List Call)
     (answers : List Answer) : Type 0 where
   pub databases : (db : Trees) → recovers it db → IsOutcomeIn w calls answers db
-  pub files : (image : Image) → (state it).may_leave image → ∥ HoldOutcome w calls answers image ∥₁
+  pub files : (image : Image) → (state it).may_leave image → ∥ AreOutcomeOf w calls answers image ∥₁
 
 -- whatever a crash leaves of the store is a whole database
 pub record IsWhole {D : Type 0} {g : Ghosts D} (it : FileStore D g) : Type 0 where
@@ -42,19 +42,19 @@ pub record IsWhole {D : Type 0} {g : Ghosts D} (it : FileStore D g) : Type 0 whe
   pub sound : AreDatabases (recovers it)
 
 -- the store was open, and whatever a crash leaves of its closed files holds what it had committed, also without the log
-pub record HoldCommitted {D : Type 0} (g : Ghosts D) (it : FileStore D g) (files : Files D) : Type 0 where
+pub record AreAsCommitted {D : Type 0} (g : Ghosts D) (it : FileStore D g) (files : Files D) : Type 0 where
   pub clean : IsClean (view it)
   pub is_open : IsTrue (view it).is_open
   pub committed : recovers it (view it).committed
   pub alone : (image : Image) → outcomes g files.log files.db image → HoldsAlone image (view it).committed
 
 -- whatever a crash leaves of closed files holds books with this content, also without the log
-abbrev pub HoldWholeBooks : {D : Type 0} → (g : Ghosts D) → Files D → Content → Type 0
-HoldWholeBooks g files m = (image : Image) → outcomes g files.log files.db image
-    → ∥ HoldBooks image m ∥₁ × ∥ HoldBooks (record image { log = [] }) m ∥₁
+abbrev pub AreWholeBooksWith : {D : Type 0} → (g : Ghosts D) → Files D → Content → Type 0
+AreWholeBooksWith g files m = (image : Image) → outcomes g files.log files.db image
+    → ∥ AreBooksWith image m ∥₁ × ∥ AreBooksWith (record image { log = [] }) m ∥₁
 
 -- the same, with books that a crash may leave of an office
-abbrev pub HoldWholeOutcome : {D : Type 0} → (g : Ghosts D) → Files D → World → List Call → List Answer → Type 0
-HoldWholeOutcome g files w calls answers =
+abbrev pub AreWholeOutcomeOf : {D : Type 0} → (g : Ghosts D) → Files D → World → List Call → List Answer → Type 0
+AreWholeOutcomeOf g files w calls answers =
     (image : Image) → outcomes g files.log files.db image
-    → ∥ HoldOutcome w calls answers image ∥₁ × ∥ HoldOutcome w calls answers (record image { log = [] }) ∥₁
+    → ∥ AreOutcomeOf w calls answers image ∥₁ × ∥ AreOutcomeOf w calls answers (record image { log = [] }) ∥₁

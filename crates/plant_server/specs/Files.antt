@@ -13,24 +13,24 @@ use Rattle.plant_store.specs.declared.tables.StoreFault.TheVariants as store_fau
 use Rattle.sqlite_trees.specs.declared.error.StoreError.TheVariants as store_error
 
 -- the files hold this database
-pub record HoldDatabase (files : Image) (db : Database) : Type 0 where
+pub record AreOfDatabase (files : Image) (db : Database) : Type 0 where
   pub trees : HoldsDatabase files db.trees
   pub listed : IsDatabase db
 
 -- they hold books with this content
-pub record HoldBooks (files : Image) (m : Content) : Type 0 where
+pub record AreBooksWith (files : Image) (m : Content) : Type 0 where
   pub db : Database
-  pub database : HoldDatabase files db
+  pub database : AreOfDatabase files db
   pub rows : HaveRows m db
 
 -- they hold a store of schema 1 that has this content
-pub record HoldOldBooks (files : Image) (m : Content) : Type 0 where
+pub record AreOldBooksWith (files : Image) (m : Content) : Type 0 where
   pub db : Database
-  pub database : HoldDatabase files db
+  pub database : AreOfDatabase files db
   pub rows : HaveOldRows m db
 
 -- a connection still shows this database, and a crash leaves nothing else
-pub record HoldsStill (s : State) (db : Database) : Type 0 where
+pub record StillShows (s : State) (db : Database) : Type 0 where
   pub shown : IsHonest s → s.now ≡ db
   pub left : HasCleanDisk s → (trees : Trees) → s.may_leave trees → trees ≡ db.trees
 

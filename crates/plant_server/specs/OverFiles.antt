@@ -9,8 +9,8 @@ use Rattle.sqlite_trees.specs.View.{IsClean}
 use Rattle.sqlite_wal.specs.{Reads.{AreClean}, Recovery.{Image}}
 use Rattle.plant_books.specs.Contents.{Content}
 use Rattle.plant_model.specs.{Worlds.{IsLegalWorld, World}, declared.{call.Call.{Call}, reply.Answer.{Answer}}}
-use Rattle.plant_office.specs.{Failures.{AreAnsweredBeforeFailure}, Runs.{AreAnswers, AreIsolated}, Served.{Holds}}
-use Rattle.plant_server.specs.{Crashes.{HoldWholeOutcome, IsOutcomeIn, LeavesOutcomes}, Files.{HoldBooks, HoldDatabase, HoldsStill, fault_by_error}}
+use Rattle.plant_office.specs.{Runs.{AreAnswers, AreIsolated}, Served.{Holds}}
+use Rattle.plant_server.specs.{Crashes.{AreWholeOutcomeOf, IsOutcomeIn, LeavesOutcomes}, Files.{AreBooksWith, AreOfDatabase, StillShows, fault_by_error}}
 use Rattle.plant_server.specs.{Statuses.{not_copied_text}, declared.remains.Left.{Left}}
 use Rattle.plant_server.specs.declared.remains.Left.TheVariants as left
 use Rattle.plant_server.specs.declared.names.Found.{Found}
@@ -41,16 +41,16 @@ pub record AreAnsweredBy (w : World) (calls : List Call) (answers : List Answer)
   pub isolated : AreIsolated w calls answers
 
 -- The files hold the rows of this world.
-pub record HoldRows (files : Image) (w : World) : Type 0 where
+pub record AreRowsOf (files : Image) (w : World) : Type 0 where
   pub content : Content
-  pub books : HoldBooks files content
+  pub books : AreBooksWith files content
   pub legal : IsLegalWorld w
   pub holds : Holds content w
 
 -- the files at this path do
 pub record Begins {D : Type 0} (place : Place D) (path : List ℕ) (w : World) : Type 0 where
   pub here : path ≡ place.path
-  pub rows : HoldRows place.files w
+  pub rows : AreRowsOf place.files w
 
 module _ {D : Type 0} {g : Ghosts D} where
   -- Files that were not opened as a database are as they were. They are refused as not this store only if they hold no
@@ -65,16 +65,16 @@ module _ {D : Type 0} {g : Ghosts D} where
   -- this administrator.
   pub record IsDeclined (place : Place D) (path : List ℕ) (admin : Name) (fault : StoreFault) (conn : Held (FileStore D g))
       : Type 0 where
-    pub still : path ≡ place.path → (db : Database) → HoldDatabase place.files db → HoldsStill (file_state conn) db
-    pub cause : path ≡ place.path → (db : Database) → HoldDatabase place.files db → fault ≡ NotThisStore
+    pub still : path ≡ place.path → (db : Database) → AreOfDatabase place.files db → StillShows (file_state conn) db
+    pub cause : path ≡ place.path → (db : Database) → AreOfDatabase place.files db → fault ≡ NotThisStore
         → IsHonest (file_state conn) → ¬ IsThisOffice admin db
 
 module _ {D N F : Type 0} {g : Ghosts D} where
   -- Files were served, and closed with their log copied, or not.
-  abbrev pub AreServed : Left D N F g → Type 0
-  AreServed (left.Closed files) = Unit {0}
-  AreServed (left.Unclosed store) = Unit {0}
-  AreServed _ = ⊥
+  abbrev pub WereServed : Left D N F g → Type 0
+  WereServed (left.Closed files) = Unit {0}
+  WereServed (left.Unclosed store) = Unit {0}
+  WereServed _ = ⊥
 
   -- The disk has returned what was written.
   abbrev pub IsCleanAfter : Left D N F g → Type 0
@@ -91,13 +91,13 @@ module _ {D N F : Type 0} {g : Ghosts D} where
   -- Whatever a crash leaves from now on is books after the confirmed calls, or after these and one in doubt; for closed
   -- files also without the log.
   abbrev pub LeavesAfter : Left D N F g → World → List Call → List Answer → Type 0
-  LeavesAfter (left.Closed files) w calls answers = HoldWholeOutcome g files w calls answers
+  LeavesAfter (left.Closed files) w calls answers = AreWholeOutcomeOf g files w calls answers
   LeavesAfter (left.Unclosed store) w calls answers = (db : Trees) → recovers store db → IsOutcomeIn w calls answers db
   LeavesAfter _ w calls answers = ⊥
 
   -- what closing leaves of a store after serving
   pub record IsClosing (store : FileStore D g) (after : Left D N F g) : Type 0 where
-    pub were : AreServed after
+    pub were : WereServed after
     pub clean : IsCleanAfter after → IsClean (view store)
     pub honest : IsHonestAfter after → IsClean (view store) × IsTrue (view store).is_open
     pub leaves : (w : World) (calls : List Call) (answers : List Answer) → LeavesOutcomes store w calls answers
@@ -113,8 +113,7 @@ module _ {D N F : Type 0} {g : Ghosts D} where
   -- crash leaves is stated for a world of the administrator: the store may have shut while the books were opened.
   pub record RanOnFiles (begins : World → Type 0) (admin : Name) (store : FileStore D g) (after : Left D N F g)
       (calls : List Call) (answers : List Answer) : Type 0 where
-    pub answered : (w : World) → begins w → IsHonestAfter after → AreAnsweredBy w calls answers
-    pub before_failure : (w : World) → begins w → IsCleanAfter after → AreAnsweredBeforeFailure w calls answers
+    pub answered : (w : World) → begins w → IsCleanAfter after → AreAnsweredBy w calls answers
     pub meanwhile : (w : World) → begins w → w.admin ≡ admin → IsCleanAfter after → LeavesOutcomes store w calls answers
     pub afterwards : (w : World) → begins w → w.admin ≡ admin → IsCleanAfter after → LeavesAfter after w calls answers
 

@@ -8,11 +8,10 @@ use Rattle.plant_books.specs.Contents.{Content}
 use Rattle.plant_server_options.specs.{CommandLines.{IsReadAs}, declared.words.{CommandLine.{CommandLine}, CommandLineError.{CommandLineError}, Service.{Service}, Task.{Task}}}
 use Rattle.plant_server_options.specs.declared.words.Task.TheVariants.{Migrate, Serve}
 use Rattle.plant_model.specs.{Worlds.{World, empty_world}, declared.{call.Call.{Call}, reply.Answer.{Answer}}}
-use Rattle.plant_office.specs.Failures.{AreAnsweredBeforeFailure}
 use Rattle.plant_store_memory.specs.{Memory.{memory}, declared.file.MemoryFile.{MemoryFile}}
-use Rattle.plant_server.specs.{Crashes.{HoldWholeBooks}, Files.{HoldDatabase, HoldOldBooks, HoldsStill}}
-use Rattle.plant_server.specs.OverFiles.{AreAnsweredBy, AreServed, Begins, IsClosing, IsHonestAfter, IsRefusal, IsUntouched, Place, RanOnFiles, closing_text}
-use Rattle.plant_server.specs.{Nets.{Nets}, Services.{HasServed}, Streams.{Bytes, IsSaid, Lines, Streams, within}}
+use Rattle.plant_server.specs.{Crashes.{AreWholeBooksWith}, Files.{AreOfDatabase, AreOldBooksWith, StillShows}}
+use Rattle.plant_server.specs.OverFiles.{AreAnsweredBy, WereServed, Begins, IsCleanAfter, IsClosing, IsHonestAfter, IsRefusal, IsUntouched, Place, RanOnFiles, closing_text}
+use Rattle.plant_server.specs.{Nets.{Nets}, Services.{HasServed}, Streams.{Bytes, IsPrintedOrCut, Lines, Streams, within}}
 use Rattle.plant_server.specs.Statuses.{code, help_text, migrated_text, no_rows_text, refusal_text, status_of_command_line, status_of_migration, unmigrated_text, unopened_text}
 use Rattle.plant_server.specs.declared.{remains.Left.{Left}, statuses.ExitStatus.{ExitStatus}}
 use Rattle.plant_server.specs.declared.remains.Left.TheVariants as left
@@ -28,20 +27,15 @@ pub record IsUnserved (fault : StoreFault) (s : Streams) (n : ExitStatus) : Type
   pub written : s.written_after ≡ s.written
   pub printed : s.lines.printed_after ≡ s.lines.printed
   pub unlistened : s.nets.after ≡ s.nets.before
-  pub said : IsSaid s.lines.reported s.lines.reported_after (unopened_text fault)
+  pub said : IsPrintedOrCut s.lines.reported s.lines.reported_after (unopened_text fault)
 
--- The calls that were made on books in memory, from this world. If no failure has shut the store, all were answered
--- as the world answers them; otherwise those up to the last that was confirmed.
-pub record RanInMemory (w : World) (store : FileStore MemoryFile memory) (calls : List Call) (answers : List Answer) : Type 0 where
-  pub answered : IsTrue (view store).is_open → AreAnsweredBy w calls answers
-  pub before_failure : AreAnsweredBeforeFailure w calls answers
-
--- In memory the office began with no units. If a service ended because its store had shut, the store is indeed shut.
+-- In memory the office began with no units, and each call was answered as the world answers it. If a service ended because
+-- its store had shut, the store is indeed shut.
 pub record IsServedInMemory (admin : Name) (service : Option Service) (s : Streams) (n : ExitStatus)
     (store : FileStore MemoryFile memory) : Type 0 where
   pub first : Bytes
-  pub said : IsSaid s.lines.reported first no_rows_text
-  pub served : HasServed (RanInMemory (empty_world admin) store) (¬ IsTrue (view store).is_open) service
+  pub said : IsPrintedOrCut s.lines.reported first no_rows_text
+  pub served : HasServed (AreAnsweredBy (empty_world admin)) (¬ IsTrue (view store).is_open) service
       (within s first s.lines.reported_after) n
 
 module _ {D N : Type 0} {g : Ghosts D} where
@@ -50,39 +44,39 @@ module _ {D N : Type 0} {g : Ghosts D} where
   pub record AreMigrated (h : Ghosts N) (place : Place D) (path : List ℕ) (admin : Name) (lines : Lines) (n : ExitStatus)
       (old : Option (Held (FileStore D g))) (made : Result (Files N) StoreFault) : Type 0 where
     pub status : n ≡ status_of_migration made
-    pub printed : IsSaid lines.printed lines.printed_after (migrated_text made)
-    pub said : IsSaid lines.reported lines.reported_after (unmigrated_text made)
-    pub taken : path ≡ place.path → (m : Content) → m.admin ≡ admin → HoldOldBooks place.files m
+    pub printed : IsPrintedOrCut lines.printed lines.printed_after (migrated_text made)
+    pub said : IsPrintedOrCut lines.reported lines.reported_after (unmigrated_text made)
+    pub taken : path ≡ place.path → (m : Content) → m.admin ≡ admin → AreOldBooksWith place.files m
         → IfOk made (λ files. IsSomeAnd old (λ conn. IsHonest (file_state conn)
-        → AreClean h files.log files.db → HoldWholeBooks h files m))
-    pub still : path ≡ place.path → IfSome old (λ conn. (db : Database) → HoldDatabase place.files db
-        → HoldsStill (file_state conn) db)
+        → AreClean h files.log files.db → AreWholeBooksWith h files m))
+    pub still : path ≡ place.path → IfSome old (λ conn. (db : Database) → AreOfDatabase place.files db
+        → StillShows (file_state conn) db)
 
 module _ {D N F : Type 0} {g : Ghosts D} where
   -- it was served in memory, or books could not be made and nothing was served
-  abbrev pub IsDoneInMemory : Name → Option Service → Streams → ExitStatus → Left D N F g → Type 0
-  IsDoneInMemory admin service s n (left.Nothing start) = (fault : StoreFault) × IsUnserved fault s n × (fault ≢ NotThisStore)
-  IsDoneInMemory admin service s n (left.InMemory start store) = IsServedInMemory admin service s n store
-  IsDoneInMemory admin service s n _ = ⊥
+  abbrev pub IsEndInMemory : Name → Option Service → Streams → ExitStatus → Left D N F g → Type 0
+  IsEndInMemory admin service s n (left.Nothing start) = (fault : StoreFault) × IsUnserved fault s n × (fault ≢ NotThisStore)
+  IsEndInMemory admin service s n (left.InMemory start store) = IsServedInMemory admin service s n store
+  IsEndInMemory admin service s n _ = ⊥
 
   -- The files of the administrator's office were served. If a service ended because a failure had shut the store, the
   -- store is indeed shut.
   pub record FilesServed (place : Place D) (path : List ℕ) (admin : Name) (service : Option Service) (s : Streams)
       (n : ExitStatus) (after : Left D N F g) : Type 0 where
-    pub were : AreServed after
-    pub own : path ≡ place.path → (db : Database) → HoldDatabase place.files db → IsHonestAfter after
+    pub were : WereServed after
+    pub own : path ≡ place.path → (db : Database) → AreOfDatabase place.files db → IsCleanAfter after
         → IsThisOffice admin db
     pub store : FileStore D g
     pub closing : IsClosing store after
     pub first : Bytes
     pub last : Bytes
-    pub said : IsSaid s.lines.reported first no_rows_text × IsSaid last s.lines.reported_after (closing_text after)
+    pub said : IsPrintedOrCut s.lines.reported first no_rows_text × IsPrintedOrCut last s.lines.reported_after (closing_text after)
     pub served : HasServed (RanOnFiles (Begins place path) admin store after) (¬ IsHonestAfter after) service
         (within s first last) n
 
   -- files were served, or no books were opened, for this fault
-  abbrev pub IsDoneOnFile : Place D → List ℕ → Name → Option Service → Streams → ExitStatus → Left D N F g → Type 0
-  IsDoneOnFile place path admin service s n after =
+  abbrev pub IsEndOnFile : Place D → List ℕ → Name → Option Service → Streams → ExitStatus → Left D N F g → Type 0
+  IsEndOnFile place path admin service s n after =
       ((fault : StoreFault) × IsUnserved fault s n × IsRefusal place path admin fault after)
       ⊎ FilesServed place path admin service s n after
 
@@ -91,21 +85,21 @@ module _ {D N F : Type 0} {g : Ghosts D} where
   IsMigration h place path admin lines n _ = ⊥
 
   -- a task was done, or the reason why it was not was reported
-  abbrev pub IsDone : Ghosts N → Place D → Name → Task → Streams → ExitStatus → Left D N F g → Type 0
-  IsDone h place admin (Serve None service) s n after = IsDoneInMemory admin service s n after
-  IsDone h place admin (Serve (Some path) service) s n after =
-      IsDoneOnFile place (string_bytes path) admin service s n after
-  IsDone h place admin (Migrate old new) s n after =
+  abbrev pub IsEndOfTask : Ghosts N → Place D → Name → Task → Streams → ExitStatus → Left D N F g → Type 0
+  IsEndOfTask h place admin (Serve None service) s n after = IsEndInMemory admin service s n after
+  IsEndOfTask h place admin (Serve (Some path) service) s n after =
+      IsEndOnFile place (string_bytes path) admin service s n after
+  IsEndOfTask h place admin (Migrate old new) s n after =
       (s.unread_after ≡ s.unread) × (s.nets.after ≡ s.nets.before) × IsMigration h place (string_bytes old) admin s.lines n after
 
   -- What the command line asks for was done, or it was refused, or it asked for help, which was printed, and then no
   -- file was opened.
-  abbrev pub IsObeyed : Ghosts N → Place D → Result CommandLine CommandLineError → Streams → ExitStatus → Left D N F g → Type 0
-  IsObeyed h place (Ok line) s n after = IsDone h place line.admin line.task s n after
-  IsObeyed h place (Err error) s n after = IsUntouched after × (n ≡ status_of_command_line error) × (s.unread_after ≡ s.unread)
+  abbrev pub IsEndOfLine : Ghosts N → Place D → Result CommandLine CommandLineError → Streams → ExitStatus → Left D N F g → Type 0
+  IsEndOfLine h place (Ok line) s n after = IsEndOfTask h place line.admin line.task s n after
+  IsEndOfLine h place (Err error) s n after = IsUntouched after × (n ≡ status_of_command_line error) × (s.unread_after ≡ s.unread)
       × (s.nets.after ≡ s.nets.before)
-      × IsSaid s.lines.printed s.lines.printed_after (help_text error)
-      × IsSaid s.lines.reported s.lines.reported_after (refusal_text error)
+      × IsPrintedOrCut s.lines.printed s.lines.printed_after (help_text error)
+      × IsPrintedOrCut s.lines.reported s.lines.reported_after (refusal_text error)
 
   -- The promise: the command line is read, what it asks for is done, and the exit status shows how it ended.
   -- `gives_port` and `gives` read the numbers of options.
@@ -114,7 +108,7 @@ module _ {D N F : Type 0} {g : Ghosts D} where
     pub line : Result CommandLine CommandLineError
     pub read : IsReadAs gives_port gives words line
     pub status : ExitStatus
-    pub obeyed : IsObeyed h place line s status after
+    pub ended : IsEndOfLine h place line s status after
     pub told : number ≡ code status
 
 -- The promise about some net and about what is left of some files: those of the machine, of which no code shows anything.

@@ -1,26 +1,20 @@
 -- What a plant may rely on: the six promises of the README, in its order and words. The first record is about the calls,
 -- however they came; the second is about a port, with `--db PATH --port N`; the third about the streams, with `--db PATH`.
--- Each follows from `IsKept`, for files that were opened and served (`AreServed`); proofs/Promised.antt has the proof.
+-- The premises: `WereServed`, files were opened and served; `Begins`, the file held the rows of this world as it was opened;
+-- `IsCleanAfter`, the disk has returned what was written. `promises_are_kept` derives all from `IsKept`.
 use Rattle.std.specs.Prelude.{◌≡◌, ◌⊎◌, ℕ, Bool, true, List, [], ◌∷◌, None, Ok, Option, Result, Some, string_bytes}
 use Rattle.sqlite_disk.specs.declared.Disk.{Ghosts}
 use Rattle.sqlite_store.specs.declared.store.FileStore.{FileStore}
 use Rattle.plant_model.specs.{Splits.{only}, Views.{names_in}, Worlds.{World, unit_named}, declared.{call.Call.{Call}, reply.Answer.{Answer}}}
 use Rattle.plant_office.specs.{Outcomes.{AreMade, confirms, is_fault}, Runs.{AreAnswers, AreIsolated}}
-use Rattle.plant_server_clients.specs.{Accounts.{AtEachMoment, IsAnsweredFor}, Causes.{AreCaused}, Events.{Event, Logs, all_answers, all_calls, at_ports}}
-use Rattle.plant_server_clients.specs.{Fairness.{IsBounded, IsFair, IsSoon, IsSteady}, Heeded.{AreHeeded}, Order.{IsInOrder}}
+use Rattle.plant_server_clients.specs.{Accounts.{AtEachMoment, IsAnsweredFor}, Causes.{AreCaused}, Events.{Event, Logs, all_answers, all_calls, at_ports}, Fairness.{IsBounded, IsFair, IsSoon, IsSteady}, Heeded.{AreHeeded}, Order.{IsInOrder}}
 use Rattle.plant_server_options.specs.declared.words.{Service.{Service}, Task.TheVariants.{Serve}}
-use Rattle.plant_server.specs.{Crashes.{LeavesOutcomes}, Nets.{HasListened, Nets}, OverFiles.{AreServed, Begins, IsCleanAfter, IsHonestAfter, LeavesAfter, Place}}
-use Rattle.plant_server.specs.{Promise.{IsKept}, Services.{IsStreamed, is_at_once}, Streams.{Bytes, Streams, within}}
-use Rattle.plant_server.specs.declared.{remains.Left.{Left}, statuses.ExitStatus.{ExitStatus}}
+use Rattle.plant_server.specs.{Crashes.{LeavesOutcomes}, Nets.{HasListened, Nets}, OverFiles.{Begins, IsCleanAfter, LeavesAfter, Place, WereServed}, Promise.{IsKept}, Services.{IsStreamed, is_at_once}, Streams.{Bytes, Streams, within}, declared.{remains.Left.{Left}, statuses.ExitStatus.{ExitStatus}}}
 use Rattle.plant_types.specs.Names.{Name}
-
--- The premises: `Begins`, the file held the rows of this world as it was opened; `IsCleanAfter`, the disk has returned
--- what was written; `IsHonestAfter`, and no failure has shut the store.
 
 -- a change was confirmed by its answer, or its answer was a fault: it was not refused, and the call does not only ask
 abbrev pub IsMadeFor : Call → List Call → List Answer → Type 0
-IsMadeFor c (d ∷ calls) (a ∷ answers) =
-    ((d ≡ c) × ((confirms d a ≡ true) ⊎ (is_fault a ≡ true))) ⊎ IsMadeFor c calls answers
+IsMadeFor c (d ∷ calls) (a ∷ answers) = ((d ≡ c) × ((confirms d a ≡ true) ⊎ (is_fault a ≡ true))) ⊎ IsMadeFor c calls answers
 IsMadeFor c (d ∷ calls) [] = ⊥
 IsMadeFor c [] answers = ⊥
 
@@ -37,17 +31,16 @@ module _ {D N F : Type 0} {g : Ghosts D} where
   pub record CallPromises (place : Place D) (path : List ℕ) (admin : Name) (after : Left D N F g) (store : FileStore D g)
       (calls : List Call) (answers : List Answer) : Type 0 where
     -- 1. Each call is answered as the world answers it that the calls before it left.
-    pub answered : (w : World) → Begins place path w → IsHonestAfter after → AreAnswers w calls answers
+    pub answered : (w : World) → Begins place path w → IsCleanAfter after → AreAnswers w calls answers
     -- 2. The answer would be the same in any world that looks the same to its caller.
-    pub apart : (w : World) → Begins place path w → IsHonestAfter after → AreIsolated w calls answers
+    pub apart : (w : World) → Begins place path w → IsCleanAfter after → AreIsolated w calls answers
     -- 3. No call that was refused, or that only asks, is among those that changed something (4).
     pub unchanged : (made : List Call) → AreMade calls answers made → AreMadeFor made calls answers
-    -- 4. Whatever a crash leaves, during the serving or after it, holds the rows after the confirmed calls, or after these
-    -- and one that is in doubt.
+    -- 4. Whatever a crash leaves, at any time, holds the rows after the confirmed calls, or after these and one in doubt.
     pub lasting : (w : World) → Begins place path w → w.admin ≡ admin → IsCleanAfter after
         → LeavesOutcomes store w calls answers × LeavesAfter after w calls answers
     -- 6. If the office began as these units of another, and is asked of these alone, it answers as the other would.
-    pub split : (units : Name → Bool) (v : World) → Begins place path (only units v) → IsHonestAfter after
+    pub split : (units : Name → Bool) (v : World) → Begins place path (only units v) → IsCleanAfter after
         → AreOn units calls → AreAnswers v calls answers
 
   -- What happened at all connections is one list of events, and it is what the port shows.
@@ -59,16 +52,14 @@ module _ {D N F : Type 0} {g : Ghosts D} where
     pub calls : CallPromises place path admin after store (all_calls events) (all_answers events)
     -- 1. Each connection was sent the answers to its own requests, in their order, and no other byte.
     pub sent : (k : ℕ) → AtEachMoment (IsAnsweredFor k) events
-    -- 5. While a connection waits, at most one call is served for each other, fewer than are open in all, and the port is
-    -- asked at most once for more. What it reports is tried at once. A connection is given up only for a cause. What is done is
-    -- seen by whoever asks next.
+    -- 5. While a connection waits, at most one call is served for each other, fewer than are open in all, and the port is asked
+    -- at most once. What it reports is tried at once. One is given up only for a cause. What is done is seen by who asks next.
     pub fair : AtEachMoment IsFair events × AtEachMoment IsBounded events × AtEachMoment IsSteady events × AtEachMoment IsSoon events
     pub heeded : AreHeeded service.connections events
     pub caused : AreCaused None events
     pub in_order : IsInOrder events
 
-  -- One session over the input and the output: its calls are those that the bytes read ask for, and the bytes written are
-  -- their answers.
+  -- One session: its calls are those that the bytes read ask for, and the bytes written are their answers.
   pub record StreamPromises (place : Place D) (path : List ℕ) (admin : Name) (s : Streams) (n : ExitStatus) (after : Left D N F g) : Type 0 where
     pub first : Bytes
     pub last : Bytes
@@ -85,4 +76,4 @@ abbrev pub KeepsPromises : {D N E : Type 0} → (F : Type 0) → (g : Ghosts D) 
 KeepsPromises {D} {N} F g h place gives_port gives =
     (words : List (List ℕ)) (s : Streams) (number : ℕ) (after : Left D N F g) (kept : IsKept gives_port gives h place words s number after)
     (admin : Name) (path : _) (service : Option Service) → kept.line ≡ Ok (record { admin = admin; task = Serve (Some path) service })
-    → AreServed after → AllPromises place (string_bytes path) admin service s kept.status after
+    → WereServed after → AllPromises place (string_bytes path) admin service s kept.status after

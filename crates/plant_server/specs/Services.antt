@@ -14,7 +14,7 @@ use Rattle.plant_model.specs.declared.{call.Call.{Call}, reply.Answer.{Answer}}
 use Rattle.plant_server.specs.Statuses.{announced, end_text, exit_status_of, few_descriptors_text, halted_text, served, served_at_once, stopped_text}
 use Rattle.plant_server.specs.Nets.{AreOverNet, HasListened, Nets}
 use Rattle.plant_server.specs.declared.nets.Standing.TheVariants as standing
-use Rattle.plant_server.specs.Streams.{Bytes, IsSaid, Lines, Streams}
+use Rattle.plant_server.specs.Streams.{Bytes, IsPrintedOrCut, Lines, Streams}
 use Rattle.plant_server.specs.declared.statuses.ExitStatus.{ExitStatus}
 use Rattle.plant_wire.specs.{Session.{IsSession, StopsAs}, declared.reads.End.{End}}
 
@@ -28,7 +28,7 @@ pub record IsStreamed (ran : OfCalls) (s : Streams) (n : ExitStatus) : Type 0 wh
   pub end : End
   pub ended : Bool
   pub session : IsSession s.unread s.unread_after ended s.written s.written_after ran end
-  pub said : IsSaid s.lines.reported s.lines.reported_after (end_text end)
+  pub said : IsPrintedOrCut s.lines.reported s.lines.reported_after (end_text end)
   pub status : n ≡ exit_status_of end
   pub stops : StopsAs s.reader s.reader_after s.lost s.lost_after end
   pub still : s.nets.after ≡ s.nets.before
@@ -39,13 +39,13 @@ pub record IsStreamed (ran : OfCalls) (s : Streams) (n : ExitStatus) : Type 0 wh
 pub record ArePortLines (log : Bytes → Bytes → Type 0) (notice : List ℕ) (kinds : List Faults) (why : List ℕ)
     (nets : Nets) (lines : Lines) : Type 0 where
   pub first : Bytes
-  pub listening : IsSaid lines.printed first (announced nets.after.standing)
+  pub listening : IsPrintedOrCut lines.printed first (announced nets.after.standing)
   pub logged : log first lines.printed_after
   pub noted : Bytes
   pub told : Bytes
-  pub said : IsSaid lines.reported noted notice
+  pub said : IsPrintedOrCut lines.reported noted notice
   pub faults : TellsFaults noted kinds told
-  pub ended : IsSaid told lines.reported_after why
+  pub ended : IsPrintedOrCut told lines.reported_after why
 
 -- the log got the lines of these events
 abbrev pub IsLogged : List Event → Bytes → Bytes → Type 0

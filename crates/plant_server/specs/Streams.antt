@@ -61,5 +61,5 @@ abbrev pub within : Streams → Bytes → Bytes → Streams
 within s from to = record s { lines = record s.lines { reported = from; reported_after = to } }
 
 -- the text was written, or as much of it as could be
-abbrev pub IsSaid : Bytes → Bytes → List ℕ → Type 0
-IsSaid before after text = (part : ℕ) × Appends before after (take part text)
+abbrev pub IsPrintedOrCut : Bytes → Bytes → List ℕ → Type 0
+IsPrintedOrCut before after text = (part : ℕ) × Appends before after (take part text)

@@ -7,15 +7,15 @@ ghost use Rattle.plant_books.specs.Contents.{no_units};
 ghost use Rattle.plant_store_statements.specs.{Keeping.{Represents}, Reading.{HasNoTransaction}};
 
 use crate::files::create_books;
-use crate::openings::PAGES_IN_LOG;
 use plant_store::{StoreFault, Tables};
+use plant_store_files::{create_over, new_page};
 use plant_store_memory::MemoryFile;
 use plant_types::{Fault, Person};
-use sqlite::{Connection, FileStore, Options};
+use sqlite::{Connection, FileStore};
 use sqlite_disk::{Disk, Files};
 use std::alloc::Global;
 
-/// Opens a new database over two empty files that end with the program. Their pages need no checksums, and the log's
+/// Makes a new database in two empty files that end with the program. Their pages need no checksums, and the log's
 /// number need not be random, since nothing but this program ever reads them.
 fn open_over<D: Disk + Drop>(
     alloc: Global,
@@ -26,9 +26,7 @@ fn open_over<D: Disk + Drop>(
     ensures opened { IfOk result HasNoTransaction }
     ensures named { IfErr result (λ e. e ≢ StoreFault.NotThisStore) }
 {
-    let mut options = Options::new(0);
-    options.checkpoint_frames = PAGES_IN_LOG;
-    match Connection::open_files_with(alloc, files, options, false) {
+    match create_over(alloc, files, new_page(), 0, false) {
         Ok(conn) => Ok(conn),
         Err(_) => Err(StoreFault::Fault(Fault::Memory)),
     }

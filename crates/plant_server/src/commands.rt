@@ -10,10 +10,10 @@ ghost use Rattle.plant_server_options.specs.{CommandLines.{IsReadAs}, declared.w
 ghost use Rattle.plant_books.specs.Contents.{no_units};
 ghost use Rattle.plant_office.specs.Enduring.{books_state};
 ghost use Rattle.plant_server.specs.{Crashes.{IsWhole}, OverFiles.{IsClosing, closing_text, place_of}, Parts.{BooksServed, IsServedAnew}};
-ghost use Rattle.plant_server.specs.Promise.{IsDone, IsDoneInMemory, IsDoneOnFile, IsKept, IsKeptOnSome, IsMigration, IsObeyed};
+ghost use Rattle.plant_server.specs.Promise.{IsEndOfTask, IsEndInMemory, IsEndOnFile, IsKept, IsKeptOnSome, IsMigration, IsEndOfLine};
 ghost use Rattle.sqlite_disk.specs.declared.Unknown.{Unknown as AnyStart};
 ghost use Rattle.plant_server.specs.{Nets.{nets_of}, Services.{HasServed}};
-ghost use Rattle.plant_server.specs.Streams.{Bytes, IsSaid, lines_of, streams_of, within};
+ghost use Rattle.plant_server.specs.Streams.{Bytes, IsPrintedOrCut, lines_of, streams_of, within};
 ghost use Rattle.plant_store_statements.specs.Keeping.{Represents};
 ghost use Rattle.plant_types.specs.Names.{Name};
 ghost use Rattle.sqlite.specs.Files.{file_state};
@@ -32,6 +32,7 @@ use crate::statuses::ExitStatus;
 use plant_books_cache::{Cache, CachedBooks};
 use plant_office::{Books, Office};
 use plant_server_log::say;
+use plant_server_machine::Machine;
 use plant_server_options::{CommandLine, Service, Task, command_line_of};
 use plant_store::Tables;
 use plant_types::Person;
@@ -110,7 +111,7 @@ fn serve_books<S: Alter + Drop, P: Net, I: Inlet, O: Outlet + Write, E: Write>(
 ) -> (ExitStatus, Tables<S>)
     ensures { let s = streams_of (nets_of (P.state net.old) (P.state net.new)) I.Inlet O.Outlet O.Write E.Write
         (inlet.old, outlet.old, errors.old) (inlet.new, outlet.new, errors.new) in
-        (first : Bytes) × IsSaid s.lines.reported first statuses.no_rows_text
+        (first : Bytes) × IsPrintedOrCut s.lines.reported first statuses.no_rows_text
         × HasServed (RanOn ⟦<Tables<S> as Books>⟧ books result.1) (¬ ⟦<Tables<S> as Books>⟧.is_honest result.1) service
         (within s first s.lines.reported_after) result.0 }
 {
@@ -139,7 +140,7 @@ fn serve_files<D: Disk + Drop, P: Net, I: Inlet, O: Outlet + Write, E: Write>(
 ) -> (ExitStatus, Tables<FileStore<D>>)
     ensures { let s = streams_of (nets_of (P.state net.old) (P.state net.new)) I.Inlet O.Outlet O.Write E.Write
         (inlet.old, outlet.old, errors.old) (inlet.new, outlet.new, errors.new) in
-        (first : Bytes) × IsSaid s.lines.reported first statuses.no_rows_text
+        (first : Bytes) × IsPrintedOrCut s.lines.reported first statuses.no_rows_text
         × HasServed (RanOn ⟦<Tables<FileStore<D>> as Books>⟧ books result.1)
         (¬ ⟦<Tables<FileStore<D>> as Books>⟧.is_honest result.1) service
         (within s first s.lines.reported_after) result.0 }
@@ -178,7 +179,7 @@ fn serve_memory<D: Disk, N: Disk, F, P: Net, I: Inlet, O: Outlet + Write, E: Wri
     errors: &mut E,
     start: F,
 ) -> (ExitStatus, Left<D, N, F>)
-    ensures { IsDoneInMemory admin service
+    ensures { IsEndInMemory admin service
         (streams_of (nets_of (P.state net.old) (P.state net.new)) I.Inlet O.Outlet O.Write E.Write
         (inlet.old, outlet.old, errors.old) (inlet.new, outlet.new, errors.new))
         result.0 result.1 }
@@ -200,7 +201,7 @@ fn close_and_say<D: Disk + Drop, N: Disk + Drop, F, E: Write>(
 ) -> Left<D, N, F>
     requires { IsClean (view store) → IsWhole store }
     ensures closed { IsClosing store result }
-    ensures said { IsSaid (E.contents errors.old) (E.contents errors.new) (closing_text result) }
+    ensures said { IsPrintedOrCut (E.contents errors.old) (E.contents errors.new) (closing_text result) }
 {
     match close_left(store) {
         Ok(files) => Left::Closed(files),
@@ -249,7 +250,7 @@ pub struct FileOffice<'a> {
 /// serving, read as the end of the serving over a disk that fails from then on. If no books are opened, no port is
 /// listened on, and the file is as it was.
 pub fn serve_file<F: Start + Located, P: Net, I: Inlet, O: Outlet + Write, E: Write>(
-    rt: &HostRuntime,
+    machine: &Machine<'_>,
     net: &mut P,
     office: FileOffice<'_>,
     inlet: &mut I,
@@ -257,7 +258,7 @@ pub fn serve_file<F: Start + Located, P: Net, I: Inlet, O: Outlet + Write, E: Wr
     errors: &mut E,
     start: F,
 ) -> (ExitStatus, Left<FileFrom<F>, File, F>)
-    ensures { IsDoneOnFile
+    ensures { IsEndOnFile
         (place_of F.Located.path (image_at F.Start) (λ files. IsFresh true files.log × IsFresh false files.db))
         office.entry.path.now office.entry.admin office.entry.service
         (streams_of (nets_of (P.state net.old) (P.state net.new)) I.Inlet O.Outlet O.Write E.Write
@@ -269,8 +270,8 @@ pub fn serve_file<F: Start + Located, P: Net, I: Inlet, O: Outlet + Write, E: Wr
         admin,
         service,
     } = office;
-    match in_file(rt, path, admin, start) {
-        Ok(books) => serve_kept(rt.alloc(), net, books, service, inlet, outlet, errors),
+    match in_file(machine, path, admin, start) {
+        Ok(books) => serve_kept(machine.alloc(), net, books, service, inlet, outlet, errors),
         Err((fault, left)) => (report_unopened(errors, &fault), left),
     }
 }
@@ -285,7 +286,7 @@ struct Migration {
 
 /// Migrates an older file to a new one, and returns the status and what is left of both.
 fn migrate_and_say<F: Start + Located, W: Write, E: Write>(
-    rt: &HostRuntime,
+    machine: &Machine<'_>,
     migration: Migration,
     output: &mut W,
     errors: &mut E,
@@ -298,14 +299,14 @@ fn migrate_and_say<F: Start + Located, W: Write, E: Write>(
         result.0 result.1 }
 {
     let Migration { admin, old, new } = migration;
-    let (old, files) = migrate_file(rt, old.as_str(), new.as_str(), admin, start);
+    let (old, files) = migrate_file(machine, old.as_str(), new.as_str(), admin, start);
     let status = report_migration(output, errors, &files);
     (status, Left::Migrated(old, files))
 }
 
 /// Does what the command line asks for, and returns the status and what is left of the files.
 fn run<F: Start + Located, P: Net, I: Inlet, O: Outlet + Write, E: Write>(
-    rt: &HostRuntime,
+    machine: &Machine<'_>,
     net: &mut P,
     line: CommandLine,
     inlet: &mut I,
@@ -313,7 +314,7 @@ fn run<F: Start + Located, P: Net, I: Inlet, O: Outlet + Write, E: Write>(
     errors: &mut E,
     start: F,
 ) -> (ExitStatus, Left<FileFrom<F>, File, F>)
-    ensures { IsDone ⟦<File as Disk>⟧
+    ensures { IsEndOfTask ⟦<File as Disk>⟧
         (place_of F.Located.path (image_at F.Start) (λ files. IsFresh true files.log × IsFresh false files.db))
         line.admin line.task
         (streams_of (nets_of (P.state net.old) (P.state net.new)) I.Inlet O.Outlet O.Write E.Write
@@ -324,7 +325,7 @@ fn run<F: Start + Located, P: Net, I: Inlet, O: Outlet + Write, E: Write>(
     match task {
         Task::Serve { db, service } => match db {
             None => serve_memory(
-                rt.alloc(),
+                machine.alloc(),
                 net,
                 admin,
                 service,
@@ -339,12 +340,12 @@ fn run<F: Start + Located, P: Net, I: Inlet, O: Outlet + Write, E: Write>(
                     admin,
                     service,
                 };
-                serve_file(rt, net, office, inlet, outlet, errors, start)
+                serve_file(machine, net, office, inlet, outlet, errors, start)
             }
         },
         Task::Migrate { old, new } => {
             let migration = Migration { admin, old, new };
-            migrate_and_say(rt, migration, outlet, errors, start)
+            migrate_and_say(machine, migration, outlet, errors, start)
         }
     }
 }
@@ -352,7 +353,7 @@ fn run<F: Start + Located, P: Net, I: Inlet, O: Outlet + Write, E: Write>(
 /// Reads the command line and does what it asks for, or reports why it is refused. Returns the status and what is left
 /// of the files.
 fn obey<S: AsStr, F: Start + Located, P: Net, I: Inlet, O: Outlet + Write, E: Write>(
-    rt: &HostRuntime,
+    machine: &Machine<'_>,
     net: &mut P,
     words: &[S],
     inlet: &mut I,
@@ -363,15 +364,15 @@ fn obey<S: AsStr, F: Start + Located, P: Net, I: Inlet, O: Outlet + Write, E: Wr
     ensures { (line : Result CommandLine CommandLineError)
         × IsReadAs ⟦<u16 as FromStr>⟧.from_str_gives ⟦<u64 as FromStr>⟧.from_str_gives
         (map S.text words.now) line
-        × IsObeyed ⟦<File as Disk>⟧
+        × IsEndOfLine ⟦<File as Disk>⟧
         (place_of F.Located.path (image_at F.Start) (λ files. IsFresh true files.log × IsFresh false files.db))
         line
         (streams_of (nets_of (P.state net.old) (P.state net.new)) I.Inlet O.Outlet O.Write E.Write
         (inlet.old, outlet.old, errors.old) (inlet.new, outlet.new, errors.new))
         result.0 result.1 }
 {
-    match command_line_of(rt.alloc(), words) {
-        Ok(line) => run(rt, net, line, inlet, outlet, errors, start),
+    match command_line_of(machine.alloc(), words) {
+        Ok(line) => run(machine, net, line, inlet, outlet, errors, start),
         Err(error) => (
             report_command_line_error(outlet, errors, &error),
             Left::Nothing(start),
@@ -386,7 +387,7 @@ fn obey<S: AsStr, F: Start + Located, P: Net, I: Inlet, O: Outlet + Write, E: Wr
 /// `start` stands for what the files at a path hold as they are opened, `net` shows what comes and goes over its
 /// connections, and what is left of the files is handed back.
 pub fn command_over<S: AsStr, F: Start + Located, P: Net, I: Inlet, O: Outlet + Write, E: Write>(
-    rt: &HostRuntime,
+    machine: &Machine<'_>,
     net: &mut P,
     words: &[S],
     inlet: &mut I,
@@ -402,7 +403,7 @@ pub fn command_over<S: AsStr, F: Start + Located, P: Net, I: Inlet, O: Outlet + 
         (inlet.old, outlet.old, errors.old) (inlet.new, outlet.new, errors.new))
         result.0 result.1 }
 {
-    let (status, left) = obey(rt, net, words, inlet, outlet, errors, start);
+    let (status, left) = obey(machine, net, words, inlet, outlet, errors, start);
     (status.code(), left)
 }
 
@@ -431,7 +432,8 @@ pub fn command<S: AsStr, I: Inlet, O: Outlet + Write, E: Write>(
         (inlet.old, outlet.old, errors.old) (inlet.new, outlet.new, errors.new))
         result }
 {
-    let mut net = HostNet::new(rt);
-    let (status, _) = command_over(rt, &mut net, words, inlet, outlet, errors, Unknown);
+    let machine = Machine::new(rt);
+    let mut net = HostNet::new(machine);
+    let (status, _) = command_over(&machine, &mut net, words, inlet, outlet, errors, Unknown);
     status
 }

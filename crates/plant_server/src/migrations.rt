@@ -5,55 +5,46 @@ ghost use Rattle.sqlite.specs.{Effect.{Database}, Files.{file_state, IsOpened}, 
 ghost use Rattle.sqlite.specs.State.{HasCleanDisk};
 ghost use Rattle.sqlite_wal.specs.{Files.{image_at}, Reads.{AreClean}};
 ghost use Rattle.plant_books.specs.Contents.{Content};
-ghost use Rattle.plant_server.specs.{Crashes.{HoldWholeBooks}, Files.{HoldDatabase, HoldOldBooks, HoldsStill}};
+ghost use Rattle.plant_server.specs.{Crashes.{AreWholeBooksWith}, Files.{AreOfDatabase, AreOldBooksWith, StillShows}};
 ghost use Rattle.plant_store_statements.specs.{Changes.{IsHonest}, Keeping.{Represents}, OnlyReads.{OnlyReads}};
 ghost use Rattle.plant_store_statements.specs.Reading.{HasNoTransaction};
 ghost use Rattle.plant_store_migration.specs.Upgrading.{HaveOldRows};
 
-use crate::files::{NewNames, STORE, close_new, connect, new_names, put_in_place};
+use crate::files::{NewNames, STORE, close_new, connect, create, new_names, put_in_place};
 use crate::names::{Found, beside, is_there, length_of, remove};
 use crate::places::Located;
+use plant_server_machine::Machine;
 use plant_store::{StoreFault, Tables, migrate, note_settled};
 use plant_types::Person;
-use sqlite::{Alter, Connection, File, FileFrom, FileStore, Start, Unknown};
+use sqlite::{Alter, Connection, File, FileFrom, FileStore, Start};
 use sqlite_disk::{Disk, Files};
 use std::alloc::Global;
-use std::fs;
-use std::io::ErrorKind;
-use std::os::unix::fs::MetadataExt;
 
 /// Whether a file of this name exists, or a log of it.
-fn is_taken(rt: &HostRuntime, path: &str) -> Result<bool, StoreFault> {
-    let log = beside(rt, path, "-wal")?;
-    Ok(length_of(rt, path)?.is_some() || length_of(rt, &log)?.is_some())
+fn is_taken(machine: &Machine<'_>, path: &str) -> Result<bool, StoreFault> {
+    let log = beside(machine, path, "-wal")?;
+    Ok(length_of(machine, path)?.is_some() || length_of(machine, &log)?.is_some())
 }
 
 /// Whether the file at this path, which may be a link to it, is the one of this name.
-fn is_same_file(rt: &HostRuntime, path: &str, name: &str) -> Result<bool, StoreFault> {
-    let Ok(file) = fs::metadata(rt, path) else {
-        return Err(STORE);
-    };
-    match fs::symlink_metadata(rt, name) {
-        Ok(found) => Ok(found.dev() == file.dev() && found.ino() == file.ino()),
-        Err(error) if error.kind() == ErrorKind::NotFound => Ok(false),
-        Err(_) => Err(STORE),
-    }
+fn is_same_file(machine: &Machine<'_>, path: &str, name: &str) -> Result<bool, StoreFault> {
+    machine.is_same_file(path, name).map_err(|_| STORE)
 }
 
 /// Removes what an interrupted start or migration left of a new file. If that is the older file itself, nothing is
 /// removed, and this fails.
-fn clear(rt: &HostRuntime, old_path: &str, new: &NewNames) -> Result<(), StoreFault> {
-    if is_same_file(rt, old_path, &new.file)? || is_same_file(rt, old_path, &new.log)? {
+fn clear(machine: &Machine<'_>, old_path: &str, new: &NewNames) -> Result<(), StoreFault> {
+    if is_same_file(machine, old_path, &new.file)? || is_same_file(machine, old_path, &new.log)? {
         return Err(STORE);
     }
-    remove(rt, &new.file)?;
-    remove(rt, &new.log)
+    remove(machine, &new.file)?;
+    remove(machine, &new.log)
 }
 
 /// Removes an unfinished new file. What can't be removed is removed by the next attempt.
-fn discard(rt: &HostRuntime, new: &NewNames) {
-    let _ = remove(rt, &new.file);
-    let _ = remove(rt, &new.log);
+fn discard(machine: &Machine<'_>, new: &NewNames) {
+    let _ = remove(machine, &new.file);
+    let _ = remove(machine, &new.log);
 }
 
 /// Copies the tables of the older database to the new one, and hands the older one back, which was only read. The new
@@ -81,7 +72,7 @@ fn copy_tables<D: Disk + Drop, N: Alter + Drop>(
 /// the older tables held.
 #[tactic(auto, using(crate::proofs::OlderRead::not_read))]
 fn copy_to_file<D: Disk + Drop>(
-    rt: &HostRuntime,
+    machine: &Machine<'_>,
     old: Connection<FileStore<D>>,
     path: &str,
     admin: Person,
@@ -95,9 +86,9 @@ fn copy_to_file<D: Disk + Drop>(
         → HaveOldRows m (file_state old).now → Represents (file_state books.0.0) m) }
     ensures read { OnlyReads (file_state old) (file_state result.0) }
 {
-    match connect(rt, path, Unknown) {
-        Ok(conn) => copy_tables(rt.alloc(), old, conn, admin),
-        Err((fault, _)) => (old, Err(fault)),
+    match create(machine, path) {
+        Ok(conn) => copy_tables(machine.alloc(), old, conn, admin),
+        Err(fault) => (old, Err(fault)),
     }
 }
 
@@ -108,7 +99,7 @@ fn close_migrated(
 ) -> Result<Files<File>, StoreFault>
     ensures whole { (m : Content) → IfOk tables (λ books. Represents (file_state books.0.0) m
         → IfOk result (λ files. AreClean ⟦<File as Disk>⟧ files.log files.db
-        → HoldWholeBooks ⟦<File as Disk>⟧ files m)) }
+        → AreWholeBooksWith ⟦<File as Disk>⟧ files m)) }
     ensures unmade { IfErr tables (λ _. IsErr result) }
 {
     match tables {
@@ -119,18 +110,18 @@ fn close_migrated(
 
 /// The same. If the new file was not made, or closing fails, its remains are removed.
 fn finish(
-    rt: &HostRuntime,
+    machine: &Machine<'_>,
     tables: Result<Tables<FileStore<File>>, StoreFault>,
     new: &NewNames,
 ) -> Result<Files<File>, StoreFault>
     ensures whole { (m : Content) → IfOk tables (λ books. Represents (file_state books.0.0) m
         → IfOk result (λ files. AreClean ⟦<File as Disk>⟧ files.log files.db
-        → HoldWholeBooks ⟦<File as Disk>⟧ files m)) }
+        → AreWholeBooksWith ⟦<File as Disk>⟧ files m)) }
     ensures unmade { IfErr tables (λ _. IsErr result) }
 {
     let closed = close_migrated(tables);
     if closed.is_err() {
-        discard(rt, new);
+        discard(machine, new);
     }
     closed
 }
@@ -139,7 +130,7 @@ fn finish(
 /// new file holds what the older tables held. If it can't be made, its remains are removed.
 #[tactic(auto, using(crate::proofs::OlderRead::not_read))]
 fn make_new<D: Disk + Drop>(
-    rt: &HostRuntime,
+    machine: &Machine<'_>,
     old: Connection<FileStore<D>>,
     old_path: &str,
     new: &NewNames,
@@ -149,22 +140,22 @@ fn make_new<D: Disk + Drop>(
     ensures taken { (m : Content) → m.admin ≡ admin
         → IfOk result.1 (λ files. IsHonest (file_state result.0)
         → HaveOldRows m (file_state old).now → AreClean ⟦<File as Disk>⟧ files.log files.db
-        → HoldWholeBooks ⟦<File as Disk>⟧ files m) }
+        → AreWholeBooksWith ⟦<File as Disk>⟧ files m) }
     ensures read { OnlyReads (file_state old) (file_state result.0) }
 {
-    if let Err(fault) = clear(rt, old_path, new) {
+    if let Err(fault) = clear(machine, old_path, new) {
         return (old, Err(fault));
     }
-    let (old, tables) = copy_to_file(rt, old, &new.file, admin);
-    (old, finish(rt, tables, new))
+    let (old, tables) = copy_to_file(machine, old, &new.file, admin);
+    (old, finish(machine, tables, new))
 }
 
 /// The name of the log of the file at this path. If the path is a link, the log is beside the file that it points to.
-fn log_of(rt: &HostRuntime, path: &str) -> Result<String, StoreFault> {
-    let Ok(file) = fs::canonicalize(rt, path) else {
+fn log_of(machine: &Machine<'_>, path: &str) -> Result<String, StoreFault> {
+    let Ok(file) = machine.whole_path(path) else {
         return Err(STORE);
     };
-    beside(rt, file.as_str(), "-wal")
+    beside(machine, &file, "-wal")
 }
 
 /// The older database, if it was opened, and the closed files of the new one, or why there are none.
@@ -175,7 +166,7 @@ pub type Migrated<S> = (
 
 /// Makes the new file from the older database, which is only read.
 fn make_from<S: Start + Located>(
-    rt: &HostRuntime,
+    machine: &Machine<'_>,
     old: Connection<FileStore<FileFrom<S>>>,
     old_path: &str,
     new: &NewNames,
@@ -189,22 +180,22 @@ fn make_from<S: Start + Located>(
     requires found { old_path.now ≡ S.Located.path → HasCleanDisk (file_state old)
         → FindsIn (image_at S.Start) (file_state old) }
     ensures taken { old_path.now ≡ S.Located.path → (m : Content) → m.admin ≡ admin
-        → HoldOldBooks (image_at S.Start) m
+        → AreOldBooksWith (image_at S.Start) m
         → IfOk result.1 (λ files. IsHonest (file_state result.0)
         → AreClean ⟦<File as Disk>⟧ files.log files.db
-        → HoldWholeBooks ⟦<File as Disk>⟧ files m) }
+        → AreWholeBooksWith ⟦<File as Disk>⟧ files m) }
     ensures read { old_path.now ≡ S.Located.path → (db : Database)
-        → HoldDatabase (image_at S.Start) db → HoldsStill (file_state result.0) db }
+        → AreOfDatabase (image_at S.Start) db → StillShows (file_state result.0) db }
 {
     // Gives the proof what a crash leaves of it; does nothing at run time.
     note_settled(&old);
-    make_new(rt, old, old_path, new, admin)
+    make_new(machine, old, old_path, new, admin)
 }
 
 /// Opens the older file and makes the new one from it. The older one is only read, and stays locked while its
 /// connection exists. The engine makes a log if there is none; that log is removed before the lock is released.
 fn open_and_make<S: Start + Located>(
-    rt: &HostRuntime,
+    machine: &Machine<'_>,
     old_path: &str,
     new: &NewNames,
     admin: Person,
@@ -217,51 +208,43 @@ fn open_and_make<S: Start + Located>(
     StoreFault,
 >
     ensures taken { old_path.now ≡ S.Located.path → (m : Content) → m.admin ≡ admin
-        → HoldOldBooks (image_at S.Start) m → IfOk result (λ r. IfOk r.1 (λ files. IsHonest (file_state r.0)
+        → AreOldBooksWith (image_at S.Start) m → IfOk result (λ r. IfOk r.1 (λ files. IsHonest (file_state r.0)
         → AreClean ⟦<File as Disk>⟧ files.log files.db
-        → HoldWholeBooks ⟦<File as Disk>⟧ files m)) }
+        → AreWholeBooksWith ⟦<File as Disk>⟧ files m)) }
     ensures read { IfOk result (λ r. old_path.now ≡ S.Located.path → (db : Database)
-        → HoldDatabase (image_at S.Start) db → HoldsStill (file_state r.0) db) }
+        → AreOfDatabase (image_at S.Start) db → StillShows (file_state r.0) db) }
 {
-    let log = log_of(rt, old_path)?;
-    let had_log = length_of(rt, &log)?.is_some();
-    let old = match connect(rt, old_path, start) {
+    let log = log_of(machine, old_path)?;
+    let had_log = length_of(machine, &log)?.is_some();
+    let old = match connect(machine, old_path, start) {
         Ok(old) => old,
         Err((fault, _)) => return Err(fault),
     };
-    let migrated = make_from(rt, old, old_path, new, admin);
+    let migrated = make_from(machine, old, old_path, new, admin);
     if !had_log {
-        let _ = remove(rt, &log);
+        let _ = remove(machine, &log);
     }
     Ok(migrated)
 }
 
-/// Syncs the folder of the file at this path, so that the file's name is on the disk.
-fn sync_folder(rt: &HostRuntime, path: &str) -> Result<(), StoreFault> {
-    let Ok(mut folder) = fs::canonicalize(rt, path) else {
-        return Err(STORE);
-    };
-    folder.pop();
-    match fs::File::open(rt, folder.as_str()) {
-        Ok(folder) => folder.sync_all().map_err(|_| STORE),
-        Err(_) => Err(STORE),
-    }
-}
-
 /// The names under which the new file is made. Fails if the older file does not exist, or the new file's name is taken.
-fn names_for(rt: &HostRuntime, old_path: &str, new_path: &str) -> Result<NewNames, StoreFault> {
-    let Found::File = is_there(rt, old_path)? else {
+fn names_for(
+    machine: &Machine<'_>,
+    old_path: &str,
+    new_path: &str,
+) -> Result<NewNames, StoreFault> {
+    let Found::File = is_there(machine, old_path)? else {
         return Err(StoreFault::NotThisStore);
     };
-    if is_taken(rt, new_path)? {
+    if is_taken(machine, new_path)? {
         return Err(STORE);
     }
-    new_names(rt, new_path)
+    new_names(machine, new_path)
 }
 
 /// Renames the new file to its final name, if it was made.
 fn place(
-    rt: &HostRuntime,
+    machine: &Machine<'_>,
     files: Result<Files<File>, StoreFault>,
     new: &NewNames,
     path: &str,
@@ -269,11 +252,11 @@ fn place(
     ensures { IfOk result (λ left. files ≡ Ok left) }
 {
     let files = files?;
-    if let Err(fault) = put_in_place(rt, new, path) {
-        discard(rt, new);
+    if let Err(fault) = put_in_place(machine, new, path) {
+        discard(machine, new);
         return Err(fault);
     }
-    sync_folder(rt, path)?;
+    machine.sync_folder_of(path).map_err(|_| STORE)?;
     Ok(files)
 }
 
@@ -282,25 +265,25 @@ fn place(
 /// or not at all; if its folder can't be synced, it exists and a fault of the store is returned. The new file holds
 /// what the older one held in schema 1.
 pub fn migrate_file<S: Start + Located>(
-    rt: &HostRuntime,
+    machine: &Machine<'_>,
     old_path: &str,
     new_path: &str,
     admin: Person,
     start: S,
 ) -> Migrated<S>
     ensures taken { old_path.now ≡ S.Located.path → (m : Content) → m.admin ≡ admin
-        → HoldOldBooks (image_at S.Start) m → IfOk result.1 (λ files. IsSomeAnd result.0 (λ old. IsHonest (file_state old)
+        → AreOldBooksWith (image_at S.Start) m → IfOk result.1 (λ files. IsSomeAnd result.0 (λ old. IsHonest (file_state old)
         → AreClean ⟦<File as Disk>⟧ files.log files.db
-        → HoldWholeBooks ⟦<File as Disk>⟧ files m)) }
+        → AreWholeBooksWith ⟦<File as Disk>⟧ files m)) }
     ensures read { old_path.now ≡ S.Located.path → IfSome result.0 (λ old. (db : Database)
-        → HoldDatabase (image_at S.Start) db → HoldsStill (file_state old) db) }
+        → AreOfDatabase (image_at S.Start) db → StillShows (file_state old) db) }
 {
-    let new = match names_for(rt, old_path, new_path) {
+    let new = match names_for(machine, old_path, new_path) {
         Ok(new) => new,
         Err(fault) => return (None, Err(fault)),
     };
-    match open_and_make(rt, old_path, &new, admin, start) {
-        Ok((old, files)) => (Some(old), place(rt, files, &new, new_path)),
+    match open_and_make(machine, old_path, &new, admin, start) {
+        Ok((old, files)) => (Some(old), place(machine, files, &new, new_path)),
         Err(fault) => (None, Err(fault)),
     }
 }

@@ -5,31 +5,31 @@ ghost use Rattle.std.specs.Prelude.{◌≢◌, IfErr, IfOk};
 ghost use Rattle.plant_server.specs.OverFiles.{IsFoundAt};
 
 use crate::files::{MEMORY, STORE};
+use plant_server_machine::Machine;
 use plant_store::StoreFault;
-use std::fs;
-use std::io::ErrorKind;
 
 /// Whether anything has this name, even a link to a missing file.
-fn is_named(rt: &HostRuntime, path: &str) -> Result<bool, StoreFault>
+fn is_named(machine: &Machine<'_>, path: &str) -> Result<bool, StoreFault>
     ensures { IfErr result (λ e. e ≢ StoreFault.NotThisStore) }
 {
-    match fs::symlink_metadata(rt, path) {
-        Ok(_) => Ok(true),
-        Err(error) if error.kind() == ErrorKind::NotFound => Ok(false),
+    match machine.is_named(path) {
+        Ok(is_named) => Ok(is_named),
         Err(_) => Err(STORE),
     }
 }
 
 /// The length in bytes of the file of this name, following links, or `None` if nothing has the name. A link to a
 /// missing file counts as an empty file.
-pub fn length_of(rt: &HostRuntime, path: &str) -> Result<Option<u64>, StoreFault>
+pub fn length_of(machine: &Machine<'_>, path: &str) -> Result<Option<u64>, StoreFault>
     ensures { IfErr result (λ e. e ≢ StoreFault.NotThisStore) }
 {
-    match fs::metadata(rt, path) {
-        Ok(found) => Ok(Some(found.len())),
-        Err(error) if error.kind() == ErrorKind::NotFound => {
-            Ok(if is_named(rt, path)? { Some(0) } else { None })
-        }
+    match machine.length_of(path) {
+        Ok(Some(length)) => Ok(Some(length)),
+        Ok(None) => Ok(if is_named(machine, path)? {
+            Some(0)
+        } else {
+            None
+        }),
         Err(_) => Err(STORE),
     }
 }
@@ -53,17 +53,17 @@ pub enum Found {
 
 /// Whether a file of this name exists. An empty file, or a log without its file, keeps no books: this is reported
 /// before the engine would write to it. An empty name is an error.
-pub fn is_there(rt: &HostRuntime, path: &str) -> Result<Found, StoreFault>
+pub fn is_there(machine: &Machine<'_>, path: &str) -> Result<Found, StoreFault>
     ensures named { IfErr result (λ e. e ≢ StoreFault.NotThisStore) }
     ensures empty { IfOk result (IsFoundAt path.now) }
 {
     if path.is_empty() {
         return Err(STORE);
     }
-    let log = beside(rt, path, "-wal")?;
-    match (length_of(rt, path)?, length_of(rt, &log)?) {
+    let log = beside(machine, path, "-wal")?;
+    match (length_of(machine, path)?, length_of(machine, &log)?) {
         (None, None) => Ok(Found::Nothing),
-        (Some(0), _) | (None, Some(_)) => match String::from_str(rt.alloc(), path) {
+        (Some(0), _) | (None, Some(_)) => match String::from_str(machine.alloc(), path) {
             Ok(path) => Ok(Found::Empty(Empty { path })),
             Err(_) => Err(MEMORY),
         },
@@ -72,22 +72,21 @@ pub fn is_there(rt: &HostRuntime, path: &str) -> Result<Found, StoreFault>
 }
 
 /// The name of a file beside this one, with this ending added.
-pub fn beside(rt: &HostRuntime, path: &str, ending: &str) -> Result<String, StoreFault>
+pub fn beside(machine: &Machine<'_>, path: &str, ending: &str) -> Result<String, StoreFault>
     ensures { IfErr result (λ e. e ≢ StoreFault.NotThisStore) }
 {
-    match format!(in rt.alloc(); "{path}{ending}") {
+    match format!(in machine.alloc(); "{path}{ending}") {
         Ok(name) => Ok(name),
         Err(_) => Err(MEMORY),
     }
 }
 
 /// Removes a file, if it exists.
-pub fn remove(rt: &HostRuntime, path: &str) -> Result<(), StoreFault>
+pub fn remove(machine: &Machine<'_>, path: &str) -> Result<(), StoreFault>
     ensures { IfErr result (λ e. e ≢ StoreFault.NotThisStore) }
 {
-    match fs::remove_file(rt, path) {
+    match machine.remove(path) {
         Ok(()) => Ok(()),
-        Err(error) if error.kind() == ErrorKind::NotFound => Ok(()),
         Err(_) => Err(STORE),
     }
 }

@@ -9,6 +9,7 @@ ghost use Rattle.plant_server.specs.Nets.{IsAsAsked, NetState, lent, refused, sh
 use crate::sockets::Port;
 use plant_server_clients::Ports;
 use plant_server_listener::Listener;
+use plant_server_machine::Machine;
 use plant_server_options::Service;
 use plant_server_sockets::{Limits, Sockets};
 use plant_wire::Failed;
@@ -101,7 +102,7 @@ fn number_of(asked: u16, got: u16) -> u16
 /// The net of this machine. It shows where it listens, and nothing of what comes and goes.
 #[derive(Drop)]
 pub struct HostNet<'a> {
-    rt: &'a HostRuntime,
+    machine: Machine<'a>,
     standing: Standing,
     is_lent: bool,
     /// How many connections in turn were accepted.
@@ -111,9 +112,9 @@ pub struct HostNet<'a> {
 }
 
 impl<'a> HostNet<'a> {
-    pub fn new(rt: &'a HostRuntime) -> HostNet<'a> {
+    pub fn new(machine: Machine<'a>) -> HostNet<'a> {
         HostNet {
-            rt,
+            machine,
             standing: Standing::Nowhere,
             is_lent: false,
             accepted: 0,
@@ -139,7 +140,7 @@ impl<'a> Net for HostNet<'a> {
         if self.is_lent {
             return Err(Failed);
         }
-        let mut port = Port::listen(self.rt, service.port, idle_time(service))?;
+        let mut port = Port::listen(&self.machine, service.port, idle_time(service))?;
         port.accepted = self.accepted;
         port.failed = self.failed;
         let number = number_of(service.port, port.address()?.port());
@@ -160,7 +161,7 @@ impl<'a> Net for HostNet<'a> {
             return Err(Failed);
         }
         let limits = limits_of(service);
-        let sockets = Sockets::listen(self.rt, service.port, limits).map_err(|_| Failed)?;
+        let sockets = Sockets::listen(self.machine, service.port, limits).map_err(|_| Failed)?;
         let address = sockets.address().map_err(|_| Failed)?;
         let number = number_of(service.port, address.port());
         self.standing = Standing::Listens(service, number);

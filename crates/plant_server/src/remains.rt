@@ -10,7 +10,7 @@ ghost use Rattle.sqlite_wal.specs.Reads.{AreClean};
 ghost use Rattle.plant_books.specs.Contents.{Content};
 ghost use Rattle.plant_model.specs.{Worlds.{World}, declared.{call.Call.{Call}, reply.Answer.{Answer}}};
 ghost use Rattle.plant_office.specs.Outcomes.{IsOutcome};
-ghost use Rattle.plant_server.specs.Crashes.{HoldCommitted, HoldWholeBooks, HoldWholeOutcome, IsWhole, LeavesOutcomes};
+ghost use Rattle.plant_server.specs.Crashes.{AreAsCommitted, AreWholeBooksWith, AreWholeOutcomeOf, IsWhole, LeavesOutcomes};
 ghost use Rattle.plant_store_statements.specs.Keeping.{LeavesBooks, LeavesContent, Represents};
 
 use crate::names::Empty;
@@ -103,7 +103,7 @@ pub fn leave<D: Disk + Drop>(books: Tables<FileStore<D>>) -> FileStore<D>
 fn copy_log<D: Disk>(mut store: FileStore<D>) -> Result<Files<D>, (StoreError, FileStore<D>)>
     requires { IsClean (view store) → IsWhole store }
     ensures copied { IfOk result (λ files. AreClean D.Disk files.log files.db
-        → HoldCommitted D.Disk store files) }
+        → AreAsCommitted D.Disk store files) }
     ensures clean { IfErr result (λ e. IsClean (view e.1) → IsClean (view store)) }
     ensures open { IfErr result (λ e. IsClean (view e.1) → IsTrue (view e.1).is_open
         → IsTrue (view store).is_open) }
@@ -124,7 +124,7 @@ pub fn close_left<D: Disk>(store: FileStore<D>) -> Result<Files<D>, (StoreError,
     ensures whole { (w : World) (calls : List Call) (answers : List Answer)
         → LeavesOutcomes store w calls answers
         → IfOk result (λ files. AreClean D.Disk files.log files.db
-        → HoldWholeOutcome D.Disk files w calls answers) }
+        → AreWholeOutcomeOf D.Disk files w calls answers) }
     ensures was_open { IfOk result (λ files. AreClean D.Disk files.log files.db
         → IsClean (view store) × IsTrue (view store).is_open) }
     ensures clean { IfErr result (λ e. IsClean (view e.1) → IsClean (view store)) }
@@ -142,7 +142,7 @@ pub fn close_whole<D: Disk + Drop>(
 ) -> Result<Files<D>, (StoreError, FileStore<D>)>
     ensures { (m : Content) → Represents (file_state books.0.0) m
         → IfOk result (λ files. AreClean D.Disk files.log files.db
-        → HoldWholeBooks D.Disk files m) }
+        → AreWholeBooksWith D.Disk files m) }
 {
     copy_log(leave(books))
 }

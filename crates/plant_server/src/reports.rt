@@ -1,7 +1,7 @@
 //! What the program writes of itself on its output and on standard error, and the exit status that goes with it.
 
 ghost use Rattle.std.specs.Prelude.{◌≡◌, IfOk};
-ghost use Rattle.plant_server.specs.Streams.{IsSaid};
+ghost use Rattle.plant_server.specs.Streams.{IsPrintedOrCut};
 ghost use Rattle.plant_server.specs.declared.statuses.ExitStatus.TheVariants.{NoBooks};
 ghost use Rattle.plant_server.specs.Statuses as statuses;
 
@@ -45,7 +45,7 @@ fn end_text(end: End) -> &'static [u8]
 /// Writes to standard error how the session ended, and returns the status.
 pub(crate) fn report_end<E: Write>(errors: &mut E, end: End) -> ExitStatus
     ensures status { result ≡ statuses.exit_status_of end }
-    ensures said { IsSaid (E.contents errors.old) (E.contents errors.new) (statuses.end_text end) }
+    ensures said { IsPrintedOrCut (E.contents errors.old) (E.contents errors.new) (statuses.end_text end) }
 {
     say(errors, end_text(end));
     status_of(end)
@@ -65,7 +65,7 @@ fn stopped_text(outcome: Result<(), Stopped>) -> &'static [u8]
 /// Writes to standard error if listening, accepting or the store failed, and returns the status.
 pub(crate) fn report_stopped<E: Write>(errors: &mut E, outcome: Result<(), Stopped>) -> ExitStatus
     ensures status { result ≡ statuses.served outcome }
-    ensures said { IsSaid (E.contents errors.old) (E.contents errors.new) (statuses.stopped_text outcome) }
+    ensures said { IsPrintedOrCut (E.contents errors.old) (E.contents errors.new) (statuses.stopped_text outcome) }
 {
     say(errors, stopped_text(outcome));
     match outcome {
@@ -89,7 +89,7 @@ fn halted_text(outcome: Result<(), Halted>) -> &'static [u8]
 /// Writes to standard error if the port of many connections at once or the store failed, and returns the status.
 pub(crate) fn report_halted<E: Write>(errors: &mut E, outcome: Result<(), Halted>) -> ExitStatus
     ensures status { result ≡ statuses.served_at_once outcome }
-    ensures said { IsSaid (E.contents errors.old) (E.contents errors.new) (statuses.halted_text outcome) }
+    ensures said { IsPrintedOrCut (E.contents errors.old) (E.contents errors.new) (statuses.halted_text outcome) }
 {
     say(errors, halted_text(outcome));
     match outcome {
@@ -113,7 +113,7 @@ fn listening_line(alloc: Global, number: u16) -> Result<Vec<u8>, AllocError>
 
 /// Prints at which port the program listens. A failed write is ignored.
 pub(crate) fn say_address<W: Write>(alloc: Global, output: &mut W, number: u16)
-    ensures { IsSaid (W.contents output.old) (W.contents output.new) (statuses.listening_text number) }
+    ensures { IsPrintedOrCut (W.contents output.old) (W.contents output.new) (statuses.listening_text number) }
 {
     if let Ok(line) = listening_line(alloc, number) {
         say(output, &line);
@@ -133,7 +133,7 @@ fn unopened_text(fault: &StoreFault) -> &'static [u8]
 /// Writes to standard error why no books were opened, and returns the status.
 pub(crate) fn report_unopened<E: Write>(errors: &mut E, fault: &StoreFault) -> ExitStatus
     ensures status { result ≡ NoBooks }
-    ensures said { IsSaid (E.contents errors.old) (E.contents errors.new) (statuses.unopened_text fault.now) }
+    ensures said { IsPrintedOrCut (E.contents errors.old) (E.contents errors.new) (statuses.unopened_text fault.now) }
 {
     say(errors, unopened_text(fault));
     ExitStatus::NoBooks
@@ -146,8 +146,8 @@ pub(crate) fn report_migration<T, W: Write, E: Write>(
     outcome: &Result<T, StoreFault>,
 ) -> ExitStatus
     ensures status { result ≡ statuses.status_of_migration outcome.now }
-    ensures printed { IsSaid (W.contents output.old) (W.contents output.new) (statuses.migrated_text outcome.now) }
-    ensures said { IsSaid (E.contents errors.old) (E.contents errors.new) (statuses.unmigrated_text outcome.now) }
+    ensures printed { IsPrintedOrCut (W.contents output.old) (W.contents output.new) (statuses.migrated_text outcome.now) }
+    ensures said { IsPrintedOrCut (E.contents errors.old) (E.contents errors.new) (statuses.unmigrated_text outcome.now) }
 {
     match outcome {
         Ok(_) => {
@@ -165,8 +165,8 @@ pub(crate) fn report_command_line_error<W: Write, E: Write>(
     error: &CommandLineError,
 ) -> ExitStatus
     ensures status { result ≡ statuses.status_of_command_line error.now }
-    ensures printed { IsSaid (W.contents output.old) (W.contents output.new) (statuses.help_text error.now) }
-    ensures said { IsSaid (E.contents errors.old) (E.contents errors.new) (statuses.refusal_text error.now) }
+    ensures printed { IsPrintedOrCut (W.contents output.old) (W.contents output.new) (statuses.help_text error.now) }
+    ensures said { IsPrintedOrCut (E.contents errors.old) (E.contents errors.new) (statuses.refusal_text error.now) }
 {
     match error {
         CommandLineError::Text { text, is_error } => {

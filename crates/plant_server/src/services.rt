@@ -8,7 +8,7 @@ ghost use Rattle.plant_server_listener.specs.Connections.{AreExchanges, AreSeen,
 ghost use Rattle.plant_server_log.specs.Log.{Tells, TellsFaults};
 ghost use Rattle.plant_server.specs.Nets.{AreOverNet, HasListened, NetState, nets_of};
 ghost use Rattle.plant_server.specs.Services.{AreAsMany, AreOfPort, HasServed, IsLogged, IsStreamed, is_at_once, reported_in_turn};
-ghost use Rattle.plant_server.specs.Streams.{Bytes, IsSaid, lines_of, streams_of};
+ghost use Rattle.plant_server.specs.Streams.{Bytes, IsPrintedOrCut, lines_of, streams_of};
 ghost use Rattle.plant_wire.specs.Over.{RanOn};
 ghost use Rattle.plant_server.specs.Statuses as statuses;
 
@@ -86,7 +86,7 @@ fn serve_in_turn<P: Net, B: Books, W: Write, E: Write>(
         × RanOn B.Books office.old.books office.new.books (calls_over exchanges) (answers_over exchanges)
         × AreAsMany service.connections (length exchanges) result
         × (first : Bytes)
-        × IsSaid (W.contents output.old) first (statuses.announced (P.state net.new).standing)
+        × IsPrintedOrCut (W.contents output.old) first (statuses.announced (P.state net.new).standing)
         × Tells first (map (λ x. x.end) exchanges) (W.contents output.new)
         × TellsFaults (E.contents errors.old) (reported_in_turn service.while_open exchanges) (E.contents errors.new)
         × AreOverNet exchanges (nets_of (P.state net.old) (P.state net.new)) }
@@ -109,7 +109,7 @@ fn serve_in_turn<P: Net, B: Books, W: Write, E: Write>(
 
 /// Says on standard error if the system grants fewer file descriptors than a service of so many clients may need.
 fn warn_of_few_descriptors<E: Write>(service: Service, errors: &mut E)
-    ensures { IsSaid (E.contents errors.old) (E.contents errors.new) statuses.few_descriptors_text }
+    ensures { IsPrintedOrCut (E.contents errors.old) (E.contents errors.new) statuses.few_descriptors_text }
 {
     if has_few_descriptors(service.clients as usize) {
         say(errors, b"net: few file descriptors\n");
@@ -127,9 +127,9 @@ fn serve_at_once<P: Net, B: Books, W: Write, E: Write>(
 ) -> Result<(), Halted>
     ensures sent { (sent : AreSent (RanOn B.Books office.old.books office.new.books) service.connections result)
         × (first : Bytes)
-        × IsSaid (W.contents output.old) first (statuses.announced (P.state net.new).standing)
+        × IsPrintedOrCut (W.contents output.old) first (statuses.announced (P.state net.new).standing)
         × IsLogged sent.events first (W.contents output.new)
-        × (warned : Bytes) × IsSaid (E.contents errors.old) warned statuses.few_descriptors_text
+        × (warned : Bytes) × IsPrintedOrCut (E.contents errors.old) warned statuses.few_descriptors_text
         × TellsFaults warned (reported_faults service.while_open sent.events) (E.contents errors.new)
         × Logs (P.state net.old).log (P.state net.new).log (at_ports sent.events)
         × (result ≡ Err Halted.Ports → ((P.state net.new).standing ≡ Standing.Refused) ⊎ HaveFailed sent.events) }

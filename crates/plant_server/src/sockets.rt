@@ -4,10 +4,11 @@ ghost use Rattle.std.specs.Prelude.{false, if◌then◌else◌};
 ghost use Rattle.plant_server_listener.specs.Connections.{unseen};
 
 use plant_server_listener::Listener;
+use plant_server_machine::Machine;
 use plant_wire::{Failed, FromRead, ToWrite};
 use std::io;
 use std::io::{ErrorKind, Read};
-use std::net::{Ipv4Addr, Shutdown, SocketAddr, TcpListener, TcpStream};
+use std::net::{Shutdown, SocketAddr, TcpListener, TcpStream};
 use std::time::Duration;
 
 /// How many connections in a row may fail, before they can be served, until the port counts as failed.
@@ -55,9 +56,12 @@ pub struct Port {
 
 impl Port {
     /// Listens on the port with this number, or on a free one for 0.
-    pub fn listen(rt: &HostRuntime, number: u16, idle: Option<Duration>) -> Result<Port, Failed> {
-        let address = SocketAddr::from((Ipv4Addr::LOCALHOST, number));
-        match TcpListener::bind(rt, address) {
+    pub fn listen(
+        machine: &Machine<'_>,
+        number: u16,
+        idle: Option<Duration>,
+    ) -> Result<Port, Failed> {
+        match machine.listen(number) {
             Ok(listener) => Ok(Port {
                 listener,
                 idle,

@@ -98,5 +98,5 @@ pub record AreServed {B : Type 0} (b : books.Ghosts B) (x y : B) (s t : Seen) (n
   pub moments : (es fs : List Event) → sent.events ≡ es ++ fs → IsMoment b x y es fs
   -- and it has what was confirmed, once a byte of the answer has left
   pub lasting : (es fs : List Event) (is : sent.events ≡ es ++ fs) → Lasts b x (moments es fs is).books es
-  pub apart : (m : Content) → b.represents x m → (w : World) → IsLegalWorld w → Holds m w → b.is_honest y
+  pub apart : (m : Content) → b.represents x m → (w : World) → IsLegalWorld w → Holds m w → b.is_clean y
       → AreEachIsolated w sent.events

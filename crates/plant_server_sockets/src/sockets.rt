@@ -9,11 +9,12 @@ use crate::clients::{Client, may_finish};
 use mio::net::{TcpListener, TcpStream};
 use mio::{Events, Interest, Poll, Token};
 use plant_server_clients::{Connection, Ports, Ready, Sent, Taken};
+use plant_server_machine::Machine;
 use plant_wire::End;
 use std::collections::VecDeque;
 use std::io;
 use std::io::ErrorKind;
-use std::net::{Ipv4Addr, SocketAddr};
+use std::net::SocketAddr;
 use std::time::{Duration, Instant};
 
 const LISTENER: Token = Token(usize::MAX);
@@ -92,7 +93,7 @@ pub struct Limits {
 /// The connections of a port of 127.0.0.1.
 #[derive(Drop)]
 pub struct Sockets<'a> {
-    rt: &'a HostRuntime,
+    machine: Machine<'a>,
     poll: Poll,
     events: Events,
     listener: TcpListener,
@@ -203,29 +204,29 @@ fn room_of(connection: &Connection, freely: bool) -> usize {
 
 impl<'a> Sockets<'a> {
     /// Listens on the port with this number, or on a free one for 0.
-    pub fn listen(rt: &'a HostRuntime, number: u16, limits: Limits) -> io::Result<Sockets<'a>> {
-        let address = SocketAddr::from((Ipv4Addr::LOCALHOST, number));
-        let mut listener = TcpListener::bind(rt, address)?;
-        let poll = Poll::new(rt)?;
+    pub fn listen(machine: Machine<'a>, number: u16, limits: Limits) -> io::Result<Sockets<'a>> {
+        let mut listener = machine.listen_for_many(number)?;
+        let poll = machine.poll()?;
+        let alloc = machine.alloc();
         poll.registry()
             .register(&mut listener, LISTENER, Interest::READABLE)?;
         Ok(Sockets {
-            rt,
+            machine,
             poll,
-            events: Events::with_capacity(rt.alloc(), EVENTS_A_WAIT)?,
+            events: Events::with_capacity(alloc, EVENTS_A_WAIT)?,
             listener,
             limits,
             left: limits.connections,
             open: 0,
-            lingering: Vec::new(rt.alloc()),
-            ready: VecDeque::new(rt.alloc()),
-            aside: VecDeque::new(rt.alloc()),
+            lingering: Vec::new(alloc),
+            ready: VecDeque::new(alloc),
+            aside: VecDeque::new(alloc),
             ahead: 0,
-            expired: VecDeque::new(rt.alloc()),
+            expired: VecDeque::new(alloc),
             accepted: None,
             may_accept: true,
             paused: 0,
-            start: Instant::now(rt)?,
+            start: machine.now()?,
             now: 0,
             check: DEADLINES_EVERY_MS,
             look: 0,
@@ -237,7 +238,7 @@ impl<'a> Sockets<'a> {
             unread_bytes: 0,
             most: usize::MAX,
             place: 0,
-            scratch: vec![in rt.alloc(); 0u8; SCRATCH_BYTES]?,
+            scratch: vec![in alloc; 0u8; SCRATCH_BYTES]?,
         })
     }
 
@@ -325,7 +326,7 @@ impl<'a> Sockets<'a> {
     fn tick(&mut self, clients: &mut [Client]) -> io::Result<()>
         ensures { numbers clients.new ≡ numbers clients.old }
     {
-        let now = millis(self.start.elapsed(self.rt)?);
+        let now = millis(self.machine.elapsed_since(self.start)?);
         let passed = now.saturating_sub(self.now);
         self.now = now;
         if passed > STOPPED_MS {

@@ -6,7 +6,7 @@ use Rattle.sqlite_store.specs.{declared.store.FileStore.{FileStore}}
 use Rattle.sqlite_wal.specs.Recovery.{Image}
 use Rattle.plant_model.specs.{Verdicts.{changes_history}, Worlds.{World, answer_at, next, next_at, unit_named, with_call}, declared.{call.Call.{Call}, reply.Answer.{Answer}}}
 use Rattle.plant_office.specs.{Lives.{Life}, Outcomes.{after_calls}}
-use Rattle.plant_server.specs.{Crashes.{HoldOutcome, LeavesOutcomes}, OverFiles.{HoldRows, LeavesAfter}, declared.remains.Left.{Left}}
+use Rattle.plant_server.specs.{Crashes.{AreOutcomeOf, LeavesOutcomes}, OverFiles.{AreRowsOf, LeavesAfter}, declared.remains.Left.{Left}}
 use Rattle.plant_server.specs.declared.remains.Left.TheVariants as left
 use Rattle.plant_server_starts.specs.Starts.{AreOneRun, AreStarts, MayFind, StartsAreOneRun, in_all}
 use Rattle.plant_types.specs.Names.{Name}
@@ -32,12 +32,12 @@ module _ {D N F : Type 0} {g : Ghosts D} where
   -- whatever the next start finds is books that the crash may leave
   outcome : (store : FileStore D g) (after : Left D N F g) (w : World) (calls : List Call) (answers : List Answer) (found : Image)
       → LeavesOutcomes store w calls answers → LeavesAfter after w calls answers → MayFind store after found
-      → ∥ HoldOutcome w calls answers found ∥₁
+      → ∥ AreOutcomeOf w calls answers found ∥₁
   outcome store (left.Closed files) w calls answers found within closed (inl may) = within.files found may
   outcome store (left.Closed files) w calls answers found within closed (inr (image, may, inl is)) =
-      subst (λ i. ∥ HoldOutcome w calls answers i ∥₁) (sym is) (closed image may).0
+      subst (λ i. ∥ AreOutcomeOf w calls answers i ∥₁) (sym is) (closed image may).0
   outcome store (left.Closed files) w calls answers found within closed (inr (image, may, inr is)) =
-      subst (λ i. ∥ HoldOutcome w calls answers i ∥₁) (sym is) (closed image may).1
+      subst (λ i. ∥ AreOutcomeOf w calls answers i ∥₁) (sym is) (closed image may).1
   outcome store (left.Nothing start) w calls answers found within closed may = absurd closed
   outcome store (left.Empty start it) w calls answers found within closed may = absurd closed
   outcome store (left.Unreached it) w calls answers found within closed may = absurd closed
@@ -48,22 +48,22 @@ module _ {D N F : Type 0} {g : Ghosts D} where
   outcome store (left.Migrated old made) w calls answers found within closed may = absurd closed
 
 module _ {D N : Type 0} (F : Type 0) (g : Ghosts D) (h : Ghosts N) where
-  joined : (admin : Name) (lives : List Life) (first last : Image) (w : World) → w.admin ≡ admin → HoldRows first w
+  joined : (admin : Name) (lives : List Life) (first last : Image) (w : World) → w.admin ≡ admin → AreRowsOf first w
       → AreStarts F g h admin first lives last → ∥ AreOneRun w lives last ∥₁
   joined admin [] first last w own rows starts =
-      let none : AreOneRun w [] last = record { made = []; in_turn = tt; rows = subst (λ i. HoldRows i w) (sym starts) rows } in ∣ none ∣₁
+      let none : AreOneRun w [] last = record { made = []; in_turn = tt; rows = subst (λ i. AreRowsOf i w) (sym starts) rows } in ∣ none ∣₁
   joined admin (life ∷ lives) first last w own rows (found, start, later) =
       let within = start.ran.meanwhile w rows own start.clean in
       let closed = start.ran.afterwards w rows own start.clean in
-      let said = start.ran.before_failure w rows start.clean in
+      let said = start.ran.answered w rows start.clean in
       ∥∥₁_elim (outcome start.store start.after w life.calls life.answers found within closed start.found) ∥∥₁_prop (λ it.
       let made = it.outcome.made in
-      let rows_then : HoldRows found (after_calls w made) =
+      let rows_then : AreRowsOf found (after_calls w made) =
       record { content = it.content; books = it.books; holds = it.outcome.holds; legal = it.outcome.legal } in
       ∥∥₁_map (joined admin lives found last (after_calls w made) (same_admin w made ∙ own) rows_then later) (λ rest. record {
         made = made ∷ rest.made;
         in_turn = (it.outcome.are_made, said, rest.in_turn);
-        rows = subst (HoldRows last) (after_both w made (in_all rest.made)) rest.rows;
+        rows = subst (AreRowsOf last) (after_both w made (in_all rest.made)) rest.rows;
       }))
 
 pub starts_are_one_run : {D N : Type 0} (F : Type 0) (g : Ghosts D) (h : Ghosts N) → StartsAreOneRun F g h

@@ -3,7 +3,7 @@ use Rattle.std.proofs.Common.{ℕ, ◌≡◌, List, Bool, true, false, None, Opt
 use Rattle.sqlite_disk.specs.declared.Disk.{Ghosts}
 use Rattle.plant_model.specs.declared.{call.Call.{Call}, reply.Answer.{Answer}}
 use Rattle.plant_office.specs.Lives.{Life}
-use Rattle.plant_server.specs.{OverFiles.{Begins, HoldRows, Place, RanOnFiles}, Services.{AreOfPort, HasServed, is_at_once}, Streams.{Streams}}
+use Rattle.plant_server.specs.{OverFiles.{Begins, AreRowsOf, Place, RanOnFiles}, Services.{AreOfPort, HasServed, is_at_once}, Streams.{Streams}}
 use Rattle.plant_server.specs.declared.{remains.Left.{Left}, statuses.ExitStatus.{ExitStatus}}
 use Rattle.plant_server_options.specs.declared.words.Service.{Service}
 use Rattle.plant_server_starts.specs.Starts.{AreOfLife, IsAStart}
@@ -126,10 +126,9 @@ module _ (ran : List Call → List Answer → Type 0) where
 
 module _ {D N F : Type 0} {g : Ghosts D} where
   from_rows : (place : Place D) (admin : Name) (store : FileStore D g) (after : Left D N F g) (calls : List Call) (answers : List Answer)
-      → RanOnFiles (Begins place place.path) admin store after calls answers → RanOnFiles (HoldRows place.files) admin store after calls answers
+      → RanOnFiles (Begins place place.path) admin store after calls answers → RanOnFiles (AreRowsOf place.files) admin store after calls answers
   from_rows place admin store after calls answers ran = record {
     answered = λ w rows. ran.answered w (record { here = refl; rows = rows });
-    before_failure = λ w rows. ran.before_failure w (record { here = refl; rows = rows });
     meanwhile = λ w rows. ran.meanwhile w (record { here = refl; rows = rows });
     afterwards = λ w rows. ran.afterwards w (record { here = refl; rows = rows });
   }

@@ -4,20 +4,20 @@ use Rattle.sqlite_disk.specs.declared.Disk.{Ghosts}
 use Rattle.sqlite_store.specs.{FileStore.{state}, declared.store.FileStore.{FileStore}}
 use Rattle.sqlite_wal.specs.{Files.{outcomes}, Recovery.{Image}}
 use Rattle.plant_model.specs.{Worlds.{World}, declared.{call.Call.{Call}, reply.Answer.{Answer}}}
-use Rattle.plant_office.specs.{Failures.{AreAnsweredBeforeFailure}, Lives.{Life}, Outcomes.{AreMade, after_calls}}
-use Rattle.plant_server.specs.{OverFiles.{HoldRows, IsCleanAfter, IsHonestAfter, Place, RanOnFiles}, Promise.{FilesServed}}
+use Rattle.plant_office.specs.{Lives.{Life}, Outcomes.{AreMade, after_calls}}
+use Rattle.plant_server.specs.{OverFiles.{AreAnsweredBy, AreRowsOf, IsCleanAfter, IsHonestAfter, Place, RanOnFiles}, Promise.{FilesServed}}
 use Rattle.plant_server.specs.{Services.{HasServed}, Streams.{Streams, within}, declared.statuses.ExitStatus.{ExitStatus}}
 use Rattle.plant_server_options.specs.declared.words.Service.{Service}
 use Rattle.plant_server.specs.declared.remains.Left.{Left}
 use Rattle.plant_server.specs.declared.remains.Left.TheVariants as left
 use Rattle.plant_types.specs.Names.{Name}
 
--- For each start, those of its calls that were made: all that were confirmed, and at most one that is in doubt. They
--- were answered, up to the last confirmed one, as the world answers them that the earlier starts left.
+-- For each start, those of its calls that were made: all that were confirmed, and at most one that is in doubt. All its
+-- calls were answered as the world answers them that the earlier starts left.
 abbrev pub AreMadeInTurn : World → List Life → List (List Call) → Type 0
 AreMadeInTurn w [] [] = Unit {0}
 AreMadeInTurn w (life ∷ lives) (own ∷ later) = AreMade life.calls life.answers own
-    × AreAnsweredBeforeFailure w life.calls life.answers × AreMadeInTurn (after_calls w own) lives later
+    × AreAnsweredBy w life.calls life.answers × AreMadeInTurn (after_calls w own) lives later
 AreMadeInTurn w [] (own ∷ later) = ⊥
 AreMadeInTurn w (life ∷ lives) [] = ⊥
 
@@ -30,7 +30,7 @@ in_all (own ∷ later) = own ++ in_all later
 pub record AreOneRun (w : World) (lives : List Life) (files : Image) : Type 0 where
   pub made : List (List Call)
   pub in_turn : AreMadeInTurn w lives made
-  pub rows : HoldRows files (after_calls w (in_all made))
+  pub rows : AreRowsOf files (after_calls w (in_all made))
 
 module _ {D N F : Type 0} {g : Ghosts D} where
   -- the next start may find these files: what a crash within the serving leaves, or one after the closing, also without
@@ -45,7 +45,7 @@ module _ {D N F : Type 0} {g : Ghosts D} where
 pub record IsStart {D N : Type 0} (F : Type 0) (g : Ghosts D) (h : Ghosts N) (admin : Name) (from to : Image) (life : Life) : Type 0 where
   pub store : FileStore D g
   pub after : Left D N F g
-  pub ran : RanOnFiles (HoldRows from) admin store after life.calls life.answers
+  pub ran : RanOnFiles (AreRowsOf from) admin store after life.calls life.answers
   pub clean : IsCleanAfter after
   pub found : MayFind store after to
 
@@ -58,7 +58,7 @@ AreStarts F g h admin first (life ∷ lives) last =
 -- Any number of starts of the program over the file of an administrator, each ended, killed or cut off, are one list of
 -- calls of one world, with at most one call in doubt for each start.
 abbrev pub StartsAreOneRun : {D N : Type 0} → Type 0 → Ghosts D → Ghosts N → Type 0
-StartsAreOneRun F g h = (first last : Image) (lives : List Life) (w : World) → HoldRows first w
+StartsAreOneRun F g h = (first last : Image) (lives : List Life) (w : World) → AreRowsOf first w
     → AreStarts F g h w.admin first lives last → ∥ AreOneRun w lives last ∥₁
 
 -- these are the calls of a start, and its answers

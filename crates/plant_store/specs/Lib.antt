@@ -2,3 +2,4 @@ pub mod Mine
 pub mod Counting
 pub mod Opening
 pub mod Opened
+pub mod Standing

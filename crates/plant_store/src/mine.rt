@@ -4,7 +4,7 @@ ghost use Rattle.std.specs.Prelude.{◌≡◌, ◌∷◌, [], IfOk, map};
 ghost use Rattle.plant_books.specs.Contents.{codes_held, mine_units as units_held};
 ghost use Rattle.plant_store.specs.Mine.{JoinsLine, runs_of, standing_units, started};
 ghost use Rattle.plant_store.specs.Mine.{unit_line_cells, own_unit_lines};
-ghost use Rattle.plant_store_statements.specs.Reading.{HasNoTransaction, IsOnlyRead, ReadsContent};
+ghost use Rattle.plant_store_statements.specs.Reading.{HasNoTransaction, IsOnlyRead, LeavesOpen, ReadsContent};
 
 use crate::texts;
 use plant_books::MineUnit;
@@ -53,6 +53,7 @@ fn unit_lines<S: Alter>(
     ensures found { ReadsContent S.Store conn.old conn.new result
         (λ m. own_unit_lines m person.now) }
     ensures reads { IsOnlyRead S.Store conn.old conn.new }
+    ensures open { LeavesOpen S.Store conn.old conn.new result }
 {
     read_rows(alloc, conn, texts::SELECT_UNIT_LINES, &single(person))
 }
@@ -128,6 +129,7 @@ pub fn mine_units<S: Alter>(
     ensures found { ReadsContent S.Store conn.old conn.new result
         (λ m. units_held m now person.now) }
     ensures reads { IsOnlyRead S.Store conn.old conn.new }
+    ensures open { LeavesOpen S.Store conn.old conn.new result }
 {
     let lines = unit_lines(alloc, conn, person)?;
     group(alloc, lines.as_slice(), now)
@@ -156,6 +158,7 @@ pub fn held<S: Alter>(
     ensures found { ReadsContent S.Store conn.old conn.new result
         (λ m. codes_held m now person.now) }
     ensures reads { IsOnlyRead S.Store conn.old conn.new }
+    ensures open { LeavesOpen S.Store conn.old conn.new result }
 {
     let units = mine_units(alloc, conn, person, now)?;
     codes_of(alloc, units)

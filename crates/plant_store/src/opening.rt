@@ -1,11 +1,11 @@
 //! Checks whether a database holds the books of an office with this schema and administrator.
 
 ghost use Rattle.std.specs.Prelude.{◌≡◌, ◌↔◌, [], ◌∷◌, false, map, true, IsTrue, IfOk, Ok};
-ghost use Rattle.sqlite.specs.{Held.{state}, Tree.{Trees}};
+ghost use Rattle.sqlite.specs.{Held.{state}, State.{HasCleanDisk}, Tree.{Trees}};
 ghost use Rattle.sqlite_value.specs.{Order.{column}, declared.value.Value.TheVariants.{Text as TextValue}};
 ghost use Rattle.plant_store_statements.specs.Changes.{IsHonest};
 ghost use Rattle.plant_store.specs.{Opened.{FindsOffice, HasNoOffice}, Opening.{IsOffice, office_cells}};
-ghost use Rattle.plant_store_statements.specs.Reading.{HasNoTransaction, IsOnlyRead};
+ghost use Rattle.plant_store_statements.specs.{Reading.{HasNoTransaction, IsOnlyRead}, Writing.{IsLeftOpen}};
 ghost use Rattle.plant_store_columns.specs.Shown.{columns};
 ghost use Rattle.plant_store_columns.specs.Codes as codings;
 ghost use Rattle.plant_store.specs.Opening as opening;
@@ -85,6 +85,7 @@ fn has_its_row<S: Alter>(
         → opening.has_office (state S.Store conn.old).now.schema ≡ true
         → IfOk result (λ is. IsTrue is ↔ IsOffice schema admin.now (state S.Store conn.old).now) }
     ensures reads { IsOnlyRead S.Store conn.old conn.new }
+    ensures open { IsLeftOpen S.Store conn.new result }
 {
     let rows = ask(conn, texts::SELECT_OFFICE, &[])?;
     Ok(is_office_row(rows.as_slice(), schema, admin))
@@ -102,6 +103,8 @@ pub fn is_office_of<S: Alter>(
     ensures row { FindsOffice S.Store conn.old conn.new schema admin.now result }
     ensures missing { HasNoOffice S.Store conn.old → result ≡ Ok false }
     ensures reads { IsOnlyRead S.Store conn.old conn.new }
+    ensures open { HasCleanDisk (state S.Store conn.new)
+        → IfOk result (λ is. IsTrue is → IsTrue (state S.Store conn.new).is_open) }
 {
     if !has_office(conn.schema()) {
         return Ok(false);

@@ -6,7 +6,7 @@ ghost use Rattle.sqlite_value.specs.{Order.{column}, declared.value.Value.TheVar
 ghost use Rattle.plant_books.specs.Contents.{mine_shelves as shelves_held};
 ghost use Rattle.plant_store.specs.Mine.{as_mine, line_cmp, repeats, shelf_line_cells};
 ghost use Rattle.plant_store.specs.Mine.{own_shelf_lines, standing_shelves};
-ghost use Rattle.plant_store_statements.specs.Reading.{HasNoTransaction, IsOnlyRead, ReadsContent};
+ghost use Rattle.plant_store_statements.specs.Reading.{HasNoTransaction, IsOnlyRead, LeavesOpen, ReadsContent};
 
 use crate::texts;
 use plant_books::MineRow;
@@ -99,6 +99,7 @@ fn shelf_lines<S: Alter>(
     ensures found { ReadsContent S.Store conn.old conn.new result
         (λ m. own_shelf_lines m person.now) }
     ensures reads { IsOnlyRead S.Store conn.old conn.new }
+    ensures open { LeavesOpen S.Store conn.old conn.new result }
 {
     let found: List<ShelfGrant> = read_rows(
         alloc,
@@ -156,6 +157,7 @@ pub fn mine_shelves<S: Alter>(
     ensures found { ReadsContent S.Store conn.old conn.new result
         (λ m. shelves_held m now person.now) }
     ensures reads { IsOnlyRead S.Store conn.old conn.new }
+    ensures open { LeavesOpen S.Store conn.old conn.new result }
 {
     let lines = shelf_lines(alloc, conn, person)?;
     mine_rows(alloc, merge(lines, now))

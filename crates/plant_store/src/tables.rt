@@ -7,7 +7,8 @@ ghost use Rattle.plant_store_statements.specs.{Changes.{IsHonest}, Keeping.{Leav
 ghost use Rattle.plant_store.specs.Counting.{IsWantOfMemory, Names, NamesAgain, SaysAgain};
 ghost use Rattle.plant_store_statements.specs.Making.{AreNewTrees};
 ghost use Rattle.plant_store.specs.Opened.{HasNoOffice, IsAnothers, KeepsAll, KeepsIfErr, KeepsIfOk, WasOffice};
-ghost use Rattle.plant_store_statements.specs.{Reading.{HasNoTransaction, IsHonestIn, IsOnlyRead}, Writing.{SameDatabase}};
+ghost use Rattle.plant_store_statements.specs.{Reading.{HasNoTransaction, IsHonestIn, IsOnlyRead}, Writing.{IsLeftOpen, SameDatabase}};
+ghost use Rattle.plant_store.specs.Standing.{IsSo};
 ghost use Rattle.plant_store.specs.declared.tables.StoreFault.TheVariants.{NotThisStore};
 ghost use Rattle.plant_store_columns.specs.Tables.{no_schema, schema_no};
 ghost use Rattle.plant_types.specs.declared.fault.Fault.TheVariants.{Store};
@@ -61,32 +62,57 @@ pub fn is_blank(schema: &Schema) -> bool
         && schema.views.as_slice().is_empty()
 }
 
-/// Notes it if a failure has shut the store.
-fn note_shut<S: Alter>(conn: &mut Connection<S>, shut: &mut bool)
-    requires mode { HasNoTransaction conn.old }
-    requires known { IsTrue shut.old → ¬ IsHonest (state S.Store conn.old) }
+/// What the books know of their store.
+#[derive(Clone, Copy, Debug, PartialEq, Eq)]
+enum Standing {
+    /// It is open.
+    Open,
+    /// It was not asked since it was opened, or since a statement failed.
+    Unknown,
+    /// A failure has shut it.
+    Shut,
+}
+
+/// Asks the store whether it is open.
+fn standing_of<S: Alter>(conn: &mut Connection<S>) -> Standing
+    requires { HasNoTransaction conn.old }
     ensures mode { HasNoTransaction conn.new }
-    ensures known { IsTrue shut.new → ¬ IsHonest (state S.Store conn.new) }
+    ensures so { IsSo (state S.Store conn.new) result }
     ensures reads { IsOnlyRead S.Store conn.old conn.new }
 {
-    if write::is_shut(conn) {
-        *shut = true;
+    match write::find_open(conn) {
+        Ok(()) => Standing::Open,
+        Err(SqlError::SqliteFailure(ErrorCode::Closed)) => Standing::Shut,
+        Err(_) => Standing::Unknown,
     }
 }
 
-/// A statement's result, with its error as a fault. A fault of the store is counted, and it is noted if the store is
-/// shut now.
+/// Fails unless the store is open.
+fn look<S: Alter>(conn: &mut Connection<S>, standing: &mut Standing) -> Result<(), SqlError>
+    requires mode { HasNoTransaction conn.old }
+    ensures mode { HasNoTransaction conn.new }
+    ensures open { IsLeftOpen S.Store conn.new result }
+    ensures so { OnOk result (IsSo (state S.Store conn.new) standing.new) }
+    ensures reads { IsOnlyRead S.Store conn.old conn.new }
+{
+    write::find_open(conn)?;
+    *standing = Standing::Open;
+    Ok(())
+}
+
+/// A statement's result, with its error as a fault. A fault of the store is counted, and after an error the store is
+/// asked whether it is open.
 fn conclude<T: Drop, S: Alter>(
     conn: &mut Connection<S>,
     stores: &mut u64,
-    shut: &mut bool,
+    standing: &mut Standing,
     in_memory: bool,
     outcome: Result<T, SqlError>,
 ) -> Result<T, Fault>
     requires mode { HasNoTransaction conn.old }
-    requires known { IsTrue shut.old → ¬ IsHonest (state S.Store conn.old) }
+    requires so { OnOk outcome (IsSo (state S.Store conn.old) standing.old) }
     ensures mode { HasNoTransaction conn.new }
-    ensures known { IsTrue shut.new → ¬ IsHonest (state S.Store conn.new) }
+    ensures so { IsSo (state S.Store conn.new) standing.new }
     ensures reads { IsOnlyRead S.Store conn.old conn.new }
     ensures same { OnOk result (conn.new ≡ conn.old) }
     ensures outcome { SaysAgain outcome result }
@@ -96,7 +122,7 @@ fn conclude<T: Drop, S: Alter>(
     match outcome {
         Ok(found) => Ok(found),
         Err(error) => {
-            note_shut(conn, shut);
+            *standing = standing_of(conn);
             let fault = fault_of(&error, in_memory);
             *stores = count_after(*stores, &fault);
             Err(fault)
@@ -129,7 +155,7 @@ pub struct Tables<S: Alter> {
     conn: Connection<S>,
     admin: Person,
     stores: u64,
-    shut: bool,
+    standing: Standing,
     in_memory: bool,
     alloc: Global,
 }
@@ -137,7 +163,8 @@ pub struct Tables<S: Alter> {
 impl<S: Alter> Model for Tables<S> {
     ghost use Rattle.std.specs.{Coded.{coded×, coded_ℕ, coded_list}, Prelude.{IsTrue, ℕ, List}};
     ghost use Rattle.sqlite.specs.Held.{Held, held_code, state};
-    ghost use Rattle.plant_store_statements.specs.{Changes.{IsHonest}, Reading.{HasNoTransaction}};
+    ghost use Rattle.plant_store_statements.specs.Reading.{HasNoTransaction};
+    ghost use Rattle.plant_store.specs.Standing.{IsSo};
 
     ghost Value = { (Held S × List ℕ) × ℕ };
 
@@ -145,7 +172,7 @@ impl<S: Alter> Model for Tables<S> {
 
     ghost view = { λ t. ((t.conn, t.admin), t.stores) };
 
-    ghost invariant = { λ t. HasNoTransaction t.conn × (IsTrue t.shut → ¬ IsHonest (state S.Store t.conn)) };
+    ghost invariant = { λ t. HasNoTransaction t.conn × IsSo (state S.Store t.conn) t.standing };
 }
 
 impl<S: Alter> Tables<S> {
@@ -203,6 +230,8 @@ impl<S: Alter> Tables<S> {
             → IfOk result (λ t. LeavesAlike (state S.Store conn) (state S.Store t.0.0) m) }
         ensures fresh { IfOk result (λ t. (t.0.1 ≡ admin) × (t.1 ≡ 0)) }
         ensures honest { IfOk result (λ t. WasHonest (IsHonestIn S.Store) conn t.0.0) }
+        ensures open { IfOk result (λ t. HasCleanDisk (state S.Store t.0.0)
+            → IsTrue (state S.Store t.0.0).is_open) }
         ensures office { IfOk result (λ t. WasOffice S.Store conn t.0.0 schema_no admin) }
         ensures other { IfErr result (λ e. IsAnothers S.Store conn e.conn schema_no admin e.fault) }
         ensures missing { HasNoOffice S.Store conn → IsErrAnd result (λ e. e.fault ≡ NotThisStore) }
@@ -235,7 +264,7 @@ impl<S: Alter> Tables<S> {
             conn,
             admin,
             stores: 0,
-            shut: false,
+            standing: Standing::Unknown,
             in_memory: false,
             alloc,
         }
@@ -287,7 +316,21 @@ impl<S: Alter> Books for Tables<S> {
     }
 
     fn is_shut(&self) -> bool {
-        self.shut
+        matches!(self.standing, Standing::Shut)
+    }
+
+    fn ensure_open(&mut self) -> Result<(), Fault> {
+        if let Standing::Open = self.standing {
+            return Ok(());
+        }
+        let outcome = look(&mut self.conn, &mut self.standing);
+        conclude(
+            &mut self.conn,
+            &mut self.stores,
+            &mut self.standing,
+            self.in_memory,
+            outcome,
+        )
     }
 
     fn administrator(&self) -> &Person {
@@ -299,7 +342,7 @@ impl<S: Alter> Books for Tables<S> {
         conclude(
             &mut self.conn,
             &mut self.stores,
-            &mut self.shut,
+            &mut self.standing,
             self.in_memory,
             outcome,
         )
@@ -310,7 +353,7 @@ impl<S: Alter> Books for Tables<S> {
         conclude(
             &mut self.conn,
             &mut self.stores,
-            &mut self.shut,
+            &mut self.standing,
             self.in_memory,
             outcome,
         )
@@ -321,7 +364,7 @@ impl<S: Alter> Books for Tables<S> {
         conclude(
             &mut self.conn,
             &mut self.stores,
-            &mut self.shut,
+            &mut self.standing,
             self.in_memory,
             outcome,
         )
@@ -332,7 +375,7 @@ impl<S: Alter> Books for Tables<S> {
         conclude(
             &mut self.conn,
             &mut self.stores,
-            &mut self.shut,
+            &mut self.standing,
             self.in_memory,
             outcome,
         )
@@ -343,7 +386,7 @@ impl<S: Alter> Books for Tables<S> {
         conclude(
             &mut self.conn,
             &mut self.stores,
-            &mut self.shut,
+            &mut self.standing,
             self.in_memory,
             outcome,
         )
@@ -354,7 +397,7 @@ impl<S: Alter> Books for Tables<S> {
         conclude(
             &mut self.conn,
             &mut self.stores,
-            &mut self.shut,
+            &mut self.standing,
             self.in_memory,
             outcome,
         )
@@ -365,7 +408,7 @@ impl<S: Alter> Books for Tables<S> {
         conclude(
             &mut self.conn,
             &mut self.stores,
-            &mut self.shut,
+            &mut self.standing,
             self.in_memory,
             outcome,
         )
@@ -376,7 +419,7 @@ impl<S: Alter> Books for Tables<S> {
         conclude(
             &mut self.conn,
             &mut self.stores,
-            &mut self.shut,
+            &mut self.standing,
             self.in_memory,
             outcome,
         )
@@ -392,7 +435,7 @@ impl<S: Alter> Books for Tables<S> {
         conclude(
             &mut self.conn,
             &mut self.stores,
-            &mut self.shut,
+            &mut self.standing,
             self.in_memory,
             outcome,
         )

@@ -8,7 +8,7 @@ ghost use Rattle.plant_types.specs.Names.{Name};
 ghost use Rattle.plant_books.specs.Contents.{Content, part_in, rows_in};
 ghost use Rattle.plant_store_statements.specs.{Changes.{IsHonest}, Keeping.{HasContent}};
 ghost use Rattle.plant_store_reads.specs.Parts.{AreAskedBy, LoadsApproved, LoadsCount, LoadsCrowding, LoadsGrants, ReadsSelected, alarms_seen, events_seen, grants_of};
-ghost use Rattle.plant_store_statements.specs.Reading.{HasNoTransaction, Loads, IsOnlyRead, ReadsContent};
+ghost use Rattle.plant_store_statements.specs.Reading.{HasNoTransaction, Loads, IsOnlyRead, LeavesOpen, ReadsContent};
 ghost use Rattle.plant_store_reads.specs.Wanted.{alarms_left, rows_with};
 ghost use Rattle.plant_store_columns.specs.{Tables.{rows_seen}, declared.tables.TableKind.TheVariants.{Units}};
 
@@ -43,6 +43,7 @@ pub fn some_grants<S: Alter>(
     ensures mode { HasNoTransaction conn.new }
     ensures rows { LoadsGrants S.Store conn.old conn.new unit.now own all result }
     ensures reads { IsOnlyRead S.Store conn.old conn.new }
+    ensures open { LeavesOpen S.Store conn.old conn.new result }
 {
     if all {
         sorted_rows(alloc, conn, unit)
@@ -63,6 +64,7 @@ fn rows_wanted<T: StoredByTag, S: Alter>(
     ensures rows { Loads S.Store conn.old conn.new
         (λ trees. rows_with T.key wanted.entry (T.seen unit.now trees)) result }
     ensures reads { IsOnlyRead S.Store conn.old conn.new }
+    ensures open { LeavesOpen S.Store conn.old conn.new result }
 {
     match wanted {
         Wanted::Nothing => Ok(Sorted::new(alloc)),
@@ -82,6 +84,7 @@ pub fn some_alarms<S: Alter>(
     ensures mode { HasNoTransaction conn.new }
     ensures rows { Loads S.Store conn.old conn.new (alarms_seen wanted.entry unit.now) result }
     ensures reads { IsOnlyRead S.Store conn.old conn.new }
+    ensures open { LeavesOpen S.Store conn.old conn.new result }
 {
     match wanted {
         WantedAlarms::Those(wanted) => rows_wanted(alloc, conn, unit, wanted),
@@ -117,6 +120,7 @@ pub fn some_events<S: Alter>(
     ensures mode { HasNoTransaction conn.new }
     ensures rows { Loads S.Store conn.old conn.new (events_seen wanted unit.now) result }
     ensures reads { IsOnlyRead S.Store conn.old conn.new }
+    ensures open { LeavesOpen S.Store conn.old conn.new result }
 {
     if wanted {
         sorted_rows(alloc, conn, unit)
@@ -153,6 +157,7 @@ fn count_for<S: Alter>(
     ensures mode { HasNoTransaction conn.new }
     ensures rows { LoadsCount S.Store conn.old conn.new unit.now request.now events.now result }
     ensures reads { IsOnlyRead S.Store conn.old conn.new }
+    ensures open { LeavesOpen S.Store conn.old conn.new result }
 {
     match request.counted() {
         Counted::Nothing => Ok(0),
@@ -173,6 +178,7 @@ fn crowded_for<S: Alter>(
     ensures mode { HasNoTransaction conn.new }
     ensures rows { LoadsCrowding S.Store conn.old conn.new unit.now units.now request.now result }
     ensures reads { IsOnlyRead S.Store conn.old conn.new }
+    ensures open { LeavesOpen S.Store conn.old conn.new result }
 {
     if is_shelving(request) {
         Ok(is_crowded(units, count_of_shelves(conn, unit)?))
@@ -192,6 +198,7 @@ fn approved_for<S: Alter>(
     ensures mode { HasNoTransaction conn.new }
     ensures rows { LoadsApproved S.Store conn.old conn.new unit.now request.now result }
     ensures reads { IsOnlyRead S.Store conn.old conn.new }
+    ensures open { LeavesOpen S.Store conn.old conn.new result }
 {
     match number_approved(request) {
         Some(number) => rows_of_number(alloc, conn, unit, number),
@@ -211,6 +218,7 @@ fn alarms_and_shelves<S: Alter>(
     ensures found { ReadsSelected S.Store conn.old conn.new unit.now scope.entry result (λ rows s.
         (filter (λ r. s.alarm r.tag) rows.alarms, filter (λ r. s.shelf r.tag) rows.shelves)) }
     ensures reads { IsOnlyRead S.Store conn.old conn.new }
+    ensures open { LeavesOpen S.Store conn.old conn.new result }
 {
     let tags = wanted_alarms(scope);
     let read = some_alarms(alloc, conn, unit, tags)?;
@@ -239,6 +247,7 @@ fn events_and_count<S: Alter>(
           counted_for (rows_in m unit.now) request.now,
         )) }
     ensures reads { IsOnlyRead S.Store conn.old conn.new }
+    ensures open { LeavesOpen S.Store conn.old conn.new result }
 {
     let looks = looks_at_events(request);
     let all = some_events(alloc, conn, unit, looks)?;
@@ -259,6 +268,7 @@ fn records_and_changes<S: Alter>(
     ensures found { ReadsSelected S.Store conn.old conn.new unit.now scope.entry result (λ rows s.
         (filter (λ r. s.rationale r.tag) rows.records, filter (λ r. s.change r.number) rows.changes)) }
     ensures reads { IsOnlyRead S.Store conn.old conn.new }
+    ensures open { LeavesOpen S.Store conn.old conn.new result }
 {
     let recorded = wanted_records(scope);
     let records = rows_wanted(alloc, conn, unit, recorded)?;
@@ -283,6 +293,7 @@ fn matrices<S: Alter>(
           filter (λ r. (selection_by (rows_in m unit.now) scope.entry).matrix r.matrix_no) (rows_in m unit.now).cells,
         )) }
     ensures reads { IsOnlyRead S.Store conn.old conn.new }
+    ensures open { LeavesOpen S.Store conn.old conn.new result }
 {
     let bands = matrix_rows(alloc, conn, unit, units, scope)?;
     let cells = matrix_rows(alloc, conn, unit, units, scope)?;
@@ -311,6 +322,7 @@ fn read_in_scope<S: Alter>(
           grants = rows.old.grants;
         })) }
     ensures reads { IsOnlyRead S.Store conn.old conn.new }
+    ensures open { LeavesOpen S.Store conn.old conn.new result }
 {
     (rows.alarms, rows.shelves) = alarms_and_shelves(alloc, conn, unit, scope)?;
     let (events, count) = events_and_count(alloc, conn, unit, &call.request, scope)?;
@@ -339,6 +351,7 @@ fn part_in_scope<S: Alter>(
         → rows.grants ≡ (part_of_holder call.now (rows_in m unit.now)).rows.grants
         → IfOk result (λ part. part ≡ part_of_holder call.now (rows_in m unit.now)) }
     ensures reads { IsOnlyRead S.Store conn.old conn.new }
+    ensures open { LeavesOpen S.Store conn.old conn.new result }
 {
     let mut rows = rows;
     let count = read_in_scope(alloc, conn, unit, call, scope, &mut rows)?;
@@ -366,6 +379,7 @@ fn holders_part<S: Alter>(
         → own ≡ grants_of call.now.person unit.now (state S.Store conn.old).now.trees
         → IfOk result (λ part. part ≡ part_of_holder call.now (rows_in m unit.now)) }
     ensures reads { IsOnlyRead S.Store conn.old conn.new }
+    ensures open { LeavesOpen S.Store conn.old conn.new result }
 {
     let request = &call.request;
     let crowded = crowded_for(conn, unit, &units, request)?;
@@ -394,6 +408,7 @@ fn unit_part<S: Alter>(
     ensures found { ReadsContent S.Store conn.old conn.new result
         (λ m. part_in m call.now unit.now) }
     ensures reads { IsOnlyRead S.Store conn.old conn.new }
+    ensures open { LeavesOpen S.Store conn.old conn.new result }
 {
     let units = all_rows(alloc, conn, unit)?;
     if !has_row(&units) {
@@ -420,6 +435,7 @@ pub fn part_of<S: Alter>(
         → IfOk result (λ part. part ≡ part_in m call.now u) }
     ensures none { unit_named call.now.request ≡ None → IfOk result (λ part. part ≡ None) }
     ensures reads { IsOnlyRead S.Store conn.old conn.new }
+    ensures open { LeavesOpen S.Store conn.old conn.new result }
 {
     match call.request.unit() {
         Some(unit) => unit_part(alloc, conn, unit, call),

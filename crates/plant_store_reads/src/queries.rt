@@ -4,7 +4,7 @@
 ghost use Rattle.std.specs.Prelude.{◌≡◌, IfOk};
 ghost use Rattle.plant_store_columns.specs.declared.tables.TableKind.TheVariants.{Alarms, Shelves};
 ghost use Rattle.plant_store_reads.specs.Parts.{count_seen, grants_of, last_change_seen};
-ghost use Rattle.plant_store_statements.specs.Reading.{HasNoTransaction, IsOnlyRead, Loads};
+ghost use Rattle.plant_store_statements.specs.Reading.{HasNoTransaction, IsOnlyRead, LeavesOpen, Loads};
 
 use plant_model::{AlarmRow, GrantRow};
 use plant_store_columns::decode::number;
@@ -28,6 +28,7 @@ fn own_as_read<S: Alter>(
     ensures mode { HasNoTransaction conn.new }
     ensures rows { Loads S.Store conn.old conn.new (grants_of person.now unit.now) result }
     ensures reads { IsOnlyRead S.Store conn.old conn.new }
+    ensures open { LeavesOpen S.Store conn.old conn.new result }
 {
     read_rows(alloc, conn, texts::SELECT_OWN_GRANTS, &pair(unit, person))
 }
@@ -43,6 +44,7 @@ pub fn own_grants<S: Alter>(
     ensures mode { HasNoTransaction conn.new }
     ensures rows { Loads S.Store conn.old conn.new (grants_of person.now unit.now) result }
     ensures reads { IsOnlyRead S.Store conn.old conn.new }
+    ensures open { LeavesOpen S.Store conn.old conn.new result }
 {
     let rows = own_as_read(alloc, conn, unit, person)?;
     in_order(rows)
@@ -61,6 +63,7 @@ pub fn count_of_alarms<S: Alter>(conn: &mut Connection<S>, unit: &UnitCode) -> R
     ensures mode { HasNoTransaction conn.new }
     ensures rows { Loads S.Store conn.old conn.new (count_seen unit.now Alarms) result }
     ensures reads { IsOnlyRead S.Store conn.old conn.new }
+    ensures open { LeavesOpen S.Store conn.old conn.new result }
 {
     let alarms = ask(conn, AlarmRow::select(), &single(unit))?;
     count_of(alarms.as_slice().len())
@@ -73,6 +76,7 @@ pub fn count_of_shelves<S: Alter>(conn: &mut Connection<S>, unit: &UnitCode) -> 
     ensures mode { HasNoTransaction conn.new }
     ensures rows { Loads S.Store conn.old conn.new (count_seen unit.now Shelves) result }
     ensures reads { IsOnlyRead S.Store conn.old conn.new }
+    ensures open { LeavesOpen S.Store conn.old conn.new result }
 {
     let tags = ask(conn, texts::SELECT_SHELF_TAGS, &single(unit))?;
     Ok(tags.as_slice().len() as u64)
@@ -84,6 +88,7 @@ pub fn last_change_number<S: Alter>(conn: &mut Connection<S>, unit: &UnitCode) -
     ensures mode { HasNoTransaction conn.new }
     ensures rows { Loads S.Store conn.old conn.new (last_change_seen unit.now) result }
     ensures reads { IsOnlyRead S.Store conn.old conn.new }
+    ensures open { LeavesOpen S.Store conn.old conn.new result }
 {
     let rows = ask(conn, texts::SELECT_LAST_CHANGE, &single(unit))?;
     match rows.as_slice().first() {

@@ -2,7 +2,7 @@
 
 ghost use Rattle.std.specs.Prelude.{◌≡◌, ◌++◌, OnOk};
 ghost use Rattle.plant_store_reads.specs.Parts.{LoadsChanges, LoadsMatrices, LoadsNumbers};
-ghost use Rattle.plant_store_statements.specs.Reading.{HasNoTransaction, IsOnlyRead};
+ghost use Rattle.plant_store_statements.specs.Reading.{HasNoTransaction, IsOnlyRead, LeavesOpen};
 
 use plant_books::{change_numbers, matrix_numbers};
 use plant_model::{ChangeEntry, RecordEntry, Scope, UnitRow};
@@ -32,6 +32,7 @@ fn rows_of_numbers<T: StoredByNumber, S: Alter>(
     ensures mode { HasNoTransaction conn.new }
     ensures rows { LoadsNumbers S.Store conn.old conn.new T.seen unit.now T.number numbers.now result }
     ensures reads { IsOnlyRead S.Store conn.old conn.new }
+    ensures open { LeavesOpen S.Store conn.old conn.new result }
 {
     let mut rows = Vec::new(alloc);
     for number in numbers {
@@ -53,6 +54,7 @@ pub fn matrix_rows<T: StoredByNumber, S: Alter>(
     ensures mode { HasNoTransaction conn.new }
     ensures rows { LoadsMatrices S.Store conn.old conn.new T.seen unit.now T.number units.now scope.entry result }
     ensures reads { IsOnlyRead S.Store conn.old conn.new }
+    ensures open { LeavesOpen S.Store conn.old conn.new result }
 {
     let Ok(numbers) = matrix_numbers(alloc, units, scope) else {
         return Err(Error::SqliteFailure(ErrorCode::OutOfMemory));
@@ -72,6 +74,7 @@ pub fn some_changes<S: Alter>(
     ensures mode { HasNoTransaction conn.new }
     ensures rows { LoadsChanges S.Store conn.old conn.new unit.now records.now scope.entry result }
     ensures reads { IsOnlyRead S.Store conn.old conn.new }
+    ensures open { LeavesOpen S.Store conn.old conn.new result }
 {
     let Ok(numbers) = change_numbers(alloc, records.as_slice(), scope) else {
         return Err(Error::SqliteFailure(ErrorCode::OutOfMemory));

@@ -3,7 +3,7 @@
 ghost use Rattle.std.specs.{FinMap.{contains_key, get}, Prelude.{◌≡◌, OnOk}};
 ghost use Rattle.sqlite.specs.Held.{state};
 ghost use Rattle.plant_books.specs.Contents.{Content, events_in, rows_but_history as all_but_history, rows_in, with_history_of};
-ghost use Rattle.plant_store_statements.specs.{Changes.{IsHonest}, Keeping.{HasContent, has_any}, Reading.{HasNoTransaction, IsOnlyRead, ReadsContent}};
+ghost use Rattle.plant_store_statements.specs.{Changes.{IsHonest}, Keeping.{HasContent, has_any}, Reading.{HasNoTransaction, IsOnlyRead, LeavesOpen, ReadsContent}};
 
 use plant_alarm::Event;
 use plant_model::{UnitRow, UnitRows};
@@ -31,6 +31,7 @@ pub fn taken<S: Alter>(
     ensures found { ReadsContent S.Store conn.old conn.new result
         (λ m. contains_key m.units unit.now) }
     ensures reads { IsOnlyRead S.Store conn.old conn.new }
+    ensures open { LeavesOpen S.Store conn.old conn.new result }
 {
     let units = all_rows(alloc, conn, unit)?;
     Ok(has_row(&units))
@@ -54,6 +55,7 @@ fn read_standing<S: Alter>(
           records = (rows_in m unit.now).records;
         }) }
     ensures reads { IsOnlyRead S.Store conn.old conn.new }
+    ensures open { LeavesOpen S.Store conn.old conn.new result }
 {
     rows.grants = sorted_rows(alloc, conn, unit)?;
     rows.alarms = sorted_rows(alloc, conn, unit)?;
@@ -73,6 +75,7 @@ pub fn rows_but_history<S: Alter>(
     ensures found { ReadsContent S.Store conn.old conn.new result
         (λ m. all_but_history m unit.now) }
     ensures reads { IsOnlyRead S.Store conn.old conn.new }
+    ensures open { LeavesOpen S.Store conn.old conn.new result }
 {
     let units = all_rows(alloc, conn, unit)?;
     if !has_row(&units) {
@@ -94,6 +97,7 @@ pub fn events<S: Alter>(
     ensures mode { HasNoTransaction conn.new }
     ensures found { ReadsContent S.Store conn.old conn.new result (λ m. events_in m unit.now) }
     ensures reads { IsOnlyRead S.Store conn.old conn.new }
+    ensures open { LeavesOpen S.Store conn.old conn.new result }
 {
     sorted_rows(alloc, conn, unit)
 }
@@ -111,6 +115,7 @@ fn read_history<S: Alter>(
         → HasContent (state S.Store conn.old) m
         → OnOk result (rows.new ≡ with_history_of (rows_in m unit.now) rows.old) }
     ensures reads { IsOnlyRead S.Store conn.old conn.new }
+    ensures open { LeavesOpen S.Store conn.old conn.new result }
 {
     rows.bands = sorted_rows(alloc, conn, unit)?;
     rows.cells = sorted_rows(alloc, conn, unit)?;
@@ -130,6 +135,7 @@ pub fn rows_of<S: Alter>(
     ensures mode { HasNoTransaction conn.new }
     ensures found { ReadsContent S.Store conn.old conn.new result (λ m. get m.units unit.now) }
     ensures reads { IsOnlyRead S.Store conn.old conn.new }
+    ensures open { LeavesOpen S.Store conn.old conn.new result }
 {
     match rows_but_history(alloc, conn, unit)? {
         None => Ok(None),

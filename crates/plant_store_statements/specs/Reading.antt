@@ -1,6 +1,6 @@
 -- What a read returns, and what it leaves of the tables. Each definition takes the connection before and after. A disk
 -- is clean if it has returned what was written, and honest if besides no failure has shut the database.
-use Rattle.std.specs.Prelude.{IfOk, List, Result, false, filter, map, ℕ, ◌≡◌}
+use Rattle.std.specs.Prelude.{IfOk, IsTrue, List, OnOk, Result, false, filter, map, ℕ, ◌≡◌}
 use Rattle.sqlite.specs.{Held.{Held, state}, Listing.{understood}, Schema.{Schema}, State.{CommitsShowing, HasCleanDisk, Shown as IsShown, Survives}, Tree.{Trees}}
 use Rattle.sqlite.{specs.Values.{bound}, proofs.Callers.{IsPlain}}
 use Rattle.sqlite_trees.specs.declared.store.Store.{Ghosts}
@@ -22,6 +22,11 @@ HasNoTransaction conn = conn.in_transaction ≡ false
 -- the disk is honest and the store is open
 abbrev pub IsHonestIn : {S : Type 0} → Ghosts S → Held S → Type 0
 IsHonestIn g conn = IsHonest (state g conn)
+
+-- after a success on a clean disk a store that was open is open
+abbrev pub LeavesOpen : {S A E : Type 0} → Ghosts S → Held S → Held S → Result A E → Type 0
+LeavesOpen g before after said =
+    HasCleanDisk (state g after) → IsTrue (state g before).is_open → OnOk said (IsTrue (state g after).is_open)
 
 -- on an honest disk a query that is plain under some schema leaves the database as it was, whatever its own schema is
 abbrev pub SameIfPlain : {S : Type 0} → Ghosts S → Held S → Held S → List ℕ → Type 0

@@ -3,7 +3,8 @@
 ghost use Rattle.std.specs.Prelude.{◌≡◌, ◌↔◌, IfOk, IsOk};
 ghost use Rattle.plant_books.specs.Books.{WasHonest};
 ghost use Rattle.plant_types.specs.KeyedRows.{IsInOrder};
-ghost use Rattle.plant_store_statements.specs.Reading.{Asks, CrashesAsShown, Decodes, HasNoTransaction, IsHonestIn, Loads, LoadsNumber, LoadsTag, IsOnlyRead, SameIfPlain};
+ghost use Rattle.plant_store_statements.specs.Reading.{Asks, CrashesAsShown, Decodes, HasNoTransaction, IsHonestIn, Loads, LoadsNumber, LoadsTag, IsOnlyRead, LeavesOpen, SameIfPlain};
+ghost use Rattle.plant_store_statements.specs.Writing.{IsLeftOpen};
 
 use crate::stored::{Stored, StoredByNumber, StoredByTag};
 use plant_store_columns::decode::{Shown, read_all};
@@ -25,6 +26,7 @@ pub fn ask<S: Alter>(
     ensures same { SameIfPlain S.Store conn.old conn.new sql.now }
     ensures shows { CrashesAsShown S.Store conn.old conn.new sql.now cells.now }
     ensures honest { WasHonest (IsHonestIn S.Store) conn.old conn.new }
+    ensures open { IsLeftOpen S.Store conn.new result }
 {
     // Gives the proof that no transaction is open; the value is not used.
     let _settled = conn.is_autocommit();
@@ -44,6 +46,7 @@ pub fn read_rows<T: Shown, S: Alter>(
     ensures same { SameIfPlain S.Store conn.old conn.new sql.now }
     ensures shows { CrashesAsShown S.Store conn.old conn.new sql.now cells.now }
     ensures honest { WasHonest (IsHonestIn S.Store) conn.old conn.new }
+    ensures open { LeavesOpen S.Store conn.old conn.new result }
 {
     let rows = ask(conn, sql, cells)?;
     read_all(alloc, rows.as_slice())
@@ -59,6 +62,7 @@ pub fn all_rows<T: Stored, S: Alter>(
     ensures mode { HasNoTransaction conn.new }
     ensures rows { Loads S.Store conn.old conn.new (T.seen unit.now) result }
     ensures reads { IsOnlyRead S.Store conn.old conn.new }
+    ensures open { LeavesOpen S.Store conn.old conn.new result }
 {
     read_rows(alloc, conn, T::select(), &single(unit))
 }
@@ -84,6 +88,7 @@ pub fn sorted_rows<T: Stored + Keyed, S: Alter>(
     ensures mode { HasNoTransaction conn.new }
     ensures rows { Loads S.Store conn.old conn.new (T.seen unit.now) result }
     ensures reads { IsOnlyRead S.Store conn.old conn.new }
+    ensures open { LeavesOpen S.Store conn.old conn.new result }
 {
     let rows = all_rows(alloc, conn, unit)?;
     in_order(rows)
@@ -100,6 +105,7 @@ fn as_read_of_tag<T: StoredByTag, S: Alter>(
     ensures mode { HasNoTransaction conn.new }
     ensures rows { LoadsTag S.Store conn.old conn.new T.seen unit.now T.key tag.now result }
     ensures reads { IsOnlyRead S.Store conn.old conn.new }
+    ensures open { LeavesOpen S.Store conn.old conn.new result }
 {
     read_rows(alloc, conn, T::select_of_tag(), &pair(unit, tag))
 }
@@ -115,6 +121,7 @@ pub fn row_of_tag<T: StoredByTag, S: Alter>(
     ensures mode { HasNoTransaction conn.new }
     ensures rows { LoadsTag S.Store conn.old conn.new T.seen unit.now T.key tag.now result }
     ensures reads { IsOnlyRead S.Store conn.old conn.new }
+    ensures open { LeavesOpen S.Store conn.old conn.new result }
 {
     let rows = as_read_of_tag(alloc, conn, unit, tag)?;
     in_order(rows)
@@ -131,6 +138,7 @@ fn as_read_of_number<T: StoredByNumber, S: Alter>(
     ensures mode { HasNoTransaction conn.new }
     ensures rows { LoadsNumber S.Store conn.old conn.new T.seen unit.now T.number number result }
     ensures reads { IsOnlyRead S.Store conn.old conn.new }
+    ensures open { LeavesOpen S.Store conn.old conn.new result }
 {
     read_rows(alloc, conn, T::select_of_number(), &numbered(unit, number))
 }
@@ -146,6 +154,7 @@ pub fn rows_of_number<T: StoredByNumber, S: Alter>(
     ensures mode { HasNoTransaction conn.new }
     ensures rows { LoadsNumber S.Store conn.old conn.new T.seen unit.now T.number number result }
     ensures reads { IsOnlyRead S.Store conn.old conn.new }
+    ensures open { LeavesOpen S.Store conn.old conn.new result }
 {
     let rows = as_read_of_number(alloc, conn, unit, number)?;
     in_order(rows)

@@ -207,7 +207,7 @@ fn change_all<S: Alter>(
 
 /// Fails if a failure has shut the store, so that nothing is written to a store that is shut. The error `Closed` always
 /// means that. Changes nothing.
-fn find_open<S: Alter>(conn: &mut Connection<S>) -> Result<(), Error>
+pub fn find_open<S: Alter>(conn: &mut Connection<S>) -> Result<(), Error>
     requires { HasNoTransaction conn.old }
     ensures mode { HasNoTransaction conn.new }
     ensures reads { IsOnlyRead S.Store conn.old conn.new }
@@ -221,19 +221,6 @@ fn find_open<S: Alter>(conn: &mut Connection<S>) -> Result<(), Error>
         return Err(error);
     }
     Ok(())
-}
-
-/// Whether a failure has shut the store. Changes nothing.
-pub fn is_shut<S: Alter>(conn: &mut Connection<S>) -> bool
-    requires { HasNoTransaction conn.old }
-    ensures mode { HasNoTransaction conn.new }
-    ensures reads { IsOnlyRead S.Store conn.old conn.new }
-    ensures shut { IsTrue result → ¬ IsHonest (state S.Store conn.new) }
-{
-    matches!(
-        find_open(conn),
-        Err(Error::SqliteFailure(ErrorCode::Closed))
-    )
 }
 
 /// Makes all the changes of one unit, or none, in one transaction.

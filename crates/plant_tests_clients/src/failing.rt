@@ -59,6 +59,10 @@ impl Books for Failing {
         self.shut
     }
 
+    fn ensure_open(&mut self) -> Result<(), Fault> {
+        Ok(())
+    }
+
     fn administrator(&self) -> &Person {
         &self.administrator
     }

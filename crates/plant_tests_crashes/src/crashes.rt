@@ -4,10 +4,11 @@ ghost use Rattle.plant_store_statements.specs.Reading.{HasNoTransaction};
 
 use plant_office::Books;
 use plant_store::Tables;
+use plant_store_files::{PageSize, create_over, new_page, options_of};
 use plant_tests_examples::{BASE, BEGIN, Exchanges, LOOKED_AT, SHELVED, between};
 use plant_tests_sites::{after, cached, hold_alike, lists, replays_on, root, text};
 use plant_types::limits::MAX_CACHED_ROWS;
-use sqlite::{Alter, Connection, FileStore, Files, Options};
+use sqlite::{Alter, Connection, FileStore, Files};
 use sqlite_disk::{Crash, Disk, Fuse, Memory};
 use std::process::Abort;
 
@@ -70,16 +71,18 @@ fn made_in<S: Alter + Drop>(
     }
 }
 
-/// New books on these disks, or what a crash leaves of the files if the disk stops before they are made.
+/// New books on these disks, with pages of this size, or what a crash leaves of the files if the disk stops before they
+/// are made.
 fn made_on<D: Crash + Drop>(
     rt: &(impl Abort + AllocGlobal),
+    size: PageSize,
     log: D,
     db: D,
 ) -> Result<Tables<FileStore<D>>, Files<D>> {
     if !log.may_be_used() || !db.may_be_used() {
         rt.panic("no disk")
     }
-    let conn = match Connection::open_files(rt.alloc(), Files { log, db }, Options::new(7)) {
+    let conn = match create_over(rt.alloc(), Files { log, db }, size, 7, true) {
         Ok(conn) => conn,
         Err((_, left)) => return Err(left.into_files()),
     };
@@ -103,11 +106,12 @@ fn opened_in<S: Alter + Drop>(
 /// The books that the next start finds after a power cut, if it finds any.
 fn found_in<D: Crash + Drop>(
     rt: &(impl Abort + AllocGlobal),
+    size: PageSize,
     mut files: Files<D>,
 ) -> Option<Tables<FileStore<D>>> {
     files.log.crash();
     files.db.crash();
-    let Ok(conn) = Connection::open_files(rt.alloc(), files, Options::new(7)) else {
+    let Ok(conn) = Connection::open_files(rt.alloc(), files, options_of(7, size)) else {
         return None;
     };
     opened_in(rt, conn)
@@ -200,10 +204,11 @@ fn check_begun<B: Books + Drop>(
 fn serves_and_survives<D: Crash + Drop>(
     rt: &(impl Abort + AllocGlobal),
     wanted: &Exchanges,
+    size: PageSize,
     books: Tables<FileStore<D>>,
 ) -> usize {
     let (count, left) = served_from(rt, wanted, books);
-    check_held(rt, wanted, found_in(rt, left.close()), count);
+    check_held(rt, wanted, found_in(rt, size, left.close()), count);
     count
 }
 
@@ -212,13 +217,14 @@ fn serves_and_survives<D: Crash + Drop>(
 fn survives<D: Crash + Drop>(
     rt: &(impl Abort + AllocGlobal),
     wanted: &Exchanges,
+    size: PageSize,
     log: D,
     db: D,
 ) -> usize {
-    match made_on(rt, log, db) {
-        Ok(books) => serves_and_survives(rt, wanted, books),
+    match made_on(rt, size, log, db) {
+        Ok(books) => serves_and_survives(rt, wanted, size, books),
         Err(files) => {
-            check_begun(rt, wanted, found_in(rt, files));
+            check_begun(rt, wanted, found_in(rt, size, files));
             0
         }
     }
@@ -226,9 +232,9 @@ fn survives<D: Crash + Drop>(
 
 /// At how many calls of the log's disk a session is cut off: the disk stops at each in turn, until all exchanges are
 /// answered.
-fn cut_at_the_log(rt: &(impl Abort + AllocGlobal), wanted: &Exchanges) -> u64 {
+fn cut_at_the_log(rt: &(impl Abort + AllocGlobal), wanted: &Exchanges, size: PageSize) -> u64 {
     for calls in 0..10_000u64 {
-        let count = survives(rt, wanted, fused(rt, calls), fused(rt, u64::MAX));
+        let count = survives(rt, wanted, size, fused(rt, calls), fused(rt, u64::MAX));
         if count == wanted.marks.len() {
             return calls;
         }
@@ -237,9 +243,9 @@ fn cut_at_the_log(rt: &(impl Abort + AllocGlobal), wanted: &Exchanges) -> u64 {
 }
 
 /// The same for the file's disk.
-fn cut_at_the_file(rt: &(impl Abort + AllocGlobal), wanted: &Exchanges) -> u64 {
+fn cut_at_the_file(rt: &(impl Abort + AllocGlobal), wanted: &Exchanges, size: PageSize) -> u64 {
     for calls in 0..10_000u64 {
-        let count = survives(rt, wanted, fused(rt, u64::MAX), fused(rt, calls));
+        let count = survives(rt, wanted, size, fused(rt, u64::MAX), fused(rt, calls));
         if count == wanted.marks.len() {
             return calls;
         }
@@ -247,16 +253,35 @@ fn cut_at_the_file(rt: &(impl Abort + AllocGlobal), wanted: &Exchanges) -> u64 {
     rt.panic("no end")
 }
 
+/// The size of a page of the files that the engine makes where it is left to itself.
+fn older_page(rt: &impl Abort) -> PageSize {
+    PageSize::new(4096).expect(rt, "a size")
+}
+
 #[test]
 fn keeps_what_was_answered_where_the_log_stops(rt: HostRuntime) {
     let wanted = Exchanges::of(rt.alloc(), &[BASE, SHELVED, LOOKED_AT, OTHERS]);
-    let calls = cut_at_the_log(&rt, &wanted.expect(&rt, "exchanges"));
+    let calls = cut_at_the_log(&rt, &wanted.expect(&rt, "exchanges"), new_page());
     assert!(rt; calls > 100, "{calls}");
 }
 
 #[test]
 fn keeps_what_was_answered_where_the_file_stops(rt: HostRuntime) {
     let wanted = Exchanges::of(rt.alloc(), &[BASE, SHELVED, LOOKED_AT, OTHERS]);
-    let calls = cut_at_the_file(&rt, &wanted.expect(&rt, "exchanges"));
+    let calls = cut_at_the_file(&rt, &wanted.expect(&rt, "exchanges"), new_page());
+    assert!(rt; calls > 0, "{calls}");
+}
+
+#[test]
+fn keeps_what_was_answered_where_an_older_log_stops(rt: HostRuntime) {
+    let wanted = Exchanges::of(rt.alloc(), &[BASE, SHELVED, LOOKED_AT, OTHERS]);
+    let calls = cut_at_the_log(&rt, &wanted.expect(&rt, "exchanges"), older_page(&rt));
+    assert!(rt; calls > 100, "{calls}");
+}
+
+#[test]
+fn keeps_what_was_answered_where_an_older_file_stops(rt: HostRuntime) {
+    let wanted = Exchanges::of(rt.alloc(), &[BASE, SHELVED, LOOKED_AT, OTHERS]);
+    let calls = cut_at_the_file(&rt, &wanted.expect(&rt, "exchanges"), older_page(&rt));
     assert!(rt; calls > 0, "{calls}");
 }

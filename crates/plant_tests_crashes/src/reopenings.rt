@@ -4,6 +4,7 @@ ghost use Rattle.plant_store_statements.specs.Reading.{HasNoTransaction};
 
 use plant_office::Books;
 use plant_store::{Tables, reopen};
+use plant_store_files::{PageSize, create_over};
 use plant_tests_examples::{BASE, Exchanges, LOOKED_AT, SHELVED};
 use plant_tests_sites::{after, cached, root};
 use plant_types::limits::MAX_CACHED_ROWS;
@@ -93,14 +94,21 @@ fn finds_the_shelf_again<D: Disk + Drop>(
     has_ended(rt, reopened(rt, books));
 }
 
-#[test]
-fn finds_the_first_shelf_again(rt: HostRuntime) {
+/// The first shelf is found again in files with pages of this size.
+fn finds_it_on_pages(rt: &(impl Abort + AllocGlobal), size: PageSize) {
     let files = Files {
         log: Memory::new(rt.alloc()),
         db: Memory::new(rt.alloc()),
     };
-    let Ok(conn) = Connection::open_files(rt.alloc(), files, Options::new(7)) else {
+    let Ok(conn) = create_over(rt.alloc(), files, size, 7, true) else {
         rt.panic("no connection")
     };
-    finds_the_shelf_again(&rt, conn);
+    finds_the_shelf_again(rt, conn);
+}
+
+#[test]
+fn finds_the_first_shelf_again(rt: HostRuntime) {
+    for bytes in [512, 1024, 2048, 4096] {
+        finds_it_on_pages(&rt, PageSize::new(bytes).expect(&rt, "a size"));
+    }
 }

@@ -6,11 +6,12 @@ ghost use Rattle.plant_store_statements.specs.Reading.{HasNoTransaction};
 use plant_model::{Answer, Call};
 use plant_office::{Books, Office};
 use plant_store::Tables;
+use plant_store_files::{PageSize, create_over, new_page};
 use plant_tests_examples::{BASE, BEGIN, Exchanges, LOOKED_AT, Mark, SHELVED, between};
 use plant_tests_sites::{Calls, bytes_of, cached, calls_of, root, served, text};
 use plant_types::Fault;
 use plant_types::limits::MAX_CACHED_ROWS;
-use sqlite::{Alter, Connection, FileStore, Files, Options};
+use sqlite::{Alter, Connection, FileStore, Files};
 use sqlite_disk::{Disk, Memory, Tally};
 use std::io;
 use std::process::Abort;
@@ -178,16 +179,17 @@ fn made_in<S: Alter + Drop>(
     Tables::create(rt.alloc(), conn, root).ok()
 }
 
-/// New books on these disks, if enough syncs succeed to make them.
+/// New books on these disks, with pages of this size, if enough syncs succeed to make them.
 fn made_on<D: Disk + Drop>(
     rt: &(impl Abort + AllocGlobal),
+    size: PageSize,
     log: D,
     db: D,
 ) -> Option<Tables<FileStore<D>>> {
     if !log.may_be_used() || !db.may_be_used() {
         rt.panic("no disk")
     }
-    match Connection::open_files(rt.alloc(), Files { log, db }, Options::new(7)) {
+    match create_over(rt.alloc(), Files { log, db }, size, 7, true) {
         Ok(conn) => made_in(rt, conn),
         Err(_) => None,
     }
@@ -196,21 +198,30 @@ fn made_on<D: Disk + Drop>(
 /// The same for an office on these disks, or `None` if too few syncs succeed to make its books.
 fn answered_on<D: Disk + Drop>(
     rt: &(impl Abort + AllocGlobal),
+    size: PageSize,
     log: D,
     db: D,
     wanted: &Exchanges,
     calls: &[Call],
 ) -> Option<usize> {
-    answered_from_cache(rt, made_on(rt, log, db), wanted, calls)
+    answered_from_cache(rt, made_on(rt, size, log, db), wanted, calls)
 }
 
 /// How many offices answer a fault, if each sync of the log fails in turn until all calls are answered. Making the
 /// books takes nine.
-fn faults(rt: &(impl Abort + AllocGlobal), wanted: &Exchanges, calls: &[Call]) -> u32 {
+fn faults(
+    rt: &(impl Abort + AllocGlobal),
+    size: PageSize,
+    wanted: &Exchanges,
+    calls: &[Call],
+) -> u32 {
     let mut faults = 0u32;
     for syncs in 9..1000u64 {
         let (log, db) = (failing(rt, syncs), failing(rt, u64::MAX));
-        let count = answered_on(rt, log, db, wanted, calls).expect(rt, "books after nine syncs");
+        let count = answered_on(rt, size, log, db, wanted, calls).expect(
+            rt,
+            "books after nine syncs",
+        );
         if count == calls.len() {
             return faults;
         }
@@ -219,13 +230,19 @@ fn faults(rt: &(impl Abort + AllocGlobal), wanted: &Exchanges, calls: &[Call]) -
     rt.panic("no end")
 }
 
+/// On pages of this size, no call is answered after a sync that failed.
+fn answers_nothing_on_pages(rt: &(impl Abort + AllocGlobal), size: PageSize) {
+    let wanted = Exchanges::of(rt.alloc(), &[BASE, SHELVED, LOOKED_AT]).expect(rt, "exchanges");
+    let Calls { calls, answers: _ } = calls_of(rt.alloc(), &wanted).expect(rt, "calls");
+    assert_eq!(rt; calls.len(), wanted.marks.len());
+    let (log, db) = (failing(rt, 8), failing(rt, u64::MAX));
+    assert_eq!(rt; answered_on(rt, size, log, db, &wanted, &calls), None);
+    let faults = faults(rt, size, &wanted, &calls);
+    assert!(rt; faults > 8, "{faults}");
+}
+
 #[test]
 fn answers_nothing_after_a_failed_sync(rt: HostRuntime) {
-    let wanted = Exchanges::of(rt.alloc(), &[BASE, SHELVED, LOOKED_AT]).expect(&rt, "exchanges");
-    let Calls { calls, answers: _ } = calls_of(rt.alloc(), &wanted).expect(&rt, "calls");
-    assert_eq!(rt; calls.len(), wanted.marks.len());
-    let (log, db) = (failing(&rt, 8), failing(&rt, u64::MAX));
-    assert_eq!(rt; answered_on(&rt, log, db, &wanted, &calls), None);
-    let faults = faults(&rt, &wanted, &calls);
-    assert!(rt; faults > 8, "{faults}");
+    answers_nothing_on_pages(&rt, new_page());
+    answers_nothing_on_pages(&rt, PageSize::new(4096).expect(&rt, "a size"));
 }

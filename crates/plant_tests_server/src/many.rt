@@ -5,6 +5,7 @@ use crate::sockets::{BEGUN, answers, client, exchanges, is_text, whole_client};
 use plant_books::Plain;
 use plant_office::Office;
 use plant_server_clients::{Halted, Plan, serve_clients};
+use plant_server_machine::Machine;
 use plant_server_sockets::{Limits, Sockets};
 use plant_tests_examples::{BASE, LOOKED_AT, SHELVED};
 use plant_tests_sites::{after, lists};
@@ -24,7 +25,7 @@ fn listening<'a>(
         clients: places,
         idle: Some(Duration::from_secs(1)),
     };
-    let sockets = Sockets::listen(rt, 0, limits).expect(stop, "a port");
+    let sockets = Sockets::listen(Machine::new(rt), 0, limits).expect(stop, "a port");
     let address = sockets.address().expect(stop, "an address");
     (sockets, address)
 }

@@ -4,6 +4,7 @@
 use crate::sockets::is_text;
 use plant_office::Office;
 use plant_server::{HostNet, Port, command, serve_port};
+use plant_server_machine::Machine;
 use plant_server_options::Service;
 use plant_tests_clients::Failing;
 use plant_tests_examples::{BASE, Exchanges, LOOKED_AT, SHELVED, numbered};
@@ -70,7 +71,7 @@ impl Write for Clients<'_> {
 
 /// The number of a port on which nothing listens.
 fn free_port(stop: &impl Abort, rt: &HostRuntime) -> u16 {
-    let port = Port::listen(rt, 0, None).expect(stop, "a port");
+    let port = Port::listen(&Machine::new(rt), 0, None).expect(stop, "a port");
     port.address().expect(stop, "an address").port()
 }
 
@@ -207,7 +208,7 @@ fn served_until_shut<'a>(
         streams: Vec::new(alloc),
     };
     let mut errors = Vec::new(alloc);
-    let mut net = HostNet::new(rt);
+    let mut net = HostNet::new(Machine::new(rt));
     let status = serve_port(
         alloc,
         &mut net,

@@ -4,6 +4,7 @@
 use plant_books::Plain;
 use plant_office::{Books, Office};
 use plant_server::{Port, serve_connections};
+use plant_server_machine::Machine;
 use plant_tests_examples::{BASE, Exchanges, LOOKED_AT, SHELVED, add_request, numbered, push_all};
 use plant_tests_sites::{after, lists, tables};
 use plant_wire::Failed;
@@ -24,7 +25,7 @@ pub(crate) fn exchanges(rt: &(impl Abort + AllocGlobal), texts: &[&str]) -> Exch
 
 /// A port that listens on a free number, and its address.
 fn listening(stop: &impl Abort, rt: &HostRuntime, idle: Option<Duration>) -> (Port, SocketAddr) {
-    let port = Port::listen(rt, 0, idle).expect(stop, "a port");
+    let port = Port::listen(&Machine::new(rt), 0, idle).expect(stop, "a port");
     let address = port.address().expect(stop, "an address");
     (port, address)
 }

@@ -181,6 +181,10 @@ impl<B: Books> Books for Counting<B> {
         self.books.is_shut()
     }
 
+    fn ensure_open(&mut self) -> Result<(), Fault> {
+        self.books.ensure_open()
+    }
+
     fn administrator(&self) -> &Person {
         self.books.administrator()
     }

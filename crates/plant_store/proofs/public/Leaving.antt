@@ -1,15 +1,16 @@
 -- What a crash leaves of the tables.
 use Rattle.std.specs.FinMap.{get}
-use Rattle.std.proofs.Common.{◌≡◌, ◌⊎◌, inl, inr, true, false, IsTrue, List, Result, ◌∷◌, [], Some, sym, ap, subst, ◌∙◌, arith, ℕ}
+use Rattle.std.proofs.Common.{◌≡◌, ◌⊎◌, inl, inr, true, false, IsTrue, List, OnOk, Result, ◌∷◌, [], Some, sym, ap, subst, ◌∙◌, arith, ℕ}
 use Rattle.std.proofs.lemmas.Bool.{cases_Bool}
 use Rattle.sqlite.specs.{Effect.{Database, IsDatabase}, Held.{Held, state}, State.{HasCleanDisk, IsLive, State, Survives}, Tree.{Trees}}
 use Rattle.sqlite_trees.specs.declared.store.Store.{Ghosts}
 use Rattle.plant_books.specs.{Contents.{Content, IsKnownTo, after_changes, rows_in}, Books.{LeavesUnchanged}, Counting.{Counts}, Crashes.{Alike, IsSettled, LosesNoPart}}
 use Rattle.plant_store_columns.specs.{Tables.{office_row, rows_of_table, rows_seen}, declared.tables.TableKind.{TableKind, TheVariants.{Units, Grants, Alarms, Shelves, Bands, Cells, Events, Records, Changes}}}
 use Rattle.plant_model.specs.declared.rows.{RowEdit.{RowEdit}, UnitRows.{UnitRows}}
-use Rattle.plant_store_statements.specs.{Changes.{Applies, IsHonest}, Keeping.{HasContent, HaveRows, LeavesAlike, LeavesBooks, LeavesContent, Represents, has_any}, Reading.{IsOnlyRead}, Writing.{AreChangedHonestly}}
-use Rattle.plant_store_statements.proofs.public.{Contents.{keeps_after, kept_rows, never_opened}, ReadsOnly.{keeps_read}}
-use Rattle.plant_store.proofs.public.Databases.{same_database}
+use Rattle.plant_store_statements.specs.{Changes.{Applies, IsHonest}, Keeping.{HasContent, HaveRows, LeavesAlike, LeavesBooks, LeavesContent, Represents, has_any}, Reading.{IsOnlyRead, LeavesOpen}, Writing.{AreChangedHonestly}}
+use Rattle.plant_store_statements.proofs.public.{Contents.{keeps_after, kept_rows, never_opened}, ReadsOnly.{keeps_read, reads_then}}
+use Rattle.plant_store.{specs.Counting.{SaysAgain}, proofs.{Standings.{stays_open}, public.Databases.{same_database}}}
+use Rattle.sqlite.specs.declared.error.Error.{Error}
 use Rattle.plant_types.specs.{Names.{Name}, declared.fault.Fault.{Fault}}
 
 -- ---- a database has the rows of one content
@@ -111,20 +112,24 @@ module _ {S : Type 0} (g : Ghosts S) where
   abbrev holds : Kept → Content → Type 0
   holds t m = (t.0.1 ≡ m.admin) × Represents (shown t) m
 
-  -- a question that only read
-  pub leaves_unchanged : {A : Type 0} (a b : Kept) (said : Result A Fault) → b.0.1 ≡ a.0.1 → IsOnlyRead g a.0.0 b.0.0 → Counts a.1 b.1 said
+  -- a question that only read, and what its result was then said to be
+  pub leaves_unchanged : {A : Type 0} (a b : Kept) (m : Held S) (outcome : Result A Error) (said : Result A Fault) → b.0.1 ≡ a.0.1
+      → IsOnlyRead g a.0.0 m → IsOnlyRead g m b.0.0 → LeavesOpen g a.0.0 m outcome → SaysAgain outcome said → OnOk said (b.0.0 ≡ m) → Counts a.1 b.1 said
       → LeavesUnchanged holds (λ t. IsHonest (shown t)) (λ t. HasCleanDisk (shown t)) (λ t. LeavesBooks (shown t)) (λ t m. LeavesContent (shown t) m)
       (λ t. t.1) a b said
-  leaves_unchanged a b said admin reads count = record {
-    same = λ m held. (admin ∙ held.0, keeps_read m held.1 reads);
-    honest = reads.honest;
-    crash = record {
-      clean = λ clean. let was : HasCleanDisk (shown a) = omega (arith, clean, reads.quiet.clean) in was;
-      fewer = fewer (shown a) (shown b) reads.quiet;
-      sound = still_sound (shown a) (shown b) reads.quiet;
-    };
-    count = count;
-  }
+  leaves_unchanged a b m outcome said admin first second stays again same count =
+      let reads = reads_then first second in
+      record {
+        same = λ m held. (admin ∙ held.0, keeps_read m held.1 reads);
+        honest = reads.honest;
+        stays_open = λ was clean. stays_open g a.0.0 m b.0.0 outcome said again first stays same was clean;
+        crash = record {
+          clean = λ clean. let was : HasCleanDisk (shown a) = omega (arith, clean, reads.quiet.clean) in was;
+          fewer = fewer (shown a) (shown b) reads.quiet;
+          sound = still_sound (shown a) (shown b) reads.quiet;
+        };
+        count = count;
+      }
 
   pub loses_no_part : (a b : Kept) (u : Name) (cs : List RowEdit) → Survives (shown a) (shown b) (AreChangedHonestly (shown a) u cs)
       → LosesNoPart holds (λ t. IsHonest (shown t)) (λ t. HasCleanDisk (shown t)) (λ t. LeavesBooks (shown t))

@@ -7,7 +7,7 @@ use Rattle.plant_types.specs.declared.fault.Fault.TheVariants.{Memory, Store}
 use Rattle.plant_office.specs.Answers.{CountsAnswer, IfSaid, OnFault}
 use Rattle.plant_office.specs.{Runs.{is_store, stores_in, world_after}, Served.{Holds, IsServed}}
 use Rattle.plant_office.proofs.public.Running.{run-append, run_more, run_none}
-use Rattle.plant_office.{specs.Enduring.{EnduresSettled, BooksState}, proofs.public.{Enduring.{all_none, all_one, all_then}, Failures.{stand_none, stand_one, stand_then}}}
+use Rattle.plant_office.{specs.Enduring.{EnduresSettled, BooksState}, proofs.public.Enduring.{all_none, all_one, all_then}}
 use Rattle.plant_wire.specs.Ran.{Ran}
 
 -- the count of answers Store
@@ -43,22 +43,20 @@ ran_none books count = record {
   run = λ m h w legal holds t. run_none w m books.represents h holds legal;
   counted = λ room. let none : stores_in [] ≡ 0 = refl in omega (arith, none);
   endures = all_none books;
-  stands = stand_none books;
 }
 
 -- one call was made
 pub ran_one : (before after : BooksState) (count counted_to : ℕ) (call : Call) (answer : Answer)
-    → ((m : Content) → before.represents m → (w : World) → IsLegalWorld w → Holds m w → after.honest → IfSaid answer (λ a. IsServed w call a after.represents))
+    → ((m : Content) → before.represents m → (w : World) → IsLegalWorld w → Holds m w → after.clean → IfSaid answer (λ a. IsServed w call a after.represents))
     → ((m : Content) → before.represents m → OnFault answer (after.represents m)) → CountsAnswer count counted_to answer → EnduresSettled call answer before after
-    → (after.honest → before.honest) → Ran before after count counted_to (call ∷ []) (answer ∷ [])
-ran_one before after count counted_to call answer served fault counts endured honest =
+    → Ran before after count counted_to (call ∷ []) (answer ∷ [])
+ran_one before after count counted_to call answer served fault counts endured =
     record {
       run = λ m h w legal holds t.
           run_more w [] [] call answer before.represents after.represents (run_none w m before.represents h holds legal)
           (λ m' h' w' legal' holds'. served m' h' w' legal' holds' t) fault;
       counted = counted_one count counted_to answer counts;
       endures = all_one before after call answer endured;
-      stands = stand_one before after call answer served honest endured.endures;
     }
 
 -- what two steps did, one after the other
@@ -70,11 +68,9 @@ pub ran_joins : (before mid after : BooksState) (count between counted_to : ℕ)
 ran_joins before mid after count between counted_to = record {
   join = λ cs ds xs bs first second. record {
     run = λ m h w legal holds t.
-        let a = first.run m h w legal holds (second.stands.honest t) in
+        let a = first.run m h w legal holds (second.endures.clean t) in
         run-append w cs ds xs bs mid.represents after.represents a (second.run a.after a.left_it (world_after w cs xs) a.legal a.holds t);
     counted = counted_both count between counted_to xs bs first.counted second.counted;
     endures = all_then before mid after cs ds xs bs first.endures second.endures;
-    stands = stand_then before mid after cs ds xs bs first.stands second.stands second.endures.clean
-        (λ w at tells. first.run at.content at.represents w at.legal at.holds tells);
   };
 }

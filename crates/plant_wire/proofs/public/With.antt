@@ -13,16 +13,16 @@ module _ {B : Type 0} (b : books.Ghosts B) where
   with_none office = (ran_none (books_state b office.books) (b.stores office.books), sym (added_none office.faults))
 
   pub with_one : (before after : Office B) (call : Call) (answer : Answer)
-      → ((m : Content) → b.represents before.books m → (w : World) → IsLegalWorld w → Holds m w → b.is_honest after.books
+      → ((m : Content) → b.represents before.books m → (w : World) → IsLegalWorld w → Holds m w → b.is_clean after.books
       → IfSaid answer (λ a. IsServed w call a (b.represents after.books)))
       → ((m : Content) → b.represents before.books m → OnFault answer (b.represents after.books m))
       → CountsAnswer (b.stores before.books) (b.stores after.books) answer
       → EnduresSettled call answer (books_state b before.books) (books_state b after.books)
-      → (b.is_honest after.books → b.is_honest before.books) → after.faults ≡ noted before.faults (answer ∷ [])
+      → after.faults ≡ noted before.faults (answer ∷ [])
       → RanWith b before after (call ∷ []) (answer ∷ [])
-  with_one before after call answer served fault counts endured honest kinds = (
+  with_one before after call answer served fault counts endured kinds = (
     ran_one (books_state b before.books) (books_state b after.books) (b.stores before.books) (b.stores after.books)
-        call answer served fault counts endured honest,
+        call answer served fault counts endured,
     kinds,
   )
 

@@ -10,8 +10,8 @@ returns-in-Ok g c =
     let opened = c.in-Ok.ensures in
     inr (files_served _ c.args.office.admin (place_of g.F.Located.path (image_at g.F.Start) _) c.args.office.path.now
     (λ w it. record {
-      now = λ honest.
-          let own = own_admin it.rows.content it.rows.books.db c.args.office.admin it.rows.books.rows (opened.office it.here it.rows.books.db it.rows.books.database honest) in
+      now = λ clean.
+          let own = own_admin it.rows.content it.rows.books.db c.args.office.admin it.rows.books.rows (opened.office it.here it.rows.books.db it.rows.books.database clean) in
           record {
             content = it.rows.content;
             represents = (opened.own.0 ∙ sym own, opened.kept it.here it.rows.content it.rows.books);
@@ -23,7 +23,7 @@ returns-in-Ok g c =
           after_none w it.rows.content _ (opened.own.0 ∙ sym (it.rows.holds.same_admin ∙ is_own), opened.kept it.here it.rows.content it.rows.books) it.rows.holds it.rows.legal
           start.0 start.1;
     })
-    (λ here db held honest. opened.office here db held honest)
+    opened.office
     c.args.office.service _ _ _ (c.serve_kept.ensures c.args.office.admin))
 
 pub returns-in-Err : goal.returns-in-Err

@@ -11,10 +11,7 @@ returns-in-Ok g c =
     record {
       first = it.first;
       said = it.said;
-      served = served _ _ (λ calls answers is. record {
-        answered = is.answered (always_clean store);
-        before_failure = is.before_failure (always_clean store);
-      }) _ _ (λ shut. shut (always_clean store)) _ c.args.service _ it.served;
+      served = served _ _ (λ calls answers is. is.answered (always_clean store)) _ _ (λ shut. shut (always_clean store)) _ c.args.service _ it.served;
     }
 
 pub returns-in-Err : goal.returns-in-Err

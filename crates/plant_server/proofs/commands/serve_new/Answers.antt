@@ -19,10 +19,8 @@ returns g c admin own new =
       first = was.0;
       said = was.1;
       served = served _ _ (λ calls answers is. record {
-        answered = λ clean up.
-            let run = is.run (no_units admin) (own, new) (empty_world admin) (empty_legal admin) holds (it.clean clean, (it.open clean up).0) in
+        answered = λ clean.
+            let run = is.run (no_units admin) (own, new) (empty_world admin) (empty_legal admin) holds (it.clean clean) in
             record { answered = run.answered; isolated = run.isolated };
-        before_failure = λ clean. is.stands.answered (it.clean clean) (empty_world admin)
-            (record { content = no_units admin; represents = (own, new); holds = holds; legal = empty_legal admin });
       }) _ _ (λ not clean up. not (it.clean clean, (it.open clean up).0)) _ c.args.service _ was.2;
     }

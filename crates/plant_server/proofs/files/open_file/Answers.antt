@@ -11,11 +11,11 @@ returns-in-Ok-open_books-clause-kept g c here m held =
     c.in-Ok-open_books.ensures.kept m (kept (image_at g.S.Start) (file_state c.in-Ok.conn) c.in-Ok.ensures.opened (c.in-Ok.ensures.found here) m held)
 
 pub returns-in-Ok-open_books-clause-office : goal.returns-in-Ok-open_books-clause-office
-returns-in-Ok-open_books-clause-office g c here db held tells =
+returns-in-Ok-open_books-clause-office g c here db held clean =
     subst (λ (d : Database). IsThisOffice c.args.admin d)
     (same_now (image_at g.S.Start) (file_state c.in-Ok.conn) c.in-Ok.ensures.opened (c.in-Ok.ensures.found here)
-    (c.in-Ok-open_books.ensures.honest tells) db held)
-    (c.in-Ok-open_books.ensures.office tells)
+    (c.in-Ok-open_books.ensures.honest (clean, c.in-Ok-open_books.ensures.open clean)) db held)
+    (c.in-Ok-open_books.ensures.office (clean, c.in-Ok-open_books.ensures.open clean))
 
 pub returns-in-Ok-open_books-clause-crash : goal.returns-in-Ok-open_books-clause-crash
 returns-in-Ok-open_books-clause-crash g c here m held clean =

@@ -1,7 +1,7 @@
 use Rattle.std.proofs.{Common.{◌∙◌, [], ap, append-nil, arith, inl, inr, None, refl, Some, subst, sym}, KnownBytes.{Appends-nil}}
 use Rattle.plant_server_clients.{proofs.public.Sent.{sent_none}, specs.Events.{Log, Logs, at_ports}}
 use Rattle.plant_wire.proofs.public.Running.{ran_none}
-use Rattle.plant_server.{specs.{Nets.{NetState}, Statuses.{announced}, Streams.{IsSaid}}, proofs.Reported.{none_at_once}}
+use Rattle.plant_server.{specs.{Nets.{NetState}, Statuses.{announced}, Streams.{IsPrintedOrCut}}, proofs.Reported.{none_at_once}}
 use Rattle.plant_server.specs.declared.nets.Standing.{Standing}
 use Rattle.plant_server.proofs.services.serve_at_once.Goals as goal
 
@@ -18,7 +18,7 @@ returns-in-Ok-clause-sent g c =
     let ended = c.end_at_once.ensures in (
       were.sent,
       first,
-      subst (λ (at : Standing). IsSaid old first (announced at))
+      subst (λ (at : Standing). IsPrintedOrCut old first (announced at))
           (sym (ap (λ (s : NetState). s.standing) ended ∙ ap (λ (s : NetState). s.standing) c.in-Ok.ensures.listens)) c.say_address.ensures,
       (were.shown.text, were.shown.told, were.shown.written),
       g.E.Write.contents c.warn_of_few_descriptors.new.errors,

@@ -1,6 +1,6 @@
 use Rattle.std.proofs.lemmas.List.{append-nil}
-use Rattle.std.proofs.Common.{[], ap, append_assoc, filter, refl, rules, subst, sym, ◌++◌, ◌∙◌, ◌∷◌, ◌≡◌}
-use Rattle.sqlite.specs.Held.{state}
+use Rattle.std.proofs.Common.{Err, Ok, OnOk, Result, [], ap, append_assoc, arith, filter, refl, rules, subst, sym, ◌++◌, ◌∙◌, ◌∷◌, ◌≡◌}
+use Rattle.sqlite.specs.{Held.{state}, State.{HasCleanDisk}}
 use Rattle.plant_books.proofs.public.NumberRanges.{goes_on, of_none, those_among, those_of}
 use Rattle.plant_store_columns.specs.Tables.{AreBooks}
 use Rattle.plant_store_reads.proofs.NumberLaws.{other_way}
@@ -14,6 +14,7 @@ loop-number-init g c =
       mode = search rules;
       rows = ([], refl, λ honest books rise. c.new-rows.ensures.items ∙ sym (of_none g.T.Numbered.number all));
       reads = search rules;
+      stays_open = λ clean up. up;
     }
 
 pub loop-number-preserved : goal.loop-number-preserved
@@ -42,6 +43,9 @@ loop-number-preserved g c =
             (cut ∙ from.0) rise (so.2 early books rise) (c.into_list.ensures.value ∙ these),
       );
       reads = reads_then c.loop-number.invariant.reads c.rows_of_number.ensures.reads;
+      stays_open = λ clean up.
+          let early : HasCleanDisk (state g.S.Store c.loop-number.conn) = omega (arith, clean, c.rows_of_number.ensures.reads.quiet.clean) in
+          c.in_ok-read.ensures.open clean (c.loop-number.invariant.stays_open early up);
     }
 
 pub returns-clause-rows : goal.returns-clause-rows
@@ -55,3 +59,11 @@ returns-clause-rows g c honest books rise =
 
 pub returns-in_err-append-clause-reads : goal.returns-in_err-append-clause-reads
 returns-in_err-append-clause-reads g c = reads_then c.loop-number.invariant.reads c.rows_of_number.ensures.reads
+
+-- what holds anyway holds of a success
+anyway : {X E P : Type 0} (said : Result X E) → P → OnOk said P
+anyway (Ok found) p = p
+anyway (Err e) p = tt
+
+pub returns-clause-open : goal.returns-clause-open
+returns-clause-open g c clean up = anyway c.in_order.result (c.loop-number.invariant.stays_open clean up)

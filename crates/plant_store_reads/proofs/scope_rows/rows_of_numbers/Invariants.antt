@@ -1,5 +1,5 @@
-use Rattle.std.proofs.Common.{List, ◌++◌, ◌≡◌, false, ℕ}
-use Rattle.sqlite.specs.Held.{state}
+use Rattle.std.proofs.Common.{IsTrue, List, ◌++◌, ◌≡◌, false, ℕ}
+use Rattle.sqlite.specs.{Held.{state}, State.{HasCleanDisk}}
 use Rattle.plant_books.{specs.Numbered.{NumbersRise}, proofs.public.NumberRanges.{those_among}}
 use Rattle.plant_store_columns.specs.Tables.{AreBooks}
 use Rattle.plant_store_statements.specs.{Changes.{IsHonest}, OnlyReads.{OnlyReads}}
@@ -17,4 +17,5 @@ invariant-loop-number g l =
       rows : (before : List ℕ) × (before ++ l.number-iterator ≡ l.initial.number-iterator)
           × (IsHonest now → AreBooks old.now → NumbersRise number all → l.rows.items ≡ those_among number before all);
       reads : OnlyReads old now;
+      stays_open : HasCleanDisk now → IsTrue old.is_open → IsTrue now.is_open;
     }

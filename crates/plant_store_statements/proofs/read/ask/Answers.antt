@@ -1,7 +1,8 @@
-use Rattle.std.{specs.declared.alloc.Global.{Global}, proofs.Common.{◌≡◌, ◌⊎◌, IsTrue, Ok, None, Err, Result, IfOk, IfErr, List, Vec, ℕ, arith, rules}}
+use Rattle.std.{specs.declared.alloc.Global.{Global}, proofs.Common.{◌≡◌, ◌⊎◌, IsTrue, Ok, None, Some, Option, Err, Result, IfOk, IfErr, OnOk, List, Vec, ℕ, arith, rules}}
 use Rattle.sqlite.specs.{Held.{state}, Listing.{understood}, Order.{Row}}
-use Rattle.sqlite.specs.{State.{State, Shown, FailsToQuery, IsUnchanged, IsRolledBack, HasCleanDisk}, Values.{bound}, declared.error.Error.{Error}}
+use Rattle.sqlite.specs.{State.{State, Shown, ShowsRows, FailsToQuery, IsUnchanged, IsRolledBack, HasCleanDisk}, Values.{bound}, declared.error.Error.{Error}}
 use Rattle.sqlite_resolve.specs.declared.compiled.Compiled.{Compiled}
+use Rattle.sqlite_schema.specs.declared.command.Returning.{Returning}
 use Rattle.plant_store_columns.proofs.public.Asking.{asked, same_now, was_open}
 use Rattle.plant_store_statements.proofs.PlainAnywhere.{never_returns}
 use Rattle.plant_store_statements.proofs.read.ask.Goals as goal
@@ -30,3 +31,20 @@ returns-clause-honest g c honest =
       was_open c.args.sql.now _ old new (λ (v : Vec Row Global). v.items) c.query_all.result honest.1 (c.query_all.ensures.ok honest.0)
           (c.query_all.ensures.err honest.0),
     )
+
+-- what a query showed, it showed while the store was open
+opens : (old new : State) (sql : List ℕ) (c : Compiled) (full : Row) (rows : List Row) (o : Option Returning) → ShowsRows old new sql c full rows o
+    → IsTrue new.is_open
+opens old new sql c full rows None it = it.3.0.is_open
+opens old new sql c full rows (Some what) it = it.1.shown.is_open
+
+opened : (sql : List ℕ) (params : Row) (old new : State) (r : Result (Vec Row Global) Error) → IfOk r (λ rows. Shown sql params old new rows.items)
+    → OnOk r (IsTrue new.is_open)
+unfolding Shown
+opened sql params old new (Ok rows) it = opens old new sql it.0 _ rows.items it.0.returning it.2
+opened sql params old new (Err e) it = tt
+
+pub returns-clause-open : goal.returns-clause-open
+returns-clause-open g c clean =
+    opened c.args.sql.now (bound c.args.cells.now) (state g.S.Store c.args.conn.now) (state g.S.Store c.query_all.new.self) c.query_all.result
+    (c.query_all.ensures.ok clean)

@@ -20,6 +20,7 @@ returns-in-Some g c = record {
         seen_with_events c.in-Some.copy.has_events (get m.units u) rows copy.1
         ∙ ap (λ es. Some (record rows { events = es })) (sym (c.in_ok-events.ensures.found m h.held honest)));
     honest = search rules;
+    stays_open = search rules;
     count = search rules;
     crash = search rules;
   };
@@ -33,6 +34,7 @@ returns-in_default g c = record {
       copied = λ honest. c.take.ensures.rest (get m.units) (get m.units) (λ _ _. refl) (h.copied (c.events.ensures.unchanged.honest honest));
     };
     honest = search rules;
+    stays_open = search rules;
     count = search rules;
     crash = search rules;
   };

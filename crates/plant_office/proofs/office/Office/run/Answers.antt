@@ -1,7 +1,7 @@
 use Rattle.std.proofs.{Common.{◌≡◌, ◌+◌, ◌∙◌, ◌++◌, ◌∷◌, [], ap, arith, length, length-append, refl, subst, sym, take, List}, Math.Seq.{take-length}}
 use Rattle.std.proofs.lemmas.List.{take_more}
 use Rattle.plant_model.specs.declared.{call.Call.{Call}, reply.Answer.{Answer}}
-use Rattle.plant_office.{specs.{Enduring.{EnduresAll, books_state}, Failures.{StandBeforeFailure}, Runs.{AllChangeNothing, EachKeepsUnchanged, IsRun, stores_in}}, proofs.public.{Enduring.{all_none, all_one, all_then}, Failures.{stand_none, stand_one, stand_then}, Running.{few_stores, keeps_more, left_by, nothing_split, run_more, run_none, stores_more}}}
+use Rattle.plant_office.{specs.{Enduring.{EnduresAll, books_state}, Runs.{AllChangeNothing, EachKeepsUnchanged, IsRun, stores_in}}, proofs.public.{Enduring.{all_none, all_one, all_then}, Running.{few_stores, keeps_more, left_by, nothing_split, run_more, run_none, stores_more}}}
 use Rattle.plant_office.proofs.office.Office.run.Goals as goal
 
 pub loop-call-init : goal.loop-call-init
@@ -10,12 +10,11 @@ loop-call-init g c =
     let start = books_state g.B.Books c.args.self.now.books in
     record {
       honest = λ t. t;
-      ran = λ m k w legal h honest. subst (λ (xs : List Answer). IsRun w [] xs (g.B.Books.represents c.args.self.now.books)) (sym none)
+      ran = λ m k w legal h tidy. subst (λ (xs : List Answer). IsRun w [] xs (g.B.Books.represents c.args.self.now.books)) (sym none)
           (run_none w m (g.B.Books.represents c.args.self.now.books) k h legal);
       unchanged = λ m k quiet. k;
       kept = subst (λ (xs : List Answer). EachKeepsUnchanged g.B.Books.represents [] xs c.args.self.now.books c.args.self.now.books) (sym none) refl;
       endures = subst (λ (xs : List Answer). EnduresAll start start [] xs) (sym none) (all_none start);
-      stands = subst (λ (xs : List Answer). StandBeforeFailure start start [] xs) (sym none) (stand_none start);
       long = ap length none;
       room = c.in_ok-answers.ensures.capacity;
       count = λ room. let e : stores_in [] ≡ 0 = refl in
@@ -35,13 +34,13 @@ loop-call-preserved g c =
     ∙ ap (λ (x : Call). take i calls ++ x ∷ []) (sym c.call-item.is) in
     record {
       honest = λ t. before.honest (said.honest t);
-      ran = λ m k w legal h honest.
+      ran = λ m k w legal h tidy.
           subst (λ (xs : List Call). IsRun w xs c.push_answer.new.answers.items (represents c.serve-answer.new.self.books)) (sym more)
           (subst (λ (xs : List Answer). IsRun w (take i calls ++ call
           ∷ []) xs (represents c.serve-answer.new.self.books)) (sym c.push_answer.ensures.items)
           (run_more w (take i calls) c.loop-call.answers.items call c.serve-answer.result (represents c.loop-call.self.books)
           (represents c.serve-answer.new.self.books)
-          (before.ran m k w legal h (said.honest honest)) (λ n l v lv hv. said.served n l v lv hv honest) (λ n l. said.fault n l)));
+          (before.ran m k w legal h (said.endures.endures.clean tidy)) (λ n l v lv hv. said.served n l v lv hv tidy) (λ n l. said.fault n l)));
       unchanged = λ m k quiet.
           let all = subst (λ (xs : List Call). AllChangeNothing xs c.push_answer.new.answers.items) more quiet in
           let both = subst (λ (xs : List Answer). AllChangeNothing (take i calls ++ call ∷ []) xs) c.push_answer.ensures.items all in
@@ -63,15 +62,6 @@ loop-call-preserved g c =
           (all_then start (books_state g.B.Books c.loop-call.self.books) now (take i calls) (call
           ∷ []) c.loop-call.answers.items (c.serve-answer.result ∷ []) before.endures
           (all_one (books_state g.B.Books c.loop-call.self.books) now call c.serve-answer.result said.endures)));
-      stands =
-          let start = books_state g.B.Books c.args.self.now.books in
-          let mid = books_state g.B.Books c.loop-call.self.books in
-          let now = books_state g.B.Books c.serve-answer.new.self.books in
-          subst (λ (xs : List Call). StandBeforeFailure start now xs c.push_answer.new.answers.items) (sym more)
-          (subst (λ (xs : List Answer). StandBeforeFailure start now (take i calls ++ call ∷ []) xs) (sym c.push_answer.ensures.items)
-          (stand_then start mid now (take i calls) (call ∷ []) c.loop-call.answers.items (c.serve-answer.result ∷ []) before.stands
-          (stand_one mid now call c.serve-answer.result said.served said.honest said.endures.endures) said.endures.endures.clean
-          (λ w at tells. before.ran at.content at.represents w at.legal at.holds tells)));
       long = ap length c.push_answer.ensures.items
           ∙ (let p = length-append c.loop-call.answers.items (c.serve-answer.result ∷ []) in
           let e : length (c.loop-call.answers.items ++ c.serve-answer.result ∷ []) ≡ i + 1 = omega (arith, p, before.long) in e);
@@ -112,11 +102,3 @@ returns-clause-endures g c =
     ∙ take-length c.args.calls.now in
     subst (λ (xs : List Call). EnduresAll (books_state g.B.Books c.args.self.now.books) (books_state g.B.Books c.loop-call.self.books) xs
     c.loop-call.answers.items) whole c.loop-call.invariant.endures
-
-pub returns-clause-stands : goal.returns-clause-stands
-returns-clause-stands g c =
-    let all : length c.args.calls.now ≡ c.loop-call.call-index = omega (arith, c.loop-call-test.false, c.loop-call.auto.call-index-end) in
-    let whole : take c.loop-call.call-index c.args.calls.now ≡ c.args.calls.now = ap (λ n. take n c.args.calls.now) (sym all)
-    ∙ take-length c.args.calls.now in
-    subst (λ (xs : List Call). StandBeforeFailure (books_state g.B.Books c.args.self.now.books) (books_state g.B.Books c.loop-call.self.books) xs
-    c.loop-call.answers.items) whole c.loop-call.invariant.stands

@@ -3,7 +3,7 @@ use Rattle.sqlite.{specs.Held.{state}, proofs.StateLemmas.{survives_then}}
 use Rattle.plant_books.specs.Contents.{after_changes}
 use Rattle.plant_store_columns.specs.Tables.{AreBooks}
 use Rattle.plant_store_statements.specs.{Changes.{IsHonest}, Writing.{AreChangedHonestly}}
-use Rattle.plant_store.proofs.{SaidAgain.{again_left, again_made, both_ok}, public.Leaving.{loses_no_part}}
+use Rattle.plant_store.proofs.{SaidAgain.{again_left, again_made, both_ok}, Standings.{so_written}, public.Leaving.{loses_no_part}}
 use Rattle.plant_store_statements.proofs.public.Contents.{keeps_after, keeps_same}
 use Rattle.plant_store.proofs.tables.TablesBooks.apply.Goals as goal
 
@@ -49,3 +49,7 @@ returns-clause-kept g c =
     both_ok c.conclude.result
     (again_made c.apply-outcome.result c.conclude.result c.conclude.ensures.outcome c.apply-outcome.ensures.open (λ up clean. (clean, up clean)))
     c.conclude.ensures.same (λ kept same. rw same kept)
+
+pub conclude-requires-clause-so : goal.conclude-requires-clause-so
+conclude-requires-clause-so g c =
+    so_written g.S.Store c.self.inside.conn c.apply-outcome.new.conn c.self.inside.standing c.apply-outcome.result c.self.invariant.1 c.apply-outcome.ensures.honest c.apply-outcome.ensures.open

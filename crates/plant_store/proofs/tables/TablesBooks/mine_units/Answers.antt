@@ -1,6 +1,5 @@
 use Rattle.std.proofs.Common.{refl}
-use Rattle.plant_store_statements.proofs.public.ReadsOnly.{reads_then}
-use Rattle.plant_store.proofs.{SaidAgain.{again_ok}, public.Leaving.{leaves_unchanged}}
+use Rattle.plant_store.proofs.{SaidAgain.{again_ok}, Standings.{so_read}, public.Leaving.{leaves_unchanged}}
 use Rattle.plant_store.proofs.tables.TablesBooks.mine_units.Goals as goal
 
 pub returns-clause-found : goal.returns-clause-found
@@ -11,5 +10,12 @@ returns-clause-found g c = λ m. rw (← c.self.view_is) (λ h honest.
 
 pub returns-clause-unchanged : goal.returns-clause-unchanged
 returns-clause-unchanged g c =
-    rw (← c.self.view_is) (leaves_unchanged g.S.Store _ _ c.conclude.result refl
-    (reads_then c.mine_units-outcome.ensures.reads c.conclude.ensures.reads) c.conclude.ensures.count)
+    let it = c.mine_units-outcome in
+    let said = c.conclude.ensures in
+    rw (← c.self.view_is) (leaves_unchanged g.S.Store _ _ it.new.conn it.result c.conclude.result refl it.ensures.reads said.reads it.ensures.open
+    said.outcome said.same said.count)
+
+pub conclude-requires-clause-so : goal.conclude-requires-clause-so
+conclude-requires-clause-so g c =
+    let it = c.mine_units-outcome in
+    so_read g.S.Store c.self.inside.conn it.new.conn c.self.inside.standing it.result c.self.invariant.1 it.ensures.reads it.ensures.open
